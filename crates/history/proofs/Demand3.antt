@@ -1,0 +1,303 @@
+-- Demand 3: along any list of calls the verdict row holds what judging the model's sheets from nothing would give, and every answer is the model's.
+-- Each call keeps one invariant. A verdict that is written is the new sheets' by what the promise says; one that is not written is so still by locality.
+-- Assumes nothing.
+use mathlib.Core.Path.{_≡_, refl, sym, ap, _∙_, subst}
+use mathlib.Core.Logic.{_⊎_, inl, inr}
+use mathlib.Core.Bool.{not, _||_}
+use mathlib.Core.List.{List, [], _∷_, _++_}
+use mathlib.Core.Option.{Option, none, some}
+use Prim.Native.Nat.{ℕ, _+_, _-_, _≤_, _<_}
+use native.Mathlib.Omega.{arith}
+use lib.Dec.{T, T-not, not-T, leb, ltb, eqb→eq, ltb→lt, lt→ltb, nltb→le}
+use lib.ListN.{length, take, drop, length-append, length-set, take-append-drop}
+use lib.Seq.{length-take-le}
+use Rattle.spec.specs.Lists.{elem}
+use Rattle.spec.specs.Record.{references}
+use Rattle.spec.specs.Sheet.{Group, classCount, total, group, groupReferences}
+use Rattle.spec.specs.Rules.{Verdict, dependencies}
+use Rattle.spec.specs.Relations.{Depends}
+use Rattle.spec.specs.Breaks.{Not}
+use Rattle.spec.specs.Refusals.{Refusal, sheetLimit, scratchLength, addedSheet, replacedSheet, sheetRefusal, newRefusal, presentRefusal, noUserRefusal, shortRefusal, judgeRefusal, addRefusal, replaceRefusal}
+use Rattle.spec.specs.Verdicts.{VerdictRow, flat, verdictAt, userVerdict, dependsOn}
+use Rattle.spec.specs.Promises.{Answer, accepted, Counts, countsOf, judgedRow, Judges, State}
+use Rattle.theory.proofs.Bools.{decide, and-l, not-or-l, eq→eqb}
+use Rattle.theory.proofs.All.{All, all-append, all-gather, all-set}
+use Rattle.theory.proofs.Cut.{IsGroup, sheet-grouped, sheet-groups}
+use Rattle.theory.proofs.Answers.{first-none, none-first, plain-none}
+use Rattle.theory.proofs.Local.{verdict-same, locality}
+use Rattle.theory.proofs.New.{new-sheets}
+use Rattle.theory.proofs.Form.{depends-on}
+use Rattle.theory.proofs.Accept.{Fits, Clear, Sound, sound}
+use Rattle.history.specs.Model.{Call, add, replace, Model, sheet, used, buffer, opened, modelRefusal, newGroups, newSheet, modelValue, modelAnswer, changed}
+use Rattle.history.specs.Demand3.{RowLaws, Dependent, Value, MayChange, Done, Runs, Agrees, Answers, Follows, Demand3}
+use Rattle.history.proofs.Flat.{flat-laws}
+use Rattle.history.proofs.Counting.{counted-by}
+use Rattle.history.proofs.Unrefused.{Present, present-facts, facts-present, short-none, none-short, Passes, edit-passes}
+use Rattle.history.proofs.Model.{class-count, total-count, added-group, set-group, front-is}
+use Rattle.history.proofs.Steps.{is-accepted, anew, as-before, library-stays, writes, made, made-is, why, next, Modelled, Holds, modelled, user-after, used-after, state-stays, model-stays, model-changes, row-changes}
+
+-- a user sheet that judging accepts beside the library, with a verdict for each class
+record Acceptable (library user : List ℕ) (lines : ℕ) : Type 0 where
+  size : length user ≤ sheetLimit
+  sheets : sheetRefusal library user ≡ none
+  room : classCount user ≤ lines
+
+acceptable-of : (library g new : List ℕ) (lines : ℕ) → Passes library g new lines → sheetRefusal library new ≡ newRefusal library new → Acceptable library new lines
+acceptable-of library g new lines p e = record { size = p .size; sheets = e ∙ p .sheets; room = p .room }
+
+-- what is known of an accepted call itself: its group is whole, and the class that it replaces is a user class
+abbrev Suits : Model → Call → Type 0
+Suits m (add g) = IsGroup g
+Suits m (replace c g) = IsGroup g × (classCount (m .library) ≤ c)
+
+new-whole : (m : Model) (call : Call) → All IsGroup (m .groups) → Suits m call → All IsGroup (newGroups m call)
+unfolding newGroups
+new-whole m (add g) w u = all-append IsGroup (m .groups) (g ∷ []) w (u, tt)
+new-whole m (replace c g) w u = all-set IsGroup (m .groups) (c - classCount (m .library)) g w (u .0)
+
+-- no class names one that is not there
+references-below : (library user : List ℕ) → Sound library user → (d : ℕ) → All (λ e. e < total library user) (groupReferences (group library user d))
+unfolding groupReferences
+references-below library user s d =
+    all-gather (Fits (classCount library) (total library user) (group library user) d) (λ e. e < total library user) references (λ r f. f .there) (group library user d) (s .fits d)
+
+-- ---- a call that is not refused
+
+record Ready (m : Model) (call : Call) : Type 0 where
+  suits : Suits m call
+  acceptable : Acceptable (m .library) (newSheet m call) (m .lines)
+
+module _ (m : Model) (w : All IsGroup (m .groups)) where
+  -- the sheet that a call makes of the bytes in use is the model's new one
+  ready-of : (call : Call) → Suits m call → Acceptable (m .library) (made (m .library) (take (used m) (buffer m)) call) (m .lines) → Ready m call
+  ready-of call u a = record {
+    suits = u;
+    acceptable = subst (λ (new : List ℕ). Acceptable (m .library) new (m .lines)) (ap (λ (old : List ℕ). made (m .library) old call) (front-is m) ∙ made-is m w call) a;
+  }
+
+  ready : (call : Call) (scratch : ℕ) → modelRefusal m call scratch ≡ none → Ready m call
+  unfolding modelRefusal addRefusal replaceRefusal noUserRefusal IsGroup
+  ready (add g) scratch e =
+      let q = first-none _ e in
+      let new : List ℕ = addedSheet (take (used m) (buffer m)) g in
+      let p = edit-passes (m .library) (buffer m) g new (m .lines) scratch (q .1) in
+      ready-of (add g) (p .whole) (acceptable-of (m .library) g new (m .lines) p (new-sheets (m .library) (buffer m) (used m) (q .0) g (p .whole) .0))
+  ready (replace c g) scratch e =
+      let q = first-none _ e in
+      let new : List ℕ = replacedSheet (m .library) (take (used m) (buffer m)) c g in
+      let p = edit-passes (m .library) (buffer m) g new (m .lines) scratch (q .1 .1) in
+      let all : ℕ = total (m .library) (take (used m) (buffer m)) in
+      let there = not-or-l (ltb c (classCount (m .library))) (leb all c) (plain-none (ltb c (classCount (m .library)) || leb all c) 13 (q .1 .0)) in
+      ready-of (replace c g) (p .whole, nltb→le c (classCount (m .library)) there)
+      (acceptable-of (m .library) g new (m .lines) p (new-sheets (m .library) (buffer m) (used m) (q .0) g (p .whole) .1 c))
+
+-- ---- the verdicts that may change are those that are written
+
+module _ (m : Model) where
+  written-may : (call : Call) → Sound (m .library) (newSheet m call) → (i : ℕ) → T (writes m call i) → MayChange m call i
+  unfolding writes dependsOn
+  written-may (add g) s i t = eqb→eq i (length (m .groups)) t
+  written-may (replace c g) s i t =
+      let new : List ℕ = newSheet m (replace c g) in
+      let d : ℕ = classCount (m .library) + i in
+      depends-on (m .library) new s c d
+      (ltb→lt d (total (m .library) new) (and-l (ltb d (total (m .library) new)) (elem c (dependencies (group (m .library) new) d)) t)) .0 t
+
+  may-written : (call : Call) → Sound (m .library) (newSheet m call) → (i : ℕ) → i < classCount (newSheet m call) → MayChange m call i → T (writes m call i)
+  unfolding writes total
+  may-written (add g) s i h c = eq→eqb c
+  may-written (replace c g) s i h p = depends-on (m .library) (newSheet m (replace c g)) s c (classCount (m .library) + i) (omega arith) .1 p
+
+  value-is : (call : Call) → Sound (m .library) (newSheet m call) → Value m call (modelValue m call)
+  unfolding modelValue
+  value-is (add g) s = refl
+  value-is (replace c g) s =
+      counted-by (dependsOn (m .library) (newSheet m (replace c g)) c) (Dependent m (replace c g) c) (total (m .library) (newSheet m (replace c g)))
+      (λ d h. depends-on (m .library) (newSheet m (replace c g)) s c d h)
+
+-- ---- any other verdict is one of the present sheets, and the new ones give it too
+
+module _ (m : Model) (w : All IsGroup (m .groups)) (s : Sound (m .library) (sheet m)) where
+  stays : (call : Call) → Suits m call → (i : ℕ) → i < classCount (newSheet m call) → Not (MayChange m call i)
+      → (i < classCount (sheet m)) × (userVerdict (m .library) (sheet m) i ≡ userVerdict (m .library) (newSheet m call) i)
+  unfolding newSheet newGroups sheet userVerdict verdictAt
+  -- no present class can reach the new one
+  stays (add g) u i h n =
+      let old : i < length (m .groups) = omega (arith, class-count (newGroups m (add g)) (new-whole m (add g) w u), length-append (m .groups) (g ∷ [])) in (
+        omega (arith, class-count (m .groups) w),
+        verdict-same (classCount (m .library)) (group (m .library) (sheet m)) (group (m .library) (newSheet m (add g))) (λ d. d < total (m .library) (sheet m))
+            (λ d k. references-below (m .library) (sheet m) s d) (λ d k. added-group (m .library) (m .groups) g w u d k)
+            (classCount (m .library) + i) (omega (arith, total-count (m .library) (m .groups) w)),
+      )
+  -- the class does not depend on the replaced one, and all others have their groups still
+  stays (replace c g) u i h n =
+      let new : ℕ → Group = group (m .library) (newSheet m (replace c g)) in
+      let k : ℕ = c - classCount (m .library) in (
+        omega (arith, class-count (m .groups) w, class-count (newGroups m (replace c g)) (new-whole m (replace c g) w u), length-set (m .groups) k g),
+        sym (locality (classCount (m .library)) new (group (m .library) (sheet m)) (classCount (m .library) + i)
+            (λ d p. set-group (m .library) (m .groups) g w (u .0) k d
+            (λ e. n (subst (Depends new (classCount (m .library) + i)) (let q : d ≡ c = omega (arith, u .1) in q) p)))),
+      )
+
+-- ---- the invariant
+
+module _ (row : VerdictRow) (laws : RowLaws row) where
+  record Good (m : Model) (s : State row) : Type 0 where
+    holds : Holds row m s
+    library-size : length (m .library) ≤ sheetLimit
+    acceptable : Acceptable (m .library) (sheet m) (m .lines)
+    verdicts-are : (i : ℕ) → i < classCount (sheet m) → row .at (s .verdicts) i ≡ userVerdict (m .library) (sheet m) i
+
+  agrees : (m : Model) (s : State row) → Good m s → Agrees row m s
+  unfolding judgeRefusal
+  agrees m s h = record {
+    user-is = h .holds .user-is;
+    used-is = h .holds .used-is;
+    lines-are = h .holds .lines-are;
+    accepted = none-first (presentRefusal (m .library) (buffer m) (used m) ∷ shortRefusal (classCount (take (used m) (buffer m))) (m .lines) scratchLength ∷ []) (
+      facts-present (m .library) (buffer m) (used m) (record {
+        library-size = h .library-size;
+        user-size = unfold used in h .acceptable .size;
+        in-buffer = unfold used buffer in omega (arith, length-append (sheet m) (m .past));
+        sheets = ap (sheetRefusal (m .library)) (front-is m) ∙ h .acceptable .sheets;
+      }),
+      (
+        none-short (classCount (take (used m) (buffer m))) (m .lines) (subst (λ (u : List ℕ). classCount u ≤ m .lines) (sym (front-is m)) (h .acceptable .room)),
+        tt,
+      ),
+    );
+    verdicts-are = h .verdicts-are;
+  }
+
+  -- ---- one call
+
+  module _ (m : Model) (s : State row) (h : Good m s) (d : Done row) (p : Modelled row m s d) where
+    -- where it is not refused
+    module _ (e : why row m d ≡ none) where
+      known : Ready m (d .call)
+      known = ready m (h .holds .whole) (d .call) (length (d .scratch)) e
+
+      new-sound : Sound (m .library) (newSheet m (d .call))
+      new-sound = sound (m .library) (newSheet m (d .call)) (known .acceptable .sheets)
+
+      abbrev given : ℕ → Verdict
+      given = userVerdict (m .library) (newSheet m (d .call))
+
+      new-verdicts : (i : ℕ) → i < classCount (newSheet m (d .call)) → row .at (d .after .verdicts) i ≡ given i
+      new-verdicts i k = ap (λ (v : row .Row). row .at v i) (row-changes row m s d p e) ∙ go (decide (writes m (d .call) i))
+        where
+          go : T (writes m (d .call) i) ⊎ T (not (writes m (d .call) i)) → row .at (row .rewritten (writes m (d .call)) given (s .verdicts)) i ≡ given i
+          go (inl t) = laws .at-changed (writes m (d .call)) given (s .verdicts) i (omega (arith, h .holds .lines-are, known .acceptable .room)) t
+          go (inr t) =
+              let old = stays m (h .holds .whole) (sound (m .library) (sheet m) (h .acceptable .sheets)) (d .call) (known .suits) i k
+              (λ c. T-not (writes m (d .call) i) t (may-written m (d .call) new-sound i k c)) in
+              laws .at-kept (writes m (d .call)) given (s .verdicts) i t ∙ h .verdicts-are i (old .0) ∙ old .1
+
+      good-changed : Good (changed m (d .call)) (d .after)
+      unfolding changed sheet newSheet
+      good-changed = record {
+        holds = record {
+          whole = new-whole m (d .call) (h .holds .whole) (known .suits);
+          user-is = user-after row m s (h .holds) d p ∙ ap buffer (model-changes row m s d p e);
+          used-is = used-after row m s (h .holds) d p ∙ ap used (model-changes row m s d p e);
+          lines-are = ap (row .lines) (row-changes row m s d p e) ∙ laws .lines-same (writes m (d .call)) given (s .verdicts) ∙ h .holds .lines-are;
+        };
+        library-size = h .library-size;
+        acceptable = known .acceptable;
+        verdicts-are = new-verdicts;
+      }
+
+      kept-changed : (i : ℕ) → Not (MayChange m (d .call) i) → row .at (d .after .verdicts) i ≡ row .at (s .verdicts) i
+      kept-changed i n =
+          ap (λ (v : row .Row). row .at v i) (row-changes row m s d p e)
+          ∙ laws .at-kept (writes m (d .call)) given (s .verdicts) i (not-T (writes m (d .call) i) (λ t. n (written-may m (d .call) new-sound i t)))
+
+    good-after : Good (next row m d) (d .after)
+    good-after = go (why row m d) refl
+      where
+        go : (o : Option Refusal) → why row m d ≡ o → Good (next row m d) (d .after)
+        go none e = subst (λ (n : Model). Good n (d .after)) (sym (model-changes row m s d p e)) (good-changed e)
+        go (some r) e = subst (λ (n : Model). Good n (d .after)) (sym (model-stays row m s d p r e)) (subst (Good m) (sym (state-stays row m s d p r e)) h)
+
+    kept-after : (i : ℕ) → Not (MayChange m (d .call) i) → row .at (d .after .verdicts) i ≡ row .at (s .verdicts) i
+    kept-after i n = go (why row m d) refl
+      where
+        go : (o : Option Refusal) → why row m d ≡ o → row .at (d .after .verdicts) i ≡ row .at (s .verdicts) i
+        go none e = kept-changed e i n
+        go (some r) e = ap (λ (t : State row). row .at (t .verdicts) i) (state-stays row m s d p r e)
+
+    answers : Answers row m s d
+    unfolding modelAnswer
+    answers = record {
+      answer-is = p .answered;
+      refused = λ r e. (state-stays row m s d p r e, p .scratch-is ∙ as-before (why row m d) (d .scratch) _ r e);
+      scratch-is = p .scratch-is;
+      value = λ n e.
+          let a = is-accepted (why row m d) (modelValue m (d .call)) n (sym (p .answered) ∙ e) in
+          subst (Value m (d .call)) (a .1) (value-is m (d .call) (new-sound (a .0)));
+      kept = kept-after;
+    }
+
+  -- ---- every list of calls
+
+  run : (ds : List (Done row)) (library : List ℕ) (m : Model) (s : State row) → m .library ≡ library → Good m s → Runs row library s ds → Follows row m s ds
+  run [] library m s e h r = agrees m s h
+  run (d ∷ ds) library m s e h r =
+      let p = modelled row m s (h .holds) library e d (r .0) in
+      (agrees m s h, answers m s h d p, run ds library (next row m d) (d .after) (library-stays m (d .call) (length (d .scratch)) ∙ e) (good-after m s h d p) (r .1))
+
+  -- ---- the opening: an accepted judging
+
+  module _ (library user : List ℕ) (n : ℕ) (verdicts : row .Row) (scratch : List ℕ) (answer : Answer Counts) (verdictsAfter : row .Row) (scratchAfter : List ℕ)
+      (p : Judges row library user n verdicts scratch answer verdictsAfter scratchAfter) (counts : Counts) (e : answer ≡ accepted counts) where
+    abbrev bytes : List ℕ
+    bytes = take n user
+
+    unrefused : judgeRefusal library user n (row .lines verdicts) (length scratch) ≡ none
+    unrefused = is-accepted (judgeRefusal library user n (row .lines verdicts) (length scratch)) (countsOf library bytes) counts (sym (p .answered) ∙ e) .0
+
+    facts : Present library user n × (classCount bytes ≤ row .lines verdicts)
+    unfolding judgeRefusal
+    facts =
+        let q = first-none _ unrefused in
+        (present-facts library user n (q .0), short-none (classCount bytes) (row .lines verdicts) (length scratch) (q .1 .0))
+
+    judged : verdictsAfter ≡ row .rewritten (λ i. ltb i (classCount bytes)) (userVerdict library bytes) verdicts
+    unfolding judgedRow
+    judged = p .verdicts-are ∙ anew (judgeRefusal library user n (row .lines verdicts) (length scratch)) verdicts _ unrefused
+
+    cut : Clear 1 (classCount library) bytes
+    cut = sound library bytes (facts .0 .sheets) .userSheet
+
+    sheet-opened : sheet (opened library user n (row .lines verdicts)) ≡ bytes
+    unfolding opened sheet
+    sheet-opened = sheet-grouped bytes (cut .end) (cut .loose)
+
+    good-opened : Good (opened library user n (row .lines verdicts)) (record { user = user; used = n; verdicts = verdictsAfter })
+    unfolding opened buffer used
+    good-opened = record {
+      holds = record {
+        whole = sheet-groups bytes (cut .end) (cut .loose);
+        user-is = sym (ap (λ (l : List ℕ). l ++ drop n user) sheet-opened ∙ take-append-drop n user);
+        used-is = sym (ap length sheet-opened ∙ length-take-le n user (facts .0 .in-buffer));
+        lines-are = ap (row .lines) judged ∙ laws .lines-same (λ i. ltb i (classCount bytes)) (userVerdict library bytes) verdicts;
+      };
+      library-size = facts .0 .library-size;
+      acceptable = subst (λ (l : List ℕ). Acceptable library l (row .lines verdicts)) (sym sheet-opened)
+          (record { size = omega (arith, length-take-le n user (facts .0 .in-buffer), facts .0 .user-size); sheets = facts .0 .sheets; room = facts .1 });
+      verdicts-are = λ i h.
+          let k : i < classCount bytes = subst (λ (l : List ℕ). i < classCount l) sheet-opened h in
+          ap (λ (v : row .Row). row .at v i) judged
+          ∙ laws .at-changed (λ j. ltb j (classCount bytes)) (userVerdict library bytes) verdicts i (omega (arith, facts .1)) (lt→ltb i (classCount bytes) k)
+          ∙ ap (λ (l : List ℕ). userVerdict library l i) (sym sheet-opened);
+    }
+
+-- ---- every list of calls that starts from an accepted judging
+
+pub demand3 : (row : VerdictRow) → RowLaws row → Demand3 row
+demand3 row laws library user n verdicts scratch answer verdictsAfter scratchAfter p counts e calls r =
+    run row laws calls library (opened library user n (row .lines verdicts)) (record { user = user; used = n; verdicts = verdictsAfter })
+    (unfold opened in refl) (good-opened row laws library user n verdicts scratch answer verdictsAfter scratchAfter p counts e) r
+
+pub flat-demand3 : Demand3 flat
+flat-demand3 = demand3 flat flat-laws

@@ -1,0 +1,6 @@
+pub mod Flat
+pub mod Counting
+pub mod Unrefused
+pub mod Model
+pub mod Steps
+pub mod Demand3

@@ -1,0 +1,2 @@
+pub mod Model
+pub mod Demand3

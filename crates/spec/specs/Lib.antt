@@ -1,0 +1,14 @@
+pub mod Lists
+pub mod Record
+pub mod Sheet
+pub mod Markers
+pub mod Classes
+pub mod Rules
+pub mod Relations
+pub mod Breaks
+pub mod Refusals
+pub mod Verdicts
+pub mod Promises
+pub mod Evaluate
+pub mod Examples
+pub mod Ideas

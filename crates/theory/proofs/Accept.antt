@@ -1,0 +1,204 @@
+-- What holds of two sheets that are not refused.
+-- Assumes nothing.
+use mathlib.Core.Path.{_≡_, refl, sym, ap, _∙_, subst}
+use mathlib.Core.Bool.{Bool, true, false, not, _&&_}
+use mathlib.Core.List.{List, [], _∷_, _++_}
+use mathlib.Core.Option.{none, some}
+use Prim.Native.Nat.{ℕ, zero, suc, _+_, _-_, _≤_, _<_, zero-le}
+use native.Mathlib.Nat.{zero-add, add-zero, suc-add, add-suc}
+use native.Mathlib.Omega.{arith}
+use lib.Dec.{T, eqb, leb, ltb, eqb→eq, nleb→lt}
+use lib.ListN.{length, getD}
+use Rattle.spec.specs.Lists.{any}
+use Rattle.spec.specs.Record.{kind, isKind, isClass, bit, flags, index, target, references, kindFits, lengthFits, bodyFits, IMPLEMENTS, LOCAL, USES, MEMBER, REFERS}
+use Rattle.spec.specs.Sheet.{Group, Located, locate, locatedIn, located, Split, splitGroups, recordsOf, wholeEnd, groupsOf, classCount, total, group, ofKind, isInterface, isInstanceField}
+use Rattle.spec.specs.Refusals.{refuseRecord, recordTests, recordRefusal, tornRefusal, noClassRefusal, noSuchClass, noSuchIndex, superclassFits, encloserFits, implementsFits, usesFits, nameMet, formTests, formRefusal, sheetRefusal}
+use Rattle.theory.proofs.Bools.{not-or-l, not-or-r, un-not, imply, not-and-r}
+use Rattle.theory.proofs.All.{All, all-left, all-right, weaken}
+use Rattle.theory.proofs.Cut.{split-class, split-other}
+use Rattle.theory.proofs.Answers.{first-none, of-map, if-none, Fails, record-none}
+
+-- ---- located records
+
+-- what a located record is, by cases
+unfoldable pub locateIf : ℕ → ℕ → ℕ → ℕ → ℕ → List ℕ → List (List ℕ) → Bool → List Located
+locateIf s at n k p r rs b = elim b [
+  | true ↦ record { sheet = s; byte = at; class = n; recordNumber = 0; before = 0; grouped = true; bytes = r } ∷ locate s (at + length r) (suc n) 1 (kind r) rs
+  | false ↦ record { sheet = s; byte = at; class = n - 1; recordNumber = k; before = p; grouped = ltb 0 k; bytes = r } ∷ locate s (at + length r) n (suc k) (kind r) rs
+]
+
+-- a located record passes the first pass
+pub record Passed (l : Located) : Type 0 where
+  pub kindFits : T (kindFits (l .sheet) (l .bytes))
+  pub lengthFits : T (lengthFits (l .bytes))
+  pub grouped : T (l .grouped)
+  pub bodyFits : T (bodyFits (l .sheet) (l .bytes))
+  pub class : l .class < 256
+  pub recordNumber : l .recordNumber < 255
+
+passed : (l : Located) → All Fails (recordTests l) → Passed l
+unfolding recordTests
+passed l f = record {
+  kindFits = un-not (kindFits (l .sheet) (l .bytes)) (f .0);
+  lengthFits = un-not (lengthFits (l .bytes)) (f .1 .0);
+  grouped = un-not (l .grouped) (f .1 .1 .0);
+  bodyFits = un-not (bodyFits (l .sheet) (l .bytes)) (f .1 .1 .1 .0);
+  class = nleb→lt 256 (l .class) (not-or-l (leb 256 (l .class)) (leb 255 (l .recordNumber)) (f .1 .1 .1 .1 .0));
+  recordNumber = nleb→lt 255 (l .recordNumber) (not-or-r (leb 256 (l .class)) (leb 255 (l .recordNumber)) (f .1 .1 .1 .1 .0));
+}
+
+-- no record stands before the first CLASS record
+no-loose : (s at n p : ℕ) (rs : List (List ℕ)) → All Passed (locate s at n 0 p rs) → splitGroups rs .loose ≡ []
+unfolding locate locateIf
+no-loose s at n p [] h = unfold splitGroups in refl
+no-loose s at n p (r ∷ rs) h = go (isClass r) refl h
+  where
+    go : (b : Bool) → isClass r ≡ b → All Passed (locateIf s at n 0 p r rs b) → splitGroups (r ∷ rs) .loose ≡ []
+    go true e h = ap (λ (t : Split). t .loose) (split-class r rs e)
+    go false e h = absurd (h .0 .grouped)
+
+-- the classes are counted
+count-low : (s at n k p : ℕ) (rs : List (List ℕ)) → n ≤ 256 → All Passed (locate s at n k p rs) → n + length (splitGroups rs .groups) ≤ 256
+unfolding locate locateIf
+count-low s at n k p [] b h = unfold splitGroups in omega (arith, add-zero n)
+count-low s at n k p (r ∷ rs) b h = go (isClass r) refl h (count-low s (at + length r) (suc n) 1 (kind r) rs) (count-low s (at + length r) n (suc k) (kind r) rs)
+  where
+    go : (b : Bool) → isClass r ≡ b → All Passed (locateIf s at n k p r rs b)
+        → (suc n ≤ 256 → All Passed (locate s (at + length r) (suc n) 1 (kind r) rs) → suc n + length (splitGroups rs .groups) ≤ 256)
+        → (n ≤ 256 → All Passed (locate s (at + length r) n (suc k) (kind r) rs) → n + length (splitGroups rs .groups) ≤ 256)
+        → n + length (splitGroups (r ∷ rs) .groups) ≤ 256
+    go true e h f f′ = omega (arith, ap (λ (t : Split). length (t .groups)) (split-class r rs e), f (h .0 .class) (h .1))
+    go false e h f f′ = omega (arith, ap (λ (t : Split). length (t .groups)) (split-other r rs e), f′ b (h .1))
+
+-- ---- from located records to classes
+
+module _ (P : ℕ → List ℕ → Type 0) where
+  -- P holds of each record with its class's number, counted from n
+  abbrev pub Each : ℕ → List Group → Type 0
+  Each n [] = Unit {0}
+  Each n (h ∷ hs) = All (P n) h × Each (suc n) hs
+
+  record Grouped (n : ℕ) (t : Split) : Type 0 where
+    loose : All (P (n - 1)) (t .loose)
+    groups : Each n (t .groups)
+
+  grouped : (s at n k p : ℕ) (rs : List (List ℕ)) → All (λ l. P (l .class) (l .bytes)) (locate s at n k p rs) → Grouped n (splitGroups rs)
+  unfolding locate locateIf
+  grouped s at n k p [] h = unfold splitGroups in record { loose = tt; groups = tt }
+  grouped s at n k p (r ∷ rs) h = go (isClass r) refl h (grouped s (at + length r) (suc n) 1 (kind r) rs) (grouped s (at + length r) n (suc k) (kind r) rs)
+    where
+      go : (b : Bool) → isClass r ≡ b → All (λ l. P (l .class) (l .bytes)) (locateIf s at n k p r rs b)
+          → (All (λ l. P (l .class) (l .bytes)) (locate s (at + length r) (suc n) 1 (kind r) rs) → Grouped (suc n) (splitGroups rs))
+          → (All (λ l. P (l .class) (l .bytes)) (locate s (at + length r) n (suc k) (kind r) rs) → Grouped n (splitGroups rs)) → Grouped n (splitGroups (r ∷ rs))
+      go true e h f f′ =
+          let c = f (h .1) in
+          subst (Grouped n) (sym (split-class r rs e))
+          (record { loose = tt; groups = ((h .0, subst (λ (m : ℕ). All (P m) (splitGroups rs .loose)) (let q : suc n - 1 ≡ n = omega arith in q) (c .loose)), c .groups) })
+      go false e h f f′ =
+          let c = f′ (h .1) in
+          subst (Grouped n) (sym (split-other r rs e)) (record { loose = (h .0, c .loose); groups = c .groups })
+
+  each-append : (n : ℕ) (xs ys : List Group) → Each n xs → Each (n + length xs) ys → Each n (xs ++ ys)
+  each-append n [] ys h k = subst (λ (m : ℕ). Each m ys) (add-zero n) k
+  each-append n (x ∷ xs) ys h k = (h .0, each-append (suc n) xs ys (h .1) (subst (λ (m : ℕ). Each m ys) (add-suc n (length xs) ∙ sym (suc-add n (length xs))) k))
+
+  each-get : (n : ℕ) (xs : List Group) → Each n xs → (i : ℕ) → All (P (n + i)) (getD xs i [])
+  each-get n [] h i = tt
+  each-get n (x ∷ xs) h zero = subst (λ (m : ℕ). All (P m) x) (sym (add-zero n)) (h .0)
+  each-get n (x ∷ xs) h (suc i) = subst (λ (m : ℕ). All (P m) (getD xs i [])) (suc-add n i ∙ sym (add-suc n i)) (each-get (suc n) xs (h .1) i)
+
+  -- what holds of the located records holds of each class's records with its number
+  pub by-class : (lib user : List ℕ) → All (λ l. P (l .class) (l .bytes)) (located lib user) → (c : ℕ) → All (P c) (group lib user c)
+  unfolding located locatedIn group classCount groupsOf
+  by-class lib user h c =
+      let a = grouped 0 0 0 0 0 (recordsOf lib) (all-left (λ l. P (l .class) (l .bytes)) (locatedIn 0 0 lib) (locatedIn 1 (classCount lib) user) h) in
+      let b = grouped 1 0 (classCount lib) 0 0 (recordsOf user) (all-right (λ l. P (l .class) (l .bytes)) (locatedIn 0 0 lib) (locatedIn 1 (classCount lib) user) h) in
+      subst (λ (m : ℕ). All (P m) (getD (groupsOf lib ++ groupsOf user) c [])) (zero-add c)
+      (each-get 0 (groupsOf lib ++ groupsOf user)
+      (each-append 0 (groupsOf lib) (groupsOf user) (a .groups) (subst (λ (m : ℕ). Each m (groupsOf user)) (sym (zero-add (length (groupsOf lib)))) (b .groups))) c)
+
+-- ---- the second pass
+
+-- record r of class c fits the form
+pub record Fits (nlib n : ℕ) (g : ℕ → Group) (c : ℕ) (r : List ℕ) : Type 0 where
+  pub there : All (λ d. d < n) (references r)
+  pub local : T (isKind USES r) → index r < length (ofKind LOCAL (g (target r)))
+  pub member : T (isKind REFERS r) → index r < length (ofKind MEMBER (g (target r)))
+  pub zeroFits : T (isClass r) → T (eqb c 0) → T (not (bit 0 (flags r)))
+  pub superclassFits : T (isClass r) → T (superclassFits g c r)
+  pub encloserFits : T (isClass r) → T (encloserFits nlib c r)
+  pub implementsFits : T (isKind IMPLEMENTS r) → T (implementsFits g c r)
+  pub fieldFits : T (isInstanceField r) → T (not (isInterface (g c)))
+  pub usesFits : T (isKind USES r) → T (usesFits g c r)
+  pub nameFits : T (isClass r) → T (not (nameMet g c r))
+
+not-any : (p : ℕ → Bool) (xs : List ℕ) → T (not (any p xs)) → All (λ x. T (not (p x))) xs
+unfolding any
+not-any p [] t = tt
+not-any p (x ∷ xs) t = (not-or-l (p x) (any p xs) t, not-any p xs (not-or-r (p x) (any p xs) t))
+
+fits : (nlib n : ℕ) (g : ℕ → Group) (l : Located) → All Fails (formTests g nlib n l) → Fits nlib n g (l .class) (l .bytes)
+unfolding formTests noSuchClass noSuchIndex
+fits nlib n g l f =
+    let r = l .bytes in
+    let c = l .class in
+    record {
+      there = weaken (λ d. T (not (leb n d))) (λ d. d < n) (λ d t. nleb→lt n d t) (references r) (not-any (leb n) (references r) (f .0));
+      local = λ t. nleb→lt (length (ofKind LOCAL (g (target r)))) (index r) (not-and-r (isKind USES r) (leb (length (ofKind LOCAL (g (target r)))) (index r)) (f .1 .0) t);
+      member = λ t. nleb→lt (length (ofKind MEMBER (g (target r)))) (index r) (not-and-r (isKind REFERS r) (leb (length (ofKind MEMBER (g (target r)))) (index r)) (f .1 .1 .0) t);
+      zeroFits = λ t u. not-and-r (eqb c 0) (bit 0 (flags r)) (not-and-r (isClass r) (eqb c 0 && bit 0 (flags r)) (f .1 .1 .1 .0) t) u;
+      superclassFits = λ t. imply (isClass r) (superclassFits g c r) (f .1 .1 .1 .1 .0) t;
+      encloserFits = λ t. imply (isClass r) (encloserFits nlib c r) (f .1 .1 .1 .1 .1 .0) t;
+      implementsFits = λ t. imply (isKind IMPLEMENTS r) (implementsFits g c r) (f .1 .1 .1 .1 .1 .1 .0) t;
+      fieldFits = λ t. not-and-r (isInstanceField r) (isInterface (g c)) (f .1 .1 .1 .1 .1 .1 .1 .0) t;
+      usesFits = λ t. imply (isKind USES r) (usesFits g c r) (f .1 .1 .1 .1 .1 .1 .1 .1 .0) t;
+      nameFits = λ t. not-and-r (isClass r) (nameMet g c r) (f .1 .1 .1 .1 .1 .1 .1 .1 .1 .0) t;
+    }
+
+-- ---- two sheets
+
+-- a sheet passes the first pass
+pub record Clear (sheet n : ℕ) (s : List ℕ) : Type 0 where
+  pub end : wholeEnd s ≡ length s
+  pub passed : All Passed (locatedIn sheet n s)
+  pub loose : splitGroups (recordsOf s) .loose ≡ []
+  pub few : n ≤ 256 → n + classCount s ≤ 256
+
+clear : (sheet n : ℕ) (s : List ℕ) → recordRefusal sheet n s ≡ none → tornRefusal sheet s ≡ none → Clear sheet n s
+unfolding recordRefusal tornRefusal locatedIn classCount groupsOf
+clear sheet n s e e′ =
+    let p : All Passed (locatedIn sheet n s) =
+    weaken (λ l. refuseRecord l (recordTests l) ≡ none) Passed (λ l k. passed l (record-none l (recordTests l) k)) (locatedIn sheet n s)
+    (of-map (λ o. o ≡ none) (λ l. refuseRecord l (recordTests l)) (locatedIn sheet n s) (first-none _ e)) in
+    record {
+      end = eqb→eq (wholeEnd s) (length s) (un-not (eqb (wholeEnd s) (length s)) (if-none (not (eqb (wholeEnd s) (length s))) 2 sheet (wholeEnd s) e′));
+      passed = p;
+      loose = no-loose sheet 0 n 0 (recordsOf s) p;
+      few = λ h. count-low sheet 0 n 0 0 (recordsOf s) h p;
+    }
+
+-- what acceptance gives
+pub record Sound (lib user : List ℕ) : Type 0 where
+  pub librarySheet : Clear 0 0 lib
+  pub userSheet : Clear 1 (classCount lib) user
+  pub some : T (not (eqb (classCount lib) 0))
+  pub fits : (c : ℕ) → All (Fits (classCount lib) (total lib user) (group lib user) c) (group lib user c)
+  pub few : total lib user ≤ 256
+
+pub sound : (lib user : List ℕ) → sheetRefusal lib user ≡ none → Sound lib user
+unfolding sheetRefusal total formRefusal noClassRefusal
+sound lib user e =
+    let q = first-none _ e in
+    let a = clear 0 0 lib (q .0) (q .1 .0) in
+    let b = clear 1 (classCount lib) user (q .1 .1 .1 .0) (q .1 .1 .1 .1 .0) in
+    let tests : Located → List (ℕ × Bool) = formTests (group lib user) (classCount lib) (total lib user) in
+    record {
+      librarySheet = a;
+      userSheet = b;
+      some = if-none (eqb (classCount lib) 0) 7 0 (length lib) (q .1 .1 .0);
+      fits = by-class (Fits (classCount lib) (total lib user) (group lib user)) lib user
+          (weaken (λ l. refuseRecord l (tests l) ≡ none) (λ l. Fits (classCount lib) (total lib user) (group lib user) (l .class) (l .bytes))
+          (λ l k. fits (classCount lib) (total lib user) (group lib user) l (record-none l (tests l) k)) (located lib user)
+          (of-map (λ o. o ≡ none) (λ l. refuseRecord l (tests l)) (located lib user) (first-none _ (q .1 .1 .1 .1 .1 .0))));
+      few = b .few (omega (arith, a .few zero-le, zero-add (classCount lib)));
+    }

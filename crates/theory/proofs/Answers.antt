@@ -1,0 +1,94 @@
+-- The first answer along a list: when there is none, and what holds of it where there is one. So of refusals.
+-- Assumes nothing.
+use mathlib.Core.Path.{_≡_, refl}
+use mathlib.Core.Bool.{Bool, true, false, not}
+use mathlib.Core.List.{List, [], _∷_, map}
+use mathlib.Core.Option.{Option, none, some}
+use Prim.Native.Nat.{ℕ}
+use native.Mathlib.Omega.{arith}
+use lib.Dec.{T}
+use Rattle.spec.specs.Lists.{firstOf}
+use Rattle.spec.specs.Sheet.{Located}
+use Rattle.spec.specs.Refusals.{refuseIf, refusePlain, refuseRecord}
+use Rattle.theory.proofs.All.{All}
+
+module _ {A : Type 0} where
+  pub some≢none : (a : A) → Path (Option A) (some a) none → ⊥
+  some≢none a e = let z : _≡_ {A = ℕ} 0 1 = cc in omega arith
+
+  pub first-none : (os : List (Option A)) → firstOf os ≡ none → All (λ o. o ≡ none) os
+  unfolding firstOf
+  first-none [] e = tt
+  first-none (none ∷ os) e = (refl, first-none os e)
+  first-none (some a ∷ os) e = absurd (some≢none a e)
+
+  pub none-first : (os : List (Option A)) → All (λ o. o ≡ none) os → firstOf os ≡ none
+  unfolding firstOf
+  none-first [] h = refl
+  none-first (none ∷ os) h = none-first os (h .1)
+  none-first (some a ∷ os) h = absurd (some≢none a (h .0))
+
+  -- answers that are not there do not count
+  pub skip-none : (o : Option A) (os : List (Option A)) → o ≡ none → firstOf (o ∷ os) ≡ firstOf os
+  unfolding firstOf
+  skip-none none os e = refl
+  skip-none (some a) os e = absurd (some≢none a e)
+
+  pub keep-head : (o : Option A) (os os′ : List (Option A)) → firstOf os ≡ firstOf os′ → firstOf (o ∷ os) ≡ firstOf (o ∷ os′)
+  unfolding firstOf
+  keep-head none os os′ e = e
+  keep-head (some a) os os′ e = refl
+
+  module _ (P : A → Type 0) where
+    -- P holds of the answer, if there is one
+    abbrev pub Gives : Option A → Type 0
+    Gives none = Unit {0}
+    Gives (some a) = P a
+
+    pub gives-first : (os : List (Option A)) → All Gives os → Gives (firstOf os)
+    unfolding firstOf
+    gives-first [] h = tt
+    gives-first (none ∷ os) h = gives-first os (h .1)
+    gives-first (some a ∷ os) h = h .0
+
+pub gives-map : {A B : Type 0} (P : B → Type 0) (f : A → Option B) (xs : List A) → All (λ x. Gives P (f x)) xs → All (Gives P) (map f xs)
+gives-map P f [] h = tt
+gives-map P f (x ∷ xs) h = (h .0, gives-map P f xs (h .1))
+
+pub of-map : {A B : Type 0} (P : B → Type 0) (f : A → B) (xs : List A) → All P (map f xs) → All (λ x. P (f x)) xs
+of-map P f [] h = tt
+of-map P f (x ∷ xs) h = (h .0, of-map P f xs (h .1))
+
+-- ---- refusals
+
+pub if-none : (b : Bool) (n s at : ℕ) → refuseIf b n s at ≡ none → T (not b)
+unfolding refuseIf
+if-none true n s at e = absurd (some≢none _ e)
+if-none false n s at e = tt
+
+pub none-if : (b : Bool) (n s at : ℕ) → T (not b) → refuseIf b n s at ≡ none
+unfolding refuseIf
+none-if true n s at t = absurd t
+none-if false n s at t = refl
+
+pub plain-none : (b : Bool) (n : ℕ) → refusePlain b n ≡ none → T (not b)
+unfolding refusePlain
+plain-none b n e = if-none b n 0 0 e
+
+pub none-plain : (b : Bool) (n : ℕ) → T (not b) → refusePlain b n ≡ none
+unfolding refusePlain
+none-plain b n t = none-if b n 0 0 t
+
+-- a record that is not refused meets none of the tests
+abbrev pub Fails : ℕ × Bool → Type 0
+Fails t = T (not (t .1))
+
+fails-all : (l : Located) (ts : List (ℕ × Bool)) → All (λ t. refuseIf (t .1) (t .0) (l .sheet) (l .byte) ≡ none) ts → All Fails ts
+fails-all l [] h = tt
+fails-all l (t ∷ ts) h = (if-none (t .1) (t .0) (l .sheet) (l .byte) (h .0), fails-all l ts (h .1))
+
+pub record-none : (l : Located) (ts : List (ℕ × Bool)) → refuseRecord l ts ≡ none → All Fails ts
+unfolding refuseRecord
+record-none l ts e =
+    fails-all l ts (of-map (λ o. o ≡ none) (λ t. refuseIf (t .1) (t .0) (l .sheet) (l .byte)) ts
+    (first-none (map (λ t. refuseIf (t .1) (t .0) (l .sheet) (l .byte)) ts) e))

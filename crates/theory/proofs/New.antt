@@ -1,0 +1,58 @@
+-- The user sheet that an Add or a Replace makes of an accepted sheet and a whole group is whole groups end to end.
+-- So 2 cannot refuse it, and neither can the library's first pass: `newRefusal` is all of `sheetRefusal`.
+-- Assumes nothing.
+use mathlib.Core.Path.{_≡_, ap, _∙_, subst}
+use mathlib.Core.List.{List, [], _∷_, _++_, map, append-nil}
+use mathlib.Core.Option.{none}
+use Prim.Native.Nat.{ℕ, _-_}
+use lib.Dec.{eqb}
+use lib.ListN.{length, take, set}
+use Rattle.spec.specs.Lists.{concat}
+use Rattle.spec.specs.Sheet.{wholeEnd, groupsOf, classCount}
+use Rattle.spec.specs.Refusals.{tornRefusal, sheetRefusal, newRefusal, presentRefusal, addedSheet, replacedSheet}
+use Rattle.theory.specs.Claims.{NewSheets}
+use Rattle.theory.proofs.Bools.{eq→eqb, not-not}
+use Rattle.theory.proofs.All.{all-append, all-set}
+use Rattle.theory.proofs.Cut.{IsGroup, concat-append, sheet-grouped, sheet-groups, whole-join}
+use Rattle.theory.proofs.Answers.{first-none, skip-none, keep-head, none-if}
+use Rattle.theory.proofs.Accept.{Clear, sound}
+
+-- one more list at the end
+pub concat-last : {A : Type 0} (xs : List (List A)) (x : List A) → concat (xs ++ (x ∷ [])) ≡ concat xs ++ x
+unfolding concat
+concat-last xs x = concat-append xs (x ∷ []) ∙ ap (λ l. concat xs ++ l) (append-nil x)
+
+-- a sheet that passes the first pass and a whole group make sheets of whole records
+module _ {sheet n : ℕ} {user : List ℕ} (clear : Clear sheet n user) (g : List ℕ) (whole : IsGroup g) where
+  pub added-whole : wholeEnd (addedSheet user g) ≡ length (addedSheet user g)
+  unfolding addedSheet
+  added-whole =
+      let gs : List (List ℕ) = map concat (groupsOf user) in
+      subst (λ (s : List ℕ). wholeEnd s ≡ length s)
+      (concat-last gs g ∙ ap (λ (s : List ℕ). s ++ g) (sheet-grouped user (clear .end) (clear .loose)))
+      (whole-join (gs ++ (g ∷ [])) (all-append IsGroup gs (g ∷ []) (sheet-groups user (clear .end) (clear .loose)) (whole, tt)))
+
+  pub replaced-whole : (library : List ℕ) (c : ℕ) → wholeEnd (replacedSheet library user c g) ≡ length (replacedSheet library user c g)
+  unfolding replacedSheet
+  replaced-whole library c =
+      let gs : List (List ℕ) = map concat (groupsOf user) in
+      let i : ℕ = c - classCount library in
+      whole-join (set gs i g) (all-set IsGroup gs i g (sheet-groups user (clear .end) (clear .loose)) whole)
+
+-- beside a library that was accepted, a sheet of whole records
+pub sheet-new : (library user new : List ℕ) → sheetRefusal library user ≡ none → wholeEnd new ≡ length new → sheetRefusal library new ≡ newRefusal library new
+unfolding sheetRefusal newRefusal tornRefusal
+sheet-new library user new e end =
+    let q = first-none _ e in
+    skip-none _ _ (q .0) ∙ skip-none _ _ (q .1 .0) ∙ skip-none _ _ (q .1 .1 .0)
+    ∙ keep-head _ _ _ (skip-none _ _ (none-if _ 2 1 (wholeEnd new) (not-not (eqb (wholeEnd new) (length new)) (eq→eqb end))))
+
+pub new-sheets : NewSheets
+unfolding presentRefusal IsGroup
+new-sheets library user used e g whole =
+    let now : List ℕ = take used user in
+    let q = first-none _ e .1 .0 in
+    let clear = sound library now q .userSheet in (
+      sheet-new library now (addedSheet now g) q (added-whole clear g whole),
+      λ c. sheet-new library now (replacedSheet library now c g) q (replaced-whole clear g whole library c),
+    )
