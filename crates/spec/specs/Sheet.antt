@@ -1,6 +1,6 @@
 -- A sheet cut into records and groups, and the numbers of records and classes (document 01, "The sheet").
 -- Assumes nothing.
-use mathlib.Core.Bool.{Bool, true, false, _&&_}
+use mathlib.Core.Bool.{Bool, true, false, not, _&&_}
 use mathlib.Core.List.{List, [], _∷_, _++_}
 use Prim.Native.Nat.{ℕ, zero, suc, _+_, _-_}
 use lib.Dec.{leb, ltb}
@@ -87,7 +87,7 @@ unfoldable pub isStaticField : List ℕ → Bool
 isStaticField r = isKind FIELD r && isStatic r
 
 unfoldable pub isInstanceField : List ℕ → Bool
-isInstanceField r = isKind FIELD r && mathlib.Core.Bool.not (isStatic r)
+isInstanceField r = isKind FIELD r && not (isStatic r)
 
 -- ---- where each record stands
 

@@ -2,6 +2,7 @@
 -- Assumes nothing.
 use mathlib.Core.Path.{_≡_, refl, sym, ap, _∙_, subst}
 use mathlib.Core.Logic.{_⊎_, inl, inr}
+use mathlib.Core.Bool.{not}
 use mathlib.Core.List.{List, [], _∷_, List·Memᴰ, List·Memᴰ·head, List·Memᴰ·tail, List·Memᴰ·not-nil, List·Memᴰ·cases-cons}
 use mathlib.Core.Option.{Option, none, some}
 use Prim.Native.Nat.{ℕ, zero, suc, _+_, _≤_, _<_, min}
@@ -23,7 +24,7 @@ pub data Least (ks : List ℕ) : Option ℕ → Type 0 where
 min-cases : (k m : ℕ) → ((min k m ≡ k) × (k ≤ m)) ⊎ ((min k m ≡ m) × (m ≤ k))
 min-cases k m = go (decide (leb k m))
   where
-    go : T (leb k m) ⊎ T (mathlib.Core.Bool.not (leb k m)) → ((min k m ≡ k) × (k ≤ m)) ⊎ ((min k m ≡ m) × (m ≤ k))
+    go : T (leb k m) ⊎ T (not (leb k m)) → ((min k m ≡ k) × (k ≤ m)) ⊎ ((min k m ≡ m) × (m ≤ k))
     go (inl t) = let h : k ≤ m = leb→le k m t in inl (omega arith, h)
     go (inr t) = let h : m < k = nleb→lt k m t in inr (omega arith, omega arith)
 
@@ -117,7 +118,7 @@ module _ (B : ℕ → ℕ → Type 0) (pss : List (List ℕ)) (told : Told B 1 p
       go : (r′ k′ : ℕ) → (j : ℕ) × (r′ ≡ suc j) × List·Memᴰ k′ (getD pss j []) → r ≤ r′
       go r′ k′ c = pick (decide (leb r r′))
         where
-          pick : T (leb r r′) ⊎ T (mathlib.Core.Bool.not (leb r r′)) → r ≤ r′
+          pick : T (leb r r′) ⊎ T (not (leb r r′)) → r ≤ r′
           pick (inl t) = leb→le r r′ t
           pick (inr t) =
               let h : r′ < r = nleb→lt r r′ t in
