@@ -1,0 +1,60 @@
+-- What stands where in a spliced sheet, and the sheets that Judge, Add and Replace see.
+-- Assumes nothing.
+use mathlib.Core.Path.{_≡_, refl, sym, _∙_, ap}
+use Prim.Native.Nat.{ℕ, _+_, _-_, _≤_, _<_}
+use native.Mathlib.Omega.{arith}
+use mathlib.Core.List.{List, [], _++_, append-nil}
+use lib.ListN.{length, take, drop, getD, length-append, length-take, length-drop, List·getD-append, List·getD-eq-default, drop-of-length-le}
+use lib.Seq.{getD-append-add, getD-take, getD-drop, take-length}
+use Rattle.view.specs.declared.Cut.{Cut}
+use Rattle.view.specs.View.{Fits, spliced}
+
+getD-after : (xs ys : List ℕ) (i : ℕ) → length xs ≤ i → getD (xs ++ ys) i 0 ≡ getD ys (i - length xs) 0
+getD-after xs ys i h =
+    let e : i ≡ length xs + (i - length xs) = omega arith in
+    ap (λ (j : ℕ). getD (xs ++ ys) j 0) e ∙ getD-append-add xs ys (i - length xs) 0
+
+module _ (u g : List ℕ) (cut : Cut) (h : Fits cut u) where
+  head-length : length (take (cut .from) u) ≡ cut .from
+  head-length = simp length-take (omega (arith, h .ordered, h .within, h .there))
+
+  pub in-head : (i : ℕ) → i < cut .from → getD u i 0 ≡ getD (spliced u g cut) i 0
+  unfolding spliced
+  in-head i l =
+      rw (List·getD-append (take (cut .from) u) (g ++ drop (cut .to) (take (cut .used) u)) 0 i (omega (arith, head-length)), getD-take (cut .from) u i 0 l)
+
+  pub in-group : (i k : ℕ) → cut .from + k ≡ i → k < length g → getD g k 0 ≡ getD (spliced u g cut) i 0
+  unfolding spliced
+  in-group i k e l =
+      let m : i - length (take (cut .from) u) ≡ k = omega (arith, head-length) in
+      rw (getD-after (take (cut .from) u) (g ++ drop (cut .to) (take (cut .used) u)) i (omega (arith, head-length)), m, List·getD-append g (drop (cut .to) (take (cut .used) u)) 0 k l)
+
+  pub in-tail : (i k : ℕ) → cut .from + length g + k ≡ i → cut .to + k < cut .used → getD u (cut .to + k) 0 ≡ getD (spliced u g cut) i 0
+  unfolding spliced
+  in-tail i k e l =
+      let w : i - length (take (cut .from) u) - length g ≡ k = omega (arith, head-length) in
+      rw (getD-after (take (cut .from) u) (g ++ drop (cut .to) (take (cut .used) u)) i (omega (arith, head-length)), getD-after g (drop (cut .to) (take (cut .used) u)) (i - length (take (cut .from) u)) (omega (arith, head-length)), w, getD-drop (cut .to) (take (cut .used) u) k 0, getD-take (cut .used) u (cut .to + k) 0 l)
+
+  pub length-spliced : length (spliced u g cut) ≡ cut .from + length g + (cut .used - cut .to)
+  unfolding spliced
+  length-spliced =
+      simp (length-append, length-take, length-drop) (omega (arith, h .ordered, h .within, h .there))
+
+  pub past-end : (i : ℕ) → cut .from + length g + (cut .used - cut .to) ≤ i → 0 ≡ getD (spliced u g cut) i 0
+  past-end i l = sym (List·getD-eq-default (spliced u g cut) 0 (omega (arith, length-spliced)))
+
+-- a whole part with no group: the used bytes
+pub plain : (u : List ℕ) (n : ℕ) → spliced u [] (record { from = n; to = n; used = n }) ≡ take n u
+unfolding spliced
+plain u n = let h : length (take n u) ≤ n = simp length-take (omega arith) in rw (drop-of-length-le (take n u) h) (append-nil (take n u))
+
+-- a whole slice
+pub whole : (u : List ℕ) → spliced u [] (record { from = length u; to = length u; used = length u }) ≡ u
+whole u = plain u (length u) ∙ take-length u
+
+-- a group after the used bytes
+pub added : (u g : List ℕ) (n : ℕ) → spliced u g (record { from = n; to = n; used = n }) ≡ take n u ++ g
+unfolding spliced
+added u g n =
+    let h : length (take n u) ≤ n = simp length-take (omega arith) in
+    rw (drop-of-length-le (take n u) h) (ap (λ (x : List ℕ). take n u ++ x) (append-nil g))
