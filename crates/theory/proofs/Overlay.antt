@@ -47,7 +47,7 @@ module _ (g : ℕ → Group) (f : Falls g) where
   super-lt c e (inl h) = f .superclass c e h
   super-lt c e (inr h) = f .implements c e h
 
-  supertypes-lower : (c : ℕ) → All (λ e. e < c) (supertypes (g c))
+  pub supertypes-lower : (c : ℕ) → All (λ e. e < c) (supertypes (g c))
   supertypes-lower c = of-members (λ e. e < c) (supertypes (g c)) (λ e m. super-lt c e (super-of c e m))
 
   -- one step more at the lower end of a chain of supertypes
@@ -96,7 +96,7 @@ module _ (g : ℕ → Group) (f : Falls g) where
           from-any n k c ih (supertypes (g c)) (of-members (λ e. Superclass (g c) e ⊎ Implements (g c) e) (supertypes (g c)) (λ e m. super-of c e m))
           (in-map n k (supertypes (g c)) (union-in k (map (gathered g n) (supertypes (g c))) u))
 
-  gathered-enough : (n m c : ℕ) → c < n → c < m → gathered g n c ≡ gathered g m c
+  pub gathered-enough : (n m c : ℕ) → c < n → c < m → gathered g n c ≡ gathered g m c
   unfolding gathered
   gathered-enough zero m c h k = absurd (not-suc-le-zero h)
   gathered-enough (suc n) zero c h k = absurd (not-suc-le-zero k)

@@ -1,0 +1,107 @@
+-- The recursion over supertypes: what a class gathers from its superclass and its interfaces, a memo that stays right, and the walk over the interfaces.
+-- Assumes nothing.
+use mathlib.Core.Path.{_≡_, refl, sym, ap, ap₂, _∙_, subst}
+use mathlib.Core.Bool.{Bool, true, false}
+use mathlib.Core.List.{List, [], _∷_, _++_, map, append-nil}
+use Prim.Native.Nat.{ℕ, zero, suc, _≤_, _<_}
+use native.Mathlib.Nat.{not-suc-le-zero, le-of-suc-le-suc, le-refl}
+use native.Mathlib.Decide.{ℕ-discrete}
+use native.Mathlib.Omega.{arith}
+use lib.Bits.{bitOr}
+use lib.Dec.{T, eqb, ltb, eqb→eq, lt→ltb}
+use lib.ListN.{length, getD, set, replicate, length-set, length-replicate}
+use lib.Seq.{getD-set-same, getD-set-other}
+use Rattle.spec.specs.Lists.{gather}
+use Rattle.spec.specs.Record.{u16, none16, IMPLEMENTS, ownMarkers, superclass, unlessNone}
+use Rattle.spec.specs.Sheet.{Group, classRecord}
+use Rattle.spec.specs.Markers.{union, unionAll}
+use Rattle.spec.specs.Classes.{superclasses, targets, supertypes, gathered}
+use Rattle.spec.specs.Refusals.{oneClass}
+use Rattle.theory.proofs.Bools.{t-true, t-false, nltb}
+use Rattle.theory.proofs.All.{map-cong}
+use Rattle.theory.proofs.Falls.{Falls}
+use Rattle.theory.proofs.Overlay.{gathered-enough, supertypes-lower}
+use Rattle.theory.proofs.Form.{one-record}
+use Rattle.overlay.specs.Memo.{raw, lowerRaw, withInterfaces, Right}
+use Rattle.overlay.proofs.Unions.{union-assoc, union-zero, union-append}
+
+-- ---- a class as seen from another
+
+pub lower-none : (g : ℕ → Group) (c i : ℕ) → c ≤ i → 0 ≡ lowerRaw g c i
+unfolding lowerRaw
+lower-none g c i h = sym (ap (λ (b : Bool). elim b as (λ (x : Bool). ℕ) [ true ↦ raw g i | false ↦ 0 ]) (t-false (ltb i c) (nltb i c h)))
+
+pub lower-is : (g : ℕ → Group) (c i : ℕ) → i < c → raw g i ≡ lowerRaw g c i
+unfolding lowerRaw
+lower-is g c i h = sym (ap (λ (b : Bool). elim b as (λ (x : Bool). ℕ) [ true ↦ raw g i | false ↦ 0 ]) (t-true (ltb i c) (lt→ltb i c h)))
+
+-- ---- the memo
+
+default : (l : List ℕ) (i d e : ℕ) → i < length l → getD l i d ≡ getD l i e
+default [] i d e h = absurd (not-suc-le-zero h)
+default (x ∷ l) zero d e h = refl
+default (x ∷ l) (suc i) d e h = default l i d e (le-of-suc-le-suc h)
+
+pub memo-known : (g : ℕ → Group) (memo : List ℕ) (c : ℕ) → Right g memo → c < 256 → getD memo c 0 < 256 → getD memo c 0 ≡ raw g c
+memo-known g memo c r h k =
+    let l : c < length memo = omega (arith, r .long) in
+    let e = default memo c 0 256 l in
+    e ∙ r .is c (subst (λ (x : ℕ). x < 256) e k)
+
+pub memo-set : (g : ℕ → Group) (memo : List ℕ) (c v : ℕ) → Right g memo → c < 256 → v ≡ raw g c → Right g (set memo c v)
+memo-set g memo c v r h e = record { long = length-set memo c v ∙ r .long; is = λ i k. go i k (ℕ-discrete i c) }
+  where
+    go : (i : ℕ) → getD (set memo c v) i 256 < 256 → Dec (i ≡ c) → getD (set memo c v) i 256 ≡ raw g i
+    go i k (yes q) = subst (λ (j : ℕ). getD (set memo c v) j 256 ≡ raw g j) (sym q) (getD-set-same memo c v 256 (omega (arith, r .long)) ∙ e)
+    go i k (no n) = let z = getD-set-other memo c i v 256 n in z ∙ r .is i (subst (λ (x : ℕ). x < 256) z k)
+
+all-big : (n i : ℕ) → getD (replicate n 65535) i 256 < 256 → ⊥
+all-big zero i h = omega arith
+all-big (suc n) zero h = omega arith
+all-big (suc n) (suc i) h = all-big n i h
+
+-- nothing is known yet
+pub memo-new : (g : ℕ → Group) → Right g (replicate 256 65535)
+memo-new g = record { long = length-replicate {A = ℕ} 256 65535; is = λ i h. absurd (all-big 256 i h) }
+
+-- ---- what a class gathers
+
+map-append : {A B : Type 0} (f : A → B) (xs ys : List A) → map f (xs ++ ys) ≡ map f xs ++ map f ys
+map-append f [] ys = refl
+map-append f (x ∷ xs) ys = ap (λ l. f x ∷ l) (map-append f xs ys)
+
+-- 65535 is no class, and no lower one
+none-lower : (g : ℕ → Group) (c x : ℕ) → c < 256 → unionAll (map (lowerRaw g c) (unlessNone x)) ≡ lowerRaw g c x
+unfolding unlessNone unionAll
+none-lower g c x h = go (eqb x none16) refl
+  where
+    go : (b : Bool) → eqb x none16 ≡ b → unionAll (map (lowerRaw g c) (elim b as (λ (y : Bool). List ℕ) [ true ↦ [] | false ↦ x ∷ [] ])) ≡ lowerRaw g c x
+    go true e = let q : x ≡ 65535 = eqb→eq x none16 (subst T (sym e) tt) in lower-none g c x (omega arith)
+    go false e = union-zero (lowerRaw g c x)
+
+supers-one : (h : Group) → T (oneClass h) → superclasses h ≡ unlessNone (superclass (classRecord h))
+unfolding superclasses gather
+supers-one h o = ap (gather (λ r. unlessNone (superclass r))) (one-record h o) ∙ append-nil (unlessNone (superclass (classRecord h)))
+
+module _ (g : ℕ → Group) (f : Falls g) where
+  raw-step : (c : ℕ) → raw g c ≡ union (ownMarkers (classRecord (g c))) (unionAll (map (lowerRaw g c) (supertypes (g c))))
+  unfolding raw gathered
+  raw-step c =
+      ap (λ (ms : List ℕ). union (ownMarkers (classRecord (g c))) (unionAll ms))
+      (map-cong (λ e. e < c) (gathered g c) (lowerRaw g c) (λ e q. gathered-enough g f c (suc e) e q (le-refl (suc e)) ∙ lower-is g c e q) (supertypes (g c)) (supertypes-lower g f c))
+
+  pub raw-is : (c : ℕ) → c < 256 → T (oneClass (g c)) → {mine x up m : ℕ} → mine ≡ ownMarkers (classRecord (g c)) → x ≡ u16 (classRecord (g c)) 8 → up ≡ lowerRaw g c x
+      → m ≡ withInterfaces g c (bitOr mine up) → m ≡ raw g c
+  unfolding withInterfaces supertypes superclass union
+  raw-is c h o {mine} {x} {up} em ex eu e =
+      let own : ℕ = ownMarkers (classRecord (g c)) in
+      let above : ℕ = lowerRaw g c (u16 (classRecord (g c)) 8) in
+      let rest : ℕ = unionAll (map (lowerRaw g c) (targets IMPLEMENTS (g c))) in
+      e
+      ∙ ap₂ (λ (a b : ℕ). union (union a b) rest) em (eu ∙ ap (lowerRaw g c) ex)
+      ∙ union-assoc own above rest
+      ∙ ap (union own)
+      (ap (λ (y : ℕ). union y rest) (sym (none-lower g c (u16 (classRecord (g c)) 8) h) ∙ ap (λ (l : List ℕ). unionAll (map (lowerRaw g c) l)) (sym (supers-one (g c) o)))
+      ∙ sym (union-append (map (lowerRaw g c) (superclasses (g c))) (map (lowerRaw g c) (targets IMPLEMENTS (g c))))
+      ∙ ap unionAll (sym (map-append (lowerRaw g c) (superclasses (g c)) (targets IMPLEMENTS (g c)))))
+      ∙ sym (raw-step c)

@@ -1,0 +1,123 @@
+-- The walk over a class's records that joins what is gathered for its interfaces.
+-- Assumes nothing.
+use mathlib.Core.Path.{_≡_, sym, ap, _∙_, subst}
+use mathlib.Core.Bool.{Bool, true, false}
+use mathlib.Core.List.{List, _∷_, map}
+use Prim.Native.Nat.{ℕ, _+_, _≤_, _<_}
+use native.Mathlib.Omega.{arith}
+use lib.Bits.{bitOr}
+use lib.Dec.{T, eqb→eq}
+use lib.ListN.{length, take, drop}
+use borrow.Author.Tests.{eq-eqb, ne-eqb}
+use Rattle.spec.specs.Lists.{keep}
+use Rattle.spec.specs.Record.{u16, kind, isKind, IMPLEMENTS, target, lengthFits}
+use Rattle.spec.specs.Sheet.{Group, group, ofKind}
+use Rattle.spec.specs.Markers.{union, unionAll}
+use Rattle.spec.specs.Classes.{targets}
+use Rattle.theory.specs.Claims.{sheetOf}
+use Rattle.theory.proofs.Bools.{true-t}
+use Rattle.theory.proofs.All.{All}
+use Rattle.theory.proofs.References.{by-kind}
+use Rattle.groups.specs.Groups.{sheetNumber, startOf, endOf, between, Tiled, Indexed}
+use Rattle.groups.proofs.Between.{part-length, part-word, tiled-step, tiled-end}
+use Rattle.groups.proofs.Classes.{group-tiled, group-between, group-lengths, sheet-small}
+use Rattle.overlay.specs.Memo.{lowerRaw, withInterfaces, Right}
+use Rattle.overlay.proofs.Unions.{union-assoc, union-zero}
+
+-- at a byte of the group: the set so far, joined with what the interfaces from here on give, is the whole
+pub record Walking (g : ℕ → Group) (c mine : ℕ) (s memo : List ℕ) (end at m : ℕ) : Type 0 where
+  pub tiled : Tiled s at end
+  pub small : end ≤ 32768
+  pub sizes : All (λ r. T (lengthFits r)) (between s at end)
+  pub rest : union m (unionAll (map (lowerRaw g c) (targets IMPLEMENTS (between s at end)))) ≡ withInterfaces g c mine
+  pub right : Right g memo
+
+pub walk-start : {library user : List ℕ} {nlib n : ℕ} {row : List ℕ} → Indexed library user nlib n row → {c : ℕ} → c < n → (mine : ℕ) {memo : List ℕ} → Right (group library user) memo
+    → Walking (group library user) c mine (sheetOf library user (sheetNumber nlib c)) memo (endOf library user c) (startOf library user c) mine
+unfolding withInterfaces
+walk-start {library} {user} {nlib} {n} x {c} h mine r =
+    let e = group-between x h in
+    record {
+      tiled = group-tiled x h;
+      small = omega (arith, group-tiled x h .within, sheet-small x h);
+      sizes = subst (All (λ r. T (lengthFits r))) (sym e) (group-lengths x c);
+      rest = ap (λ (rs : List (List ℕ)). union mine (unionAll (map (lowerRaw (group library user) c) (targets IMPLEMENTS rs)))) e;
+      right = r;
+    }
+
+-- the same, with the numbers that the code read
+pub walk-begin : {library user : List ℕ} {nlib n : ℕ} {row : List ℕ} → Indexed library user nlib n row → {c : ℕ} → c < n → (mine : ℕ) {memo : List ℕ} {sheet end at : ℕ}
+    → sheet ≡ sheetNumber nlib c → end ≡ endOf library user c → at ≡ startOf library user c → Right (group library user) memo
+    → Walking (group library user) c mine (sheetOf library user sheet) memo end at mine
+walk-begin x h mine es ee ea r = rw (es, ee, ea) (walk-start x h mine r)
+
+-- where the next record begins
+pub walk-on : {g : ℕ → Group} {c mine : ℕ} {s memo : List ℕ} {end at m : ℕ} → Walking g c mine s memo end at m → at < end → (4 ≤ u16 s at) × (at + u16 s at ≤ end)
+walk-on w h = (tiled-step (w .tiled) h .0, tiled-step (w .tiled) h .1)
+
+pub walk-end : {g : ℕ → Group} {c mine : ℕ} {s memo : List ℕ} {end at m : ℕ} → Walking g c mine s memo end at m → end ≤ at → m ≡ withInterfaces g c mine
+unfolding targets ofKind keep unionAll
+walk-end {g} {c} {mine} {s} {end = end} {at} {m} w h =
+    sym (union-zero m) ∙ sym (ap (λ (rs : List (List ℕ)). union m (unionAll (map (lowerRaw g c) (targets IMPLEMENTS rs)))) (tiled-end s at end h)) ∙ w .rest
+
+-- what a record adds to the interfaces
+targets-implements : (r : List ℕ) (rs : List (List ℕ)) → isKind IMPLEMENTS r ≡ true → targets IMPLEMENTS (r ∷ rs) ≡ target r ∷ targets IMPLEMENTS rs
+unfolding targets ofKind keep
+targets-implements r rs e = ap (λ (b : Bool). map target (elim b as (λ (x : Bool). List (List ℕ)) [ true ↦ r ∷ keep (isKind IMPLEMENTS) rs | false ↦ keep (isKind IMPLEMENTS) rs ])) e
+
+targets-other : (r : List ℕ) (rs : List (List ℕ)) → isKind IMPLEMENTS r ≡ false → targets IMPLEMENTS (r ∷ rs) ≡ targets IMPLEMENTS rs
+unfolding targets ofKind keep
+targets-other r rs e = ap (λ (b : Bool). map target (elim b as (λ (x : Bool). List (List ℕ)) [ true ↦ r ∷ keep (isKind IMPLEMENTS) rs | false ↦ keep (isKind IMPLEMENTS) rs ])) e
+
+six : (r : List ℕ) → T (isKind IMPLEMENTS r) → T (lengthFits r) → length r ≡ 6
+unfolding lengthFits
+six r t h = eqb→eq (length r) 6 (subst T (by-kind r false _ IMPLEMENTS t) h)
+
+module _ {g : ℕ → Group} {c mine : ℕ} {s memo : List ℕ} {end at m : ℕ} (w : Walking g c mine s memo end at m) (h : at < end) where
+  abbrev record-here : List ℕ
+  record-here = take (u16 s at) (drop at s)
+
+  kind-here : kind record-here ≡ u16 s (at + 2)
+  unfolding kind
+  kind-here = part-word s at (u16 s at) 2 (omega (arith, tiled-step (w .tiled) h .0))
+
+  sizes-here : All (λ r. T (lengthFits r)) (record-here ∷ between s (at + u16 s at) end)
+  sizes-here = subst (All (λ r. T (lengthFits r))) (tiled-step (w .tiled) h .2) (w .sizes)
+
+  rest-here : union m (unionAll (map (lowerRaw g c) (targets IMPLEMENTS (record-here ∷ between s (at + u16 s at) end)))) ≡ withInterfaces g c mine
+  rest-here = sym (ap (λ (rs : List (List ℕ)). union m (unionAll (map (lowerRaw g c) (targets IMPLEMENTS rs)))) (tiled-step (w .tiled) h .2)) ∙ w .rest
+
+  -- an IMPLEMENTS record, whose class is asked
+  pub walk-asks : {l k i got m′ : ℕ} {memo′ memo″ : List ℕ} → l ≡ u16 s at → k ≡ u16 s (at + 2) → k ≡ 2 → i ≡ u16 s (at + 4) → got ≡ lowerRaw g c i → Right g memo′
+      → memo″ ≡ memo′ → m′ ≡ bitOr m got → Walking g c mine s memo″ end (at + l) m′
+  unfolding unionAll union target
+  walk-asks {l} {k} {i} {got} {m′} {memo′} el ek e ei eg r er em =
+      let t : isKind IMPLEMENTS record-here ≡ true = eq-eqb _ _ (kind-here ∙ sym ek ∙ e) in
+      let long : length record-here ≡ 6 = six record-here (true-t t) (sizes-here .0) in
+      let n : u16 s at ≡ 6 = sym (part-length s at (u16 s at) (omega (arith, tiled-step (w .tiled) h .1, w .tiled .within))) ∙ long in
+      let named : i ≡ target record-here = ei ∙ sym (part-word s at (u16 s at) 4 (omega arith)) in
+      let rs : List (List ℕ) = between s (at + u16 s at) end in
+      rw (el, er, em)
+      (record {
+        tiled = tiled-step (w .tiled) h .3;
+        small = w .small;
+        sizes = sizes-here .1;
+        rest = union-assoc m got (unionAll (map (lowerRaw g c) (targets IMPLEMENTS rs)))
+            ∙ ap (λ (x : ℕ). union m (union x (unionAll (map (lowerRaw g c) (targets IMPLEMENTS rs))))) (eg ∙ ap (lowerRaw g c) named)
+            ∙ sym (ap (λ (ts : List ℕ). union m (unionAll (map (lowerRaw g c) ts))) (targets-implements record-here rs t)) ∙ rest-here;
+        right = r;
+      })
+
+  -- any other record
+  pub walk-passes : {l k m′ : ℕ} {memo′ : List ℕ} → l ≡ u16 s at → k ≡ u16 s (at + 2) → (k ≡ 2 → ⊥) → m′ ≡ m → memo′ ≡ memo → Walking g c mine s memo′ end (at + l) m′
+  walk-passes {l} {k} {m′} {memo′} el ek n em er =
+      let f : isKind IMPLEMENTS record-here ≡ false = ne-eqb _ _ (λ q. n (ek ∙ sym kind-here ∙ q)) in
+      let rs : List (List ℕ) = between s (at + u16 s at) end in
+      rw (el, em, er)
+      (record {
+        tiled = tiled-step (w .tiled) h .3;
+        small = w .small;
+        sizes = sizes-here .1;
+        rest = sym (ap (λ (ts : List ℕ). union m (unionAll (map (lowerRaw g c) ts))) (targets-other record-here rs f)) ∙ rest-here;
+        right = w .right;
+      })

@@ -1,0 +1,246 @@
+-- The first pass at a byte: what is left of the refusals, of the row of group starts and of the count of classes from there on comes to what the whole sheet gives. A law for each way on.
+-- Assumes nothing.
+use mathlib.Core.Path.{_≡_, refl, sym, ap, _∙_}
+use mathlib.Core.Bool.{Bool, true, false, not}
+use mathlib.Core.List.{List}
+use mathlib.Core.Option.{Option, none, some}
+use Prim.Native.Nat.{ℕ, suc, _+_, _≤_, _<_}
+use native.Mathlib.Nat.{zero-add}
+use native.Mathlib.Numerals.{add-one}
+use native.Mathlib.Omega.{arith}
+use lib.Dec.{eqb, leb, nleb→lt}
+use lib.ListN.{length, drop, set, length-append, length-set}
+use borrow.Author.Tests.{eq-eqb, ne-eqb}
+use Rattle.spec.specs.Lists.{all, concat}
+use Rattle.spec.specs.Record.{u16, kind, isClass}
+use Rattle.spec.specs.Sheet.{wholeFirst, recordsOf, wholeEnd, Split, splitGroups, groupsOf, classCount, Located, locatedIn}
+use Rattle.spec.specs.Refusals.{Refusal, refuseIf, refuseRecord, recordTests, recordRefusal, tornRefusal}
+use Rattle.theory.proofs.Bools.{not-or-l, not-or-r}
+use Rattle.theory.proofs.All.{All}
+use Rattle.theory.proofs.Cut.{split-class, split-other}
+use Rattle.theory.proofs.Answers.{some≢none, Fails, record-none}
+use Rattle.pass.specs.Pass.{numberOf, recordAt, place, recordNumber, passRefusal, passOf, fill, filled, Filled}
+use Rattle.pass.specs.declared.Pass.the-variants.{Fine, Refused}
+use Rattle.pass.proofs.Starts.{fill-class, fill-other}
+use Rattle.pass.proofs.Walk.{Whole, whole-at, at-whole, records-stop, end-stop, records-here, length-here, class-here, other-here, first-past, first-some, rest, walk-stop, walk-step, walk-class, walk-other, place-refuses}
+
+-- ---- one record
+
+-- what refuses a located record
+unfoldable pub answer : Located → Option Refusal
+answer l = refuseRecord l (recordTests l)
+
+-- the kind before a record is not asked for
+tests-before : (sheet at n k b : ℕ) (r : List ℕ) → recordTests (place sheet at n k b r) ≡ recordTests (place sheet at n k 0 r)
+unfolding recordTests place
+tests-before sheet at n k b r = go (isClass r) refl
+  where
+    go : (c : Bool) → isClass r ≡ c → recordTests (place sheet at n k b r) ≡ recordTests (place sheet at n k 0 r)
+    go true e = rw (e, place)
+    go false e = rw (e, place)
+
+-- the number of a whole record, whatever the kind before it, and what it refuses
+module _ (sheet : ℕ) (s : List ℕ) (at n k b : ℕ) (w : Whole s at) where
+  pub number-here : recordNumber sheet s at n k ≡ numberOf (recordTests (place sheet at n k b (recordAt s at)))
+  unfolding recordNumber
+  number-here = rw (at-whole w, recordNumber, tests-before sheet at n k b (recordAt s at))
+
+  answer-here : answer (place sheet at n k b (recordAt s at)) ≡ refuseIf (not (eqb (recordNumber sheet s at n k) 0)) (recordNumber sheet s at n k) sheet at
+  unfolding answer
+  answer-here = rw number-here (place-refuses sheet at n k b (recordAt s at) (recordTests (place sheet at n k b (recordAt s at))) (unfold recordTests all in tt))
+
+pub number-torn : (sheet : ℕ) (s : List ℕ) (at n k : ℕ) → wholeFirst (drop at s) ≡ false → recordNumber sheet s at n k ≡ 2
+unfolding recordNumber
+number-torn sheet s at n k e = rw (e, recordNumber)
+
+-- what a record that is not refused says of its numbers
+pub record Passed (s : List ℕ) (at c k : ℕ) : Type 0 where
+  pub here : Whole s at
+  pub class-room : u16 s (at + 2) ≡ 1 → c < 256
+  pub group-room : (u16 s (at + 2) ≡ 1 → ⊥) → k < 255
+
+-- "class 257 or a group's record 256"
+room : (l : Located) → answer l ≡ none → (l .class < 256) × (l .recordNumber < 255)
+unfolding answer recordTests
+room l e =
+    let f : All Fails (recordTests l) = record-none l (recordTests l) e in
+    let t = f .1 .1 .1 .1 .0 in
+    (nleb→lt 256 (l .class) (not-or-l (leb 256 (l .class)) (leb 255 (l .recordNumber)) t), nleb→lt 255 (l .recordNumber) (not-or-r (leb 256 (l .class)) (leb 255 (l .recordNumber)) t))
+
+class-place : (sheet at n k b : ℕ) (r : List ℕ) → isClass r ≡ true → place sheet at n k b r .class ≡ n
+unfolding place
+class-place sheet at n k b r e = rw (e, place)
+
+other-place : (sheet at n k b : ℕ) (r : List ℕ) → isClass r ≡ false → place sheet at n k b r .recordNumber ≡ k
+unfolding place
+other-place sheet at n k b r e = rw (e, place)
+
+module _ (sheet : ℕ) (s : List ℕ) (at c k : ℕ) (z : recordNumber sheet s at c k ≡ 0) where
+  passed-whole : Whole s at
+  passed-whole = go (wholeFirst (drop at s)) refl
+    where
+      go : (b : Bool) → wholeFirst (drop at s) ≡ b → Whole s at
+      go true e = whole-at s at e
+      go false e = let q = number-torn sheet s at c k e in absurd (omega arith)
+
+  passed-answer : (b : ℕ) → answer (place sheet at c k b (recordAt s at)) ≡ none
+  passed-answer b = answer-here sheet s at c k b passed-whole ∙ (unfold refuseIf in rw z)
+
+  pub passed : Passed s at c k
+  passed =
+      let r : List ℕ = recordAt s at in
+      let q = room (place sheet at c k 0 r) (passed-answer 0) in
+      record {
+        here = passed-whole;
+        class-room = λ e. omega (arith, class-place sheet at c k 0 r (class-here passed-whole e));
+        group-room = λ e. omega (arith, other-place sheet at c k 0 r (other-here passed-whole e));
+      }
+
+-- ---- the records from a byte on
+
+module _ {s : List ℕ} {at : ℕ} (w : Whole s at) where
+  end-step : wholeEnd (drop at s) ≡ u16 s at + wholeEnd (drop (at + u16 s at) s)
+  unfolding wholeEnd concat
+  end-step = rw (records-here w, length-append, length-here w)
+
+  count-class : u16 s (at + 2) ≡ 1 → classCount (drop at s) ≡ suc (classCount (drop (at + u16 s at) s))
+  unfolding classCount groupsOf
+  count-class e =
+      ap (λ (rs : List (List ℕ)). length (splitGroups rs .groups)) (records-here w)
+      ∙ ap (λ (t : Split). length (t .groups)) (split-class (recordAt s at) (recordsOf (drop (at + u16 s at) s)) (class-here w e))
+
+  count-other : (u16 s (at + 2) ≡ 1 → ⊥) → classCount (drop at s) ≡ classCount (drop (at + u16 s at) s)
+  unfolding classCount groupsOf
+  count-other e =
+      ap (λ (rs : List (List ℕ)). length (splitGroups rs .groups)) (records-here w)
+      ∙ ap (λ (t : Split). length (t .groups)) (split-other (recordAt s at) (recordsOf (drop (at + u16 s at) s)) (other-here w e))
+
+  module _ (row : List ℕ) (n : ℕ) where
+    rows-class : u16 s (at + 2) ≡ 1 → fill row n at (recordsOf (drop at s)) ≡ fill (set row n at) (suc n) (at + u16 s at) (recordsOf (drop (at + u16 s at) s))
+    rows-class e = rw (records-here w, fill-class row n at (recordAt s at) (recordsOf (drop (at + u16 s at) s)) (class-here w e), length-here w)
+
+    rows-other : (u16 s (at + 2) ≡ 1 → ⊥) → fill row n at (recordsOf (drop at s)) ≡ fill row n (at + u16 s at) (recordsOf (drop (at + u16 s at) s))
+    rows-other e = rw (records-here w, fill-other row n at (recordAt s at) (recordsOf (drop (at + u16 s at) s)) (other-here w e), length-here w)
+
+-- bytes that begin with no whole record
+module _ (s : List ℕ) (e : wholeFirst s ≡ false) where
+  none-end : wholeEnd s ≡ 0
+  unfolding wholeEnd concat
+  none-end = rw (records-stop s e)
+
+  none-count : classCount s ≡ 0
+  unfolding classCount groupsOf
+  none-count = ap (λ (rs : List (List ℕ)). length (splitGroups rs .groups)) (records-stop s e) ∙ (unfold splitGroups in refl)
+
+  none-fill : (row : List ℕ) (n at : ℕ) → fill row n at (recordsOf s) ≡ row
+  unfolding fill
+  none-fill row n at = rw (records-stop s e)
+
+-- ---- the pass at a byte
+
+-- the pass stands at byte `at`, after c classes and k records of the open group, and has made `row` of `row₀`
+pub record Going (sheet : ℕ) (s : List ℕ) (base : ℕ) (row₀ row : List ℕ) (at c k : ℕ) : Type 0 where
+  pub before : ℕ  -- the kind of the record before
+  pub rest : rest answer sheet s at c k before ≡ recordRefusal sheet base s
+  pub end : at + wholeEnd (drop at s) ≡ wholeEnd s
+  pub rows : fill row c at (recordsOf (drop at s)) ≡ filled row₀ base s
+  pub count : c + classCount (drop at s) ≡ base + classCount s
+  pub classes : c ≤ 256
+  pub records : k ≤ 255
+  pub long : length row ≡ length row₀
+  pub inside : at ≤ length s
+
+pub begin : (sheet : ℕ) (s : List ℕ) (base : ℕ) (row₀ : List ℕ) → base ≤ 256 → Going sheet s base row₀ row₀ 0 base 0
+unfolding rest answer recordRefusal locatedIn filled
+begin sheet s base row₀ h = record {
+  before = 0;
+  rest = refl;
+  end = zero-add (wholeEnd s);
+  rows = refl;
+  count = refl;
+  classes = h;
+  records = omega arith;
+  long = refl;
+  inside = omega arith;
+}
+
+module _ {sheet : ℕ} {s : List ℕ} {base : ℕ} {row₀ row : List ℕ} {at c k : ℕ} (g : Going sheet s base row₀ row at c k) where
+  -- the whole sheet is passed
+  module _ (h : length s ≤ at) where
+    ends-none : passRefusal sheet base s ≡ none
+    unfolding passRefusal tornRefusal refuseIf
+    ends-none =
+        let e = end-stop s at h in
+        let z = none-end (drop at s) e in
+        let l : wholeEnd s ≡ length s = omega (arith, g .end, g .inside) in
+        first-past _ _ (sym (g .rest) ∙ walk-stop answer sheet s at c k (g .before) e) ∙ rw (eq-eqb (wholeEnd s) (length s) l)
+
+    ends-count : c ≡ base + classCount s
+    ends-count = omega (arith, g .count, none-count (drop at s) (end-stop s at h))
+
+    pub ends : (Fine c ≡ passOf (passRefusal sheet base s) (base + classCount s)) × Filled (passRefusal sheet base s) base s row₀ row
+    ends = (
+      rw (ends-none, ← ends-count),
+      record { long = g .long; rows = λ e. sym (none-fill (drop at s) (end-stop s at h) row c at) ∙ g .rows },
+    )
+
+  module _ {number : ℕ} (e : number ≡ recordNumber sheet s at c k) where
+    refused : at < length s → (number ≡ 0 → ⊥) → passRefusal sheet base s ≡ some (record { number = number; sheet = sheet; byte = at })
+    unfolding passRefusal tornRefusal refuseIf
+    refused h z = go (wholeFirst (drop at s)) refl
+      where
+        go : (b : Bool) → wholeFirst (drop at s) ≡ b → passRefusal sheet base s ≡ some (record { number = number; sheet = sheet; byte = at })
+        go true w =
+            let a = answer-here sheet s at c k (g .before) (whole-at s at w) in
+            first-some _ (sym (g .rest) ∙ walk-step answer sheet s at c k (g .before) (whole-at s at w) ∙ first-some _ (a ∙ rw (← e, ne-eqb number 0 z)))
+        go false w =
+            let n = number-torn sheet s at c k w in
+            let q = none-end (drop at s) w in
+            let l : wholeEnd s ≡ at = omega (arith, g .end) in
+            let m : number ≡ 2 = omega arith in
+            first-past _ _ (sym (g .rest) ∙ walk-stop answer sheet s at c k (g .before) w) ∙ rw (ne-eqb (wholeEnd s) (length s) (λ d. omega arith), l, m)
+
+    -- the record at hand is refused
+    pub stops : at < length s → (number ≡ 0 → ⊥) → (m : ℕ) → (Refused number at ≡ passOf (passRefusal sheet base s) m) × Filled (passRefusal sheet base s) base s row₀ row
+    stops h z m = (rw (refused h z), record { long = g .long; rows = λ n. absurd (some≢none _ (sym (refused h z) ∙ n)) })
+
+    module _ (z : number ≡ 0) {l kk c′ k′ : ℕ} {row′ : List ℕ} (el : l ≡ u16 s at) (ek : kk ≡ u16 s (at + 2)) where
+      -- a CLASS record is passed
+      pub class-on : kk ≡ 1 → row′ ≡ set row c at → c′ ≡ c + 1 → k′ ≡ 1 → Going sheet s base row₀ row′ (at + l) c′ k′
+      class-on one es ec en =
+          let p = passed sheet s at c k (sym e ∙ z) in
+          let w = p .here in
+          let o = sym ek ∙ one in
+          let room = p .class-room o in
+          record {
+            before = kind (recordAt s at);
+            rest = rw (el, ec, en, add-one)
+                (sym (first-past _ _ (passed-answer sheet s at c k (sym e ∙ z) (g .before))) ∙ sym (walk-class answer sheet s at c k (g .before) w o) ∙ g .rest);
+            end = rw el (omega (arith, end-step w, g .end));
+            rows = rw (el, es, ec, add-one) (sym (rows-class w row c o) ∙ g .rows);
+            count = rw el (omega (arith, count-class w o, g .count));
+            classes = omega arith;
+            records = omega arith;
+            long = rw es (simp length-set (g .long));
+            inside = omega (arith, w);
+          }
+
+      -- another record is passed
+      pub other-on : (kk ≡ 1 → ⊥) → row′ ≡ row → c′ ≡ c → k′ ≡ k + 1 → Going sheet s base row₀ row′ (at + l) c′ k′
+      other-on other es ec en =
+          let p = passed sheet s at c k (sym e ∙ z) in
+          let w = p .here in
+          let o : u16 s (at + 2) ≡ 1 → ⊥ = λ q. other (ek ∙ q) in
+          let room = p .group-room o in
+          record {
+            before = kind (recordAt s at);
+            rest = rw (el, ec, en, add-one)
+                (sym (first-past _ _ (passed-answer sheet s at c k (sym e ∙ z) (g .before))) ∙ sym (walk-other answer sheet s at c k (g .before) w o) ∙ g .rest);
+            end = rw el (omega (arith, end-step w, g .end));
+            rows = rw (el, es, ec) (sym (rows-other w row c o) ∙ g .rows);
+            count = rw el (omega (arith, count-other w o, g .count));
+            classes = omega (arith, g .classes);
+            records = omega arith;
+            long = rw es (g .long);
+            inside = omega (arith, w);
+          }

@@ -1,0 +1,134 @@
+-- The number that refuses what begins at a byte: first whether a whole record does, then the tests of that record in their order.
+-- Assumes nothing.
+use mathlib.Core.Path.{_≡_, refl, sym, _∙_, ap}
+use mathlib.Core.Bool.{Bool, true, false, not, _&&_, _||_}
+use mathlib.Core.List.{List, [], _∷_}
+use Prim.Native.Nat.{ℕ, zero, suc, _+_, _-_, _≤_, _<_}
+use native.Mathlib.Nat.{add-zero}
+use native.Mathlib.Omega.{arith}
+use lib.Dec.{T, eqb, leb, ltb, leb→le}
+use lib.ListN.{length, getD, take, drop, length-drop}
+use lib.Seq.{getD-drop}
+use borrow.Author.Tests.{le-leb, lt-leb}
+use Rattle.spec.specs.Record.{u16, kind, isClass, bodyFits}
+use Rattle.spec.specs.Sheet.{wholeFirst}
+use Rattle.spec.specs.Refusals.{recordTests}
+use Rattle.theory.proofs.Bools.{and-l, and-r, true-t}
+use Rattle.pass.specs.Pass.{homeFits, sizeFits, bodyAt, orderNumber, numberOf, recordAt, place, recordNumber}
+use Rattle.pass.proofs.Reading.{length-in, u16-in}
+use Rattle.pass.proofs.Bodies.{kind-fits, length-fits, body-fits}
+
+-- ---- whether a whole record begins at a byte
+
+pub record Whole (s : List ℕ) (at : ℕ) : Type 0 where
+  pub four : at + 4 ≤ length s
+  pub long : 4 ≤ u16 s at
+  pub ends : at + u16 s at ≤ length s
+
+u16-drop : (s : List ℕ) (at : ℕ) → u16 (drop at s) 0 ≡ u16 s at
+unfolding u16
+u16-drop s at = rw (getD-drop at s 0 0, getD-drop at s 1 0, add-zero at)
+
+module _ (s : List ℕ) (at : ℕ) where
+  pub whole-first : Whole s at → wholeFirst (drop at s) ≡ true
+  unfolding wholeFirst
+  whole-first w =
+      rw (u16-drop s at, length-drop at s, le-leb 4 (length s - at) (omega arith), le-leb 4 (u16 s at) (w .long), le-leb (u16 s at) (length s - at) (omega arith))
+
+  pub first-whole : at < length s → wholeFirst (drop at s) ≡ true → Whole s at
+  unfolding wholeFirst
+  first-whole h e =
+      let t = true-t (rw (u16-drop s at, length-drop at s) at e) in
+      let p = leb→le 4 (length s - at) (and-l (leb 4 (length s - at)) (leb 4 (u16 s at)) (and-l (leb 4 (length s - at) && leb 4 (u16 s at)) (leb (u16 s at) (length s - at)) t)) in
+      let q = leb→le 4 (u16 s at) (and-r (leb 4 (length s - at)) (leb 4 (u16 s at)) (and-l (leb 4 (length s - at) && leb 4 (u16 s at)) (leb (u16 s at) (length s - at)) t)) in
+      let r = leb→le (u16 s at) (length s - at) (and-r (leb 4 (length s - at) && leb 4 (u16 s at)) (leb (u16 s at) (length s - at)) t) in
+      record { four = omega arith; long = omega arith; ends = omega arith }
+
+  pub torn : (sheet n k : ℕ) → at < length s → (Whole s at → ⊥) → 2 ≡ recordNumber sheet s at n k
+  unfolding recordNumber
+  torn sheet n k h w = go (wholeFirst (drop at s)) refl
+    where
+      go : (b : Bool) → wholeFirst (drop at s) ≡ b → 2 ≡ recordNumber sheet s at n k
+      go true e = absurd (w (first-whole h e))
+      go false e = rw (e, recordNumber)
+
+-- ---- the tests of a whole record
+
+-- "class 257 or a group's record 256"
+abbrev pub full : Bool → ℕ → ℕ → Bool
+full true n k = leb 256 n
+full false n k = leb 255 k
+
+or-false : (b : Bool) → (b || false) ≡ b
+or-false true = refl
+or-false false = refl
+
+placed : (sheet at n k : ℕ) (r : List ℕ) → n ≤ 256
+    → recordTests (place sheet at n k 0 r) ≡ (3, not (homeFits sheet (kind r))) ∷ (4, not (sizeFits (kind r) (length r))) ∷ (6, not (isClass r || ltb 0 k)) ∷ (5, not (bodyFits sheet r)) ∷ (7, full (isClass r) n k) ∷ []
+unfolding recordTests place
+placed sheet at n k r h = go (isClass r) refl
+  where
+    go : (b : Bool) → isClass r ≡ b → recordTests (place sheet at n k 0 r) ≡ (3, not (homeFits sheet (kind r))) ∷ (4, not (sizeFits (kind r) (length r))) ∷ (6, not (isClass r || ltb 0 k)) ∷ (5, not (bodyFits sheet r)) ∷ (7, full (isClass r) n k) ∷ []
+    go true e = rw (e, place, kind-fits sheet r, length-fits r, or-false (leb 256 n))
+    go false e = rw (e, place, kind-fits sheet r, length-fits r, lt-leb 256 (n - 1) (omega arith))
+
+-- the first of two numbers that is not 0
+abbrev orElse : ℕ → ℕ → ℕ
+orElse zero m = m
+orElse (suc i) m = suc i
+
+or-second : {i : ℕ} (m : ℕ) → i ≡ 0 → orElse i m ≡ m
+or-second m e = rw e
+
+or-first : (i m : ℕ) → (i ≡ 0 → ⊥) → orElse i m ≡ i
+or-first zero m h = absurd (h refl)
+or-first (suc i) m h = refl
+
+-- the numbers before that of the body, and those from there on
+abbrev early : Bool → Bool → Bool → ℕ
+early a b g = elim a [ true ↦ elim b [ true ↦ elim g [ true ↦ 0 | false ↦ 6 ] | false ↦ 4 ] | false ↦ 3 ]
+
+abbrev pub late : Bool → Bool → ℕ
+late true e = elim e [ true ↦ 7 | false ↦ 0 ]
+late false e = 5
+
+late-tests : (d e : Bool) → numberOf ((5, not d) ∷ (7, e) ∷ []) ≡ late d e
+unfolding numberOf
+late-tests true e = refl
+late-tests false e = refl
+
+-- the body is asked only if the length fits
+decided : (a b g d d′ e : Bool) → (b ≡ true → d ≡ d′) → numberOf ((3, not a) ∷ (4, not b) ∷ (6, not g) ∷ (5, not d) ∷ (7, e) ∷ []) ≡ orElse (early a b g) (late d′ e)
+unfolding numberOf
+decided false b g d d′ e h = refl
+decided true false g d d′ e h = refl
+decided true true false d d′ e h = refl
+decided true true true d d′ e h = rw (h refl) (late-tests d′ e)
+
+early-size : (a b g : Bool) → early a b g ≡ 0 → b ≡ true
+early-size a true g e = refl
+early-size true false g e = absurd (omega (arith, e))
+early-size false false g e = absurd (omega (arith, e))
+
+pub order-size : (sheet kind n k : ℕ) → orderNumber sheet kind n k ≡ 0 → sizeFits kind n ≡ true
+unfolding orderNumber
+order-size sheet kind n k e = early-size (homeFits sheet kind) (sizeFits kind n) (eqb kind 1 || ltb 0 k) e
+
+whole-number : (sheet : ℕ) (s : List ℕ) (at n k : ℕ) → Whole s at → n ≤ 256
+    → recordNumber sheet s at n k ≡ orElse (orderNumber sheet (u16 s (at + 2)) (u16 s at) k) (late (bodyAt sheet s at (u16 s (at + 2)) (u16 s at)) (full (eqb (u16 s (at + 2)) 1) n k))
+unfolding recordNumber recordAt orderNumber kind
+whole-number sheet s at n k w h =
+    let r = take (u16 s at) (drop at s) in
+    let el : length r ≡ u16 s at = length-in s at (u16 s at) (w .ends) in
+    let ek : kind r ≡ u16 s (at + 2) = u16-in s at (u16 s at) 2 (omega arith) in
+    rw (whole-first s at w, recordNumber, placed sheet at n k r h, el, ek)
+    (decided (homeFits sheet (u16 s (at + 2))) (sizeFits (u16 s (at + 2)) (u16 s at)) (eqb (u16 s (at + 2)) 1 || ltb 0 k) (bodyFits sheet r) (bodyAt sheet s at (u16 s (at + 2)) (u16 s at)) (full (eqb (u16 s (at + 2)) 1) n k)
+    (λ e. rw ek at (body-fits sheet s at (u16 s at) (rw ek e))))
+
+-- in the code's variables
+module _ (sheet k : ℕ) {s : List ℕ} {at n : ℕ} (w : Whole s at) (h : n ≤ 256) {len kind i : ℕ} (el : len ≡ u16 s at) (ek : kind ≡ u16 s (at + 2)) (ei : i ≡ orderNumber sheet kind len k) where
+  pub by-order : (i ≡ 0 → ⊥) → i ≡ recordNumber sheet s at n k
+  by-order z = rw (whole-number sheet s at n k w h, ← el, ← ek, ← ei) (sym (or-first i _ z))
+
+  pub by-body : i ≡ 0 → recordNumber sheet s at n k ≡ late (bodyAt sheet s at kind len) (full (eqb kind 1) n k)
+  by-body z = rw (whole-number sheet s at n k w h, ← el, ← ek, ← ei) (or-second _ z)

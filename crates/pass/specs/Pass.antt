@@ -1,0 +1,106 @@
+-- The first pass by positions: the number that refuses the record at a byte, how the pass ends, and the row of the bytes where groups begin.
+-- Assumes nothing.
+use mathlib.Core.Path.{_≡_}
+use mathlib.Core.Bool.{Bool, true, false, not, _&&_, _||_}
+use mathlib.Core.List.{List, [], _∷_}
+use mathlib.Core.Option.{Option, none, some}
+use Prim.Native.Nat.{ℕ, zero, suc, _+_, _-_}
+use lib.Dec.{eqb, leb, ltb}
+use lib.ListN.{length, getD, take, drop, set}
+use Rattle.spec.specs.Lists.{firstOf}
+use Rattle.spec.specs.Record.{u8, u16, isClass, kind, nameFits, tyFits, tyAt, classFlagsFit}
+use Rattle.spec.specs.Sheet.{wholeFirst, recordsOf, Located}
+use Rattle.spec.specs.Refusals.{Refusal, recordTests, recordRefusal, tornRefusal}
+use Rattle.pass.specs.declared.Pass.{Pass}
+use Rattle.pass.specs.declared.Pass.the-variants.{Fine, Refused}
+
+-- ---- one record, by kind and length
+
+-- the sheet may have the kind
+unfoldable pub homeFits : ℕ → ℕ → Bool
+homeFits sheet k = getD (false ∷ true ∷ true ∷ eqb sheet 1 ∷ eqb sheet 1 ∷ eqb sheet 1 ∷ eqb sheet 1 ∷ eqb sheet 0 ∷ eqb sheet 1 ∷ []) k false
+
+-- a record of the kind may have the length
+unfoldable pub sizeFits : ℕ → ℕ → Bool
+sizeFits k n = getD
+    (false
+    ∷ (leb 13 n && leb n 112)
+    ∷ eqb n 6
+    ∷ (leb 11 n && leb n 110)
+    ∷ (leb 9 n && leb n 108)
+    ∷ eqb n 8
+    ∷ eqb n 6
+    ∷ (leb 7 n && leb n 106)
+    ∷ eqb n 8
+    ∷ []) k false
+
+-- the name bytes of a record at `at` with length n, after its first j bytes
+unfoldable pub nameAt : List ℕ → ℕ → ℕ → ℕ → Bool
+nameAt s at n j = nameFits (take ((at + n) - (at + j)) (drop (at + j) s))
+
+-- the body of the record at `at` is one of its kind
+unfoldable pub bodyAt : ℕ → List ℕ → ℕ → ℕ → ℕ → Bool
+bodyAt sheet s at k n = getD
+    (false
+    ∷ (classFlagsFit sheet (u16 s (at + 4)) && eqb (u8 s (at + 7)) 0 && nameAt s at n 12)
+    ∷ true
+    ∷ (ltb (u16 s (at + 4)) 8 && tyFits (tyAt s (at + 6)) && nameAt s at n 10)
+    ∷ (tyFits (tyAt s (at + 4)) && nameAt s at n 8)
+    ∷ true
+    ∷ true
+    ∷ (ltb (u16 s (at + 4)) 2 && nameAt s at n 6)
+    ∷ true
+    ∷ []) k false
+
+-- the number that refuses kind, length or place of a record in its group, or 0: 3, 4, 6
+unfoldable pub orderNumber : ℕ → ℕ → ℕ → ℕ → ℕ
+orderNumber sheet kind n k =
+    elim (homeFits sheet kind) [
+      | true ↦ elim (sizeFits kind n) [ true ↦ elim (eqb kind 1 || ltb 0 k) [ true ↦ 0 | false ↦ 6 ] | false ↦ 4 ]
+      | false ↦ 3
+    ]
+
+-- ---- a record at its place
+
+-- the number of the first test that is met, or 0
+unfoldable pub numberOf : List (ℕ × Bool) → ℕ
+numberOf [] = 0
+numberOf (t ∷ ts) = elim (t .1) [ true ↦ t .0 | false ↦ numberOf ts ]
+
+-- the record that begins at a byte
+unfoldable pub recordAt : List ℕ → ℕ → List ℕ
+recordAt s at = take (u16 s at) (drop at s)
+
+-- a record of sheet `sheet` at a byte, after n classes, and k records of the open group whose last has kind b
+unfoldable pub place : ℕ → ℕ → ℕ → ℕ → ℕ → List ℕ → Located
+place sheet at n k b r = elim (isClass r) [
+  | true ↦ record { sheet = sheet; byte = at; class = n; recordNumber = 0; before = 0; grouped = true; bytes = r }
+  | false ↦ record { sheet = sheet; byte = at; class = n - 1; recordNumber = k; before = b; grouped = ltb 0 k; bytes = r }
+]
+
+-- the number that refuses what begins at a byte, or 0
+unfoldable pub recordNumber : ℕ → List ℕ → ℕ → ℕ → ℕ → ℕ
+recordNumber sheet s at n k = elim (wholeFirst (drop at s)) [ true ↦ numberOf (recordTests (place sheet at n k 0 (recordAt s at))) | false ↦ 2 ]
+
+-- ---- the whole pass
+
+-- 2 to 7 of one sheet, where n classes stand before it
+unfoldable pub passRefusal : ℕ → ℕ → List ℕ → Option Refusal
+passRefusal sheet n s = firstOf (recordRefusal sheet n s ∷ tornRefusal sheet s ∷ [])
+
+abbrev pub passOf : Option Refusal → ℕ → Pass
+passOf none n = Fine n
+passOf (some r) n = Refused (r .number) (r .byte)
+
+-- the row in which the byte of each CLASS record stands at its class's number; the first record begins at `at`, and n classes stand before it
+unfoldable pub fill : List ℕ → ℕ → ℕ → List (List ℕ) → List ℕ
+fill row n at [] = row
+fill row n at (r ∷ rs) = elim (isClass r) [ true ↦ fill (set row n at) (suc n) (at + length r) rs | false ↦ fill row n (at + length r) rs ]
+
+unfoldable pub filled : List ℕ → ℕ → List ℕ → List ℕ
+filled row n s = fill row n 0 (recordsOf s)
+
+-- what the pass makes of the row
+pub record Filled (o : Option Refusal) (n : ℕ) (s before after : List ℕ) : Type 0 where
+  pub long : length after ≡ length before
+  pub rows : o ≡ none → after ≡ filled before n s
