@@ -150,5 +150,7 @@ pub fn overlay(
     ensures markers { λ r. ⌜ r ≡ overlayOf (groupOf (now (library .entry)) (spliced (now (user .entry)) (now (group .entry)) cut)) c ⌝ }
     ensures memo { λ r. ⌜ Right (groupOf (now (library .entry)) (spliced (now (user .entry)) (now (group .entry)) cut)) (now (memo .exit)) ⌝ }
 {
-    closure(gathered(library, user, group, cut, starts, nlib, n, c, memo))
+    let open = gathered(library, user, group, cut, starts, nlib, n, c, memo);
+    let closed = closure(open);
+    closed
 }

@@ -99,17 +99,17 @@ module _ (sheet : ℕ) (s : List ℕ) (at c k : ℕ) (z : recordNumber sheet s a
 -- ---- the records from a byte on
 
 module _ {s : List ℕ} {at : ℕ} (w : Whole s at) where
-  end-step : wholeEnd (drop at s) ≡ u16 s at + wholeEnd (drop (at + u16 s at) s)
+  pub end-step : wholeEnd (drop at s) ≡ u16 s at + wholeEnd (drop (at + u16 s at) s)
   unfolding wholeEnd concat
   end-step = rw (records-here w, length-append, length-here w)
 
-  count-class : u16 s (at + 2) ≡ 1 → classCount (drop at s) ≡ suc (classCount (drop (at + u16 s at) s))
+  pub count-class : u16 s (at + 2) ≡ 1 → classCount (drop at s) ≡ suc (classCount (drop (at + u16 s at) s))
   unfolding classCount groupsOf
   count-class e =
       ap (λ (rs : List (List ℕ)). length (splitGroups rs .groups)) (records-here w)
       ∙ ap (λ (t : Split). length (t .groups)) (split-class (recordAt s at) (recordsOf (drop (at + u16 s at) s)) (class-here w e))
 
-  count-other : (u16 s (at + 2) ≡ 1 → ⊥) → classCount (drop at s) ≡ classCount (drop (at + u16 s at) s)
+  pub count-other : (u16 s (at + 2) ≡ 1 → ⊥) → classCount (drop at s) ≡ classCount (drop (at + u16 s at) s)
   unfolding classCount groupsOf
   count-other e =
       ap (λ (rs : List (List ℕ)). length (splitGroups rs .groups)) (records-here w)
@@ -124,11 +124,11 @@ module _ {s : List ℕ} {at : ℕ} (w : Whole s at) where
 
 -- bytes that begin with no whole record
 module _ (s : List ℕ) (e : wholeFirst s ≡ false) where
-  none-end : wholeEnd s ≡ 0
+  pub none-end : wholeEnd s ≡ 0
   unfolding wholeEnd concat
   none-end = rw (records-stop s e)
 
-  none-count : classCount s ≡ 0
+  pub none-count : classCount s ≡ 0
   unfolding classCount groupsOf
   none-count = ap (λ (rs : List (List ℕ)). length (splitGroups rs .groups)) (records-stop s e) ∙ (unfold splitGroups in refl)
 

@@ -148,7 +148,7 @@ classesAfter b n = elim b [ true ↦ suc n | false ↦ n ]
 unfoldable pub recordsAfter : Bool → ℕ → ℕ
 recordsAfter b k = elim b [ true ↦ 1 | false ↦ suc k ]
 
-locate-cons : (sheet at n k b : ℕ) (r : List ℕ) (rs : List (List ℕ))
+pub locate-cons : (sheet at n k b : ℕ) (r : List ℕ) (rs : List (List ℕ))
     → locate sheet at n k b (r ∷ rs) ≡ place sheet at n k b r ∷ locate sheet (at + length r) (classesAfter (isClass r) n) (recordsAfter (isClass r) k) (kind r) rs
 unfolding locate place classesAfter recordsAfter
 locate-cons sheet at n k b r rs = go (isClass r) refl

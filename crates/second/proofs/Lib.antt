@@ -1,0 +1,9 @@
+pub mod ByKind
+pub mod ByPlace
+pub mod Deciding
+pub mod Enclosing
+pub mod Leaves
+pub mod Names
+pub mod Passing
+pub mod Positions
+pub mod Sheets

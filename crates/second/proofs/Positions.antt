@@ -1,0 +1,116 @@
+-- What stands in the record that begins at a byte of a sheet, read at its place in the sheet.
+-- Assumes nothing.
+use mathlib.Core.Path.{_≡_, sym, ap, _∙_}
+use mathlib.Core.Bool.{true, not}
+use mathlib.Core.Logic.{_⊎_, inl, inr}
+use mathlib.Core.List.{List}
+use Prim.Native.Nat.{ℕ, _+_, _≤_, _<_}
+use native.Mathlib.Omega.{arith}
+use lib.Dec.{T, T-not, eqb, eqb→eq}
+use lib.ListN.{length, getD}
+use Rattle.spec.specs.Record.{u16, bit, kind, CLASS, IMPLEMENTS, FIELD, LOCAL, USES, BUILDS, MEMBER, REFERS, flags, superclass, encloser, target, index, tyAt, fieldTy, localTy, isStatic}
+use Rattle.theory.specs.Claims.{sheetOf}
+use Rattle.theory.proofs.Bools.{decide, true-t, eq→eqb}
+use Rattle.pass.specs.Pass.{recordAt, sizeFits}
+use Rattle.pass.proofs.Tables.{shortest, size-known, at-least}
+use Rattle.pass.proofs.Reading.{type-in}
+use Rattle.pass.proofs.Bodies.{length-fits}
+use Rattle.pass.proofs.Walk.{Whole, whole-at, u16-record, length-here, kind-here}
+use Rattle.groups.specs.Groups.{Indexed}
+use Rattle.groups.proofs.Classes.{library-sheet, user-sheet}
+use Rattle.second.specs.Second.{Sized}
+
+-- ---- a known kind that is none of the other seven is BUILDS
+
+no-kind : (n : ℕ) → sizeFits 0 n ≡ true → ⊥
+unfolding sizeFits
+no-kind n e = true-t e
+
+six-or-more : (k : ℕ) → (k ≡ 0 → ⊥) → (k ≡ 1 → ⊥) → (k ≡ 2 → ⊥) → (k ≡ 3 → ⊥) → (k ≡ 4 → ⊥) → (k ≡ 5 → ⊥) → 6 ≤ k
+six-or-more k n0 n1 n2 n3 n4 n5 = omega arith
+
+just-six : (k : ℕ) → 6 ≤ k → k < 9 → (k ≡ 7 → ⊥) → (k ≡ 8 → ⊥) → k ≡ 6
+just-six k l h n7 n8 = omega arith
+
+module _ {s : List ℕ} {at : ℕ} (z : Sized s at) where
+  -- ---- kind and length
+
+  whole : Whole s at
+  whole = whole-at s at (z .whole)
+
+  pub kind-at : kind (recordAt s at) ≡ u16 s (at + 2)
+  kind-at = kind-here whole
+
+  pub length-at : length (recordAt s at) ≡ u16 s at
+  length-at = length-here whole
+
+  pub ends-within : at + length (recordAt s at) ≤ length s
+  ends-within = omega (arith, length-at, whole)
+
+  fits : sizeFits (kind (recordAt s at)) (length (recordAt s at)) ≡ true
+  fits = sym (length-fits (recordAt s at)) ∙ z .size
+
+  -- as long as the shortest record of its kind
+  pub long-enough : (k : ℕ) → kind (recordAt s at) ≡ k → getD shortest k 0 ≤ u16 s at
+  long-enough k e = omega (arith, at-least k e fits, length-at)
+
+  pub last-kind : {k : ℕ} → k ≡ u16 s (at + 2) → (k ≡ CLASS → ⊥) → (k ≡ IMPLEMENTS → ⊥) → (k ≡ FIELD → ⊥) → (k ≡ LOCAL → ⊥) → (k ≡ USES → ⊥) → (k ≡ MEMBER → ⊥) → (k ≡ REFERS → ⊥)
+      → kind (recordAt s at) ≡ BUILDS
+  last-kind {k} e n1 n2 n3 n4 n5 n7 n8 =
+      let h = size-known (kind (recordAt s at)) (length (recordAt s at)) fits in
+      let n0 : k ≡ 0 → ⊥ = λ q. no-kind (length (recordAt s at)) (rw (kind-at, ← e, q) at fits) in
+      kind-at ∙ sym e ∙ just-six k (six-or-more k n0 n1 n2 n3 n4 n5) (rw (kind-at, ← e) at h) n7 n8
+
+  -- ---- what stands in it
+
+  word-at : (k i : ℕ) → kind (recordAt s at) ≡ k → i + 1 < getD shortest k 0 → u16 (recordAt s at) i ≡ u16 s (at + i)
+  word-at k i e h = u16-record s at i (omega (arith, long-enough k e))
+
+  type-at : (k i : ℕ) → kind (recordAt s at) ≡ k → i + 3 < getD shortest k 0 → tyAt (recordAt s at) i ≡ tyAt s (at + i)
+  unfolding recordAt
+  type-at k i e h = type-in s at (u16 s at) i (omega (arith, long-enough k e))
+
+  pub flags-at : kind (recordAt s at) ≡ CLASS → flags (recordAt s at) ≡ u16 s (at + 4)
+  unfolding flags
+  flags-at e = word-at CLASS 4 e (omega arith)
+
+  pub superclass-at : kind (recordAt s at) ≡ CLASS → superclass (recordAt s at) ≡ u16 s (at + 8)
+  unfolding superclass
+  superclass-at e = word-at CLASS 8 e (omega arith)
+
+  pub encloser-at : kind (recordAt s at) ≡ CLASS → encloser (recordAt s at) ≡ u16 s (at + 10)
+  unfolding encloser
+  encloser-at e = word-at CLASS 10 e (omega arith)
+
+  -- a record of a kind that has 6 bytes, or 8
+  pub target-at : (k : ℕ) → kind (recordAt s at) ≡ k → 6 ≤ getD shortest k 0 → target (recordAt s at) ≡ u16 s (at + 4)
+  unfolding target
+  target-at k e h = word-at k 4 e (omega arith)
+
+  pub index-at : (k : ℕ) → kind (recordAt s at) ≡ k → 8 ≤ getD shortest k 0 → index (recordAt s at) ≡ u16 s (at + 6)
+  unfolding index
+  index-at k e h = word-at k 6 e (omega arith)
+
+  pub static-at : kind (recordAt s at) ≡ FIELD → isStatic (recordAt s at) ≡ bit 2 (u16 s (at + 4))
+  unfolding isStatic flags
+  static-at e = ap (bit 2) (word-at FIELD 4 e (omega arith))
+
+  pub field-type-at : kind (recordAt s at) ≡ FIELD → fieldTy (recordAt s at) ≡ tyAt s (at + 6)
+  unfolding fieldTy
+  field-type-at e = type-at FIELD 6 e (omega arith)
+
+  pub local-type-at : kind (recordAt s at) ≡ LOCAL → localTy (recordAt s at) ≡ tyAt s (at + 4)
+  unfolding localTy
+  local-type-at e = type-at LOCAL 4 e (omega arith)
+
+-- ---- both sheets are short
+
+pub sheet-low : {library user : List ℕ} {nlib n : ℕ} {row : List ℕ} → Indexed library user nlib n row → (sheet : ℕ) → length (sheetOf library user sheet) ≤ 32768
+sheet-low {library} {user} x sheet = go (decide (eqb sheet 0))
+  where
+    go : T (eqb sheet 0) ⊎ T (not (eqb sheet 0)) → length (sheetOf library user sheet) ≤ 32768
+    go (inl t) = rw (library-sheet library user sheet (eqb→eq sheet 0 t)) (x .library-size)
+    go (inr t) = rw (user-sheet library user sheet (λ e. T-not (eqb sheet 0) t (eq→eqb e))) (x .user-size)
+
+pub at-low : {library user : List ℕ} {nlib n : ℕ} {row : List ℕ} → Indexed library user nlib n row → (sheet : ℕ) {at : ℕ} → Sized (sheetOf library user sheet) at → at + 4 ≤ 32768
+at-low {library} {user} x sheet {at} z = omega (arith, sheet-low x sheet, whole-at (sheetOf library user sheet) at (z .whole))

@@ -1,0 +1,83 @@
+-- The second pass by positions: the number that refuses a record by what it names.
+-- Assumes nothing.
+use mathlib.Core.Path.{_≡_}
+use mathlib.Core.Bool.{Bool, true, false, not, _&&_, _||_}
+use mathlib.Core.List.{List, _∷_, map}
+use mathlib.Core.Option.{Option}
+use Prim.Native.Nat.{ℕ, _+_}
+use lib.Dec.{eqb, leb, ltb}
+use lib.ListN.{length, drop}
+use Rattle.spec.specs.Lists.{firstOf, elem}
+use Rattle.spec.specs.Record.{bit, none16, flags, superclass, encloser, Ty, lengthFits, LOCAL, MEMBER}
+use Rattle.spec.specs.Sheet.{Group, locatedIn, wholeFirst, ofKind, isInterface}
+use Rattle.spec.specs.Classes.{enclosers}
+use Rattle.spec.specs.Refusals.{Refusal, refuseRecord, formTests, superclassFits, encloserFits, nameMet}
+use Rattle.pass.specs.Pass.{numberOf, recordAt}
+
+-- a whole record begins at a byte, and its length is one of its kind
+pub record Sized (s : List ℕ) (at : ℕ) : Type 0 where
+  pub whole : wholeFirst (drop at s) ≡ true
+  pub size : lengthFits (recordAt s at) ≡ true
+
+-- the number that refuses record r of class c in the second pass, or 0
+unfoldable pub formNumber : (ℕ → Group) → ℕ → ℕ → ℕ → List ℕ → ℕ
+formNumber g nlib n c r =
+    numberOf (formTests g nlib n (record { sheet = 0; byte = 0; class = c; recordNumber = 0; before = 0; grouped = true; bytes = r }))
+
+-- ---- by kind: 9 before 8 before 10
+
+-- 9 if the test fails, else what follows
+unfoldable pub nineUnless : Bool → ℕ → ℕ
+nineUnless b m = elim b [ true ↦ m | false ↦ 9 ]
+
+unfoldable pub eightUnless : Bool → ℕ → ℕ
+eightUnless b m = elim b [ true ↦ m | false ↦ 8 ]
+
+-- a superclass or an encloser is there, or none is named
+unfoldable pub thereOrNone : ℕ → ℕ → Bool
+thereOrNone n d = eqb d none16 || ltb d n
+
+-- a type's class is there
+unfoldable pub typeThere : ℕ → Ty → Bool
+typeThere n t = not (eqb (t .code) 0) || ltb (t .class) n
+
+unfoldable pub classNumber : (ℕ → Group) → ℕ → ℕ → ℕ → List ℕ → ℕ
+classNumber g nlib n c r =
+    nineUnless (thereOrNone n (superclass r))
+    (nineUnless (thereOrNone n (encloser r))
+    (eightUnless (not (eqb c 0 && bit 0 (flags r)))
+    (eightUnless (superclassFits g c r)
+    (eightUnless (encloserFits nlib c r)
+    (elim (nameMet g c r) [ true ↦ 10 | false ↦ 0 ])))))
+
+unfoldable pub implementsNumber : (ℕ → Group) → ℕ → ℕ → ℕ → ℕ
+implementsNumber g n c t = nineUnless (ltb t n) (eightUnless (ltb t c && isInterface (g t)) 0)
+
+unfoldable pub fieldNumber : (ℕ → Group) → ℕ → ℕ → Bool → Ty → ℕ
+fieldNumber g n c static t = nineUnless (typeThere n t) (eightUnless (static || not (isInterface (g c))) 0)
+
+unfoldable pub usesNumber : (ℕ → Group) → ℕ → ℕ → ℕ → ℕ → ℕ
+usesNumber g n c t i = nineUnless (ltb t n) (nineUnless (ltb i (length (ofKind LOCAL (g t)))) (eightUnless (elem t (c ∷ enclosers g c)) 0))
+
+unfoldable pub refersNumber : (ℕ → Group) → ℕ → ℕ → ℕ → ℕ
+refersNumber g n t i = nineUnless (ltb t n) (nineUnless (ltb i (length (ofKind MEMBER (g t)))) 0)
+
+-- the form of a CLASS record by its numbers: flags, superclass, encloser
+unfoldable pub superclassOk : (ℕ → Group) → ℕ → ℕ → ℕ → Bool
+superclassOk g c f up = elim (eqb c 0 || bit 0 f) [ true ↦ eqb up none16 | false ↦ ltb up c && not (isInterface (g up)) ]
+
+unfoldable pub encloserOk : ℕ → ℕ → ℕ → ℕ → Bool
+encloserOk nlib c f outer = elim (eqb outer none16) [ true ↦ not (bit 1 f) | false ↦ leb nlib c && leb nlib outer && ltb outer c ]
+
+-- how many classes stand before a sheet, and after a record
+unfoldable pub firstClass : ℕ → ℕ → ℕ
+firstClass nlib sheet = elim (eqb sheet 0) [ true ↦ 0 | false ↦ nlib ]
+
+unfoldable pub openedBy : ℕ → ℕ → ℕ
+openedBy k c = elim (eqb k 1) [ true ↦ c + 1 | false ↦ c ]
+
+-- ---- the whole
+
+-- 9, 8, 10 along the records of one sheet, where m classes stand before it
+unfoldable pub formIn : (ℕ → Group) → ℕ → ℕ → ℕ → ℕ → List ℕ → Option Refusal
+formIn g nlib n sheet m s = firstOf (map (λ l. refuseRecord l (formTests g nlib n l)) (locatedIn sheet m s))
