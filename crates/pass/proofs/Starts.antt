@@ -46,20 +46,20 @@ below row n at (r ∷ rs) j h = go (isClass r) refl (below (set row n at) (suc n
     go false e f g = rw (fill-other row n at r rs e) g
 
 -- the byte where the i-th group begins, where the first record begins at `at`
-unfoldable startFrom : ℕ → Split → ℕ → ℕ
+unfoldable pub startFrom : ℕ → Split → ℕ → ℕ
 startFrom at t i = at + length (concat (t .loose)) + length (concat (concat (take i (t .groups))))
 
-first-start : (at : ℕ) (r : List ℕ) (t : Split) → startFrom at (ontoClass r t) 0 ≡ at
+pub first-start : (at : ℕ) (r : List ℕ) (t : Split) → startFrom at (ontoClass r t) 0 ≡ at
 unfolding startFrom concat
 first-start at r t = omega arith
 
-next-start : (at i : ℕ) (r : List ℕ) (t : Split) → startFrom at (ontoClass r t) (suc i) ≡ startFrom (at + length r) t i
+pub next-start : (at i : ℕ) (r : List ℕ) (t : Split) → startFrom at (ontoClass r t) (suc i) ≡ startFrom (at + length r) t i
 unfolding startFrom concat
 next-start at i r t =
     let later : List (List ℕ) = concat (take i (t .groups)) in
     omega (arith, length-append r (concat (t .loose ++ later)), ap length (concat-append (t .loose) later), length-append (concat (t .loose)) (concat later))
 
-loose-start : (at i : ℕ) (r : List ℕ) (t : Split) → startFrom at (ontoLoose r t) i ≡ startFrom (at + length r) t i
+pub loose-start : (at i : ℕ) (r : List ℕ) (t : Split) → startFrom at (ontoLoose r t) i ≡ startFrom (at + length r) t i
 unfolding startFrom concat
 loose-start at i r t = omega (arith, length-append r (concat (t .loose)))
 
@@ -99,8 +99,12 @@ pub filled-below : (row : List ℕ) (n : ℕ) (s : List ℕ) (j : ℕ) → j < n
 unfolding filled
 filled-below row n s j h = below row n 0 (recordsOf s) j h
 
+-- where no record stands before the first CLASS record
+pub sheet-start : (s : List ℕ) → splitGroups (recordsOf s) .loose ≡ [] → (i : ℕ) → startFrom 0 (splitGroups (recordsOf s)) i ≡ groupStart s i
+unfolding groupsOf groupStart startFrom concat
+sheet-start s e i = omega (arith, ap (λ (rs : List (List ℕ)). length (concat rs)) e)
+
 pub filled-start : (row : List ℕ) (n : ℕ) (s : List ℕ) → splitGroups (recordsOf s) .loose ≡ [] → n + classCount s ≤ length row
     → (i : ℕ) → i < classCount s → getD (filled row n s) (n + i) 0 ≡ groupStart s i
-unfolding filled classCount groupsOf groupStart
-filled-start row n s e l i h =
-    right row n 0 (recordsOf s) i l h ∙ (unfold startFrom concat in omega (arith, ap (λ (rs : List (List ℕ)). length (concat rs)) e))
+unfolding filled classCount groupsOf
+filled-start row n s e l i h = right row n 0 (recordsOf s) i l h ∙ sheet-start s e i

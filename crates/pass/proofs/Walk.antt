@@ -159,7 +159,7 @@ locate-cons sheet at n k b r rs = go (isClass r) refl
     go false e = rw (e, locate, place)
 
 module _ {A : Type 0} where
-  first-only : (o : Option A) → firstOf (o ∷ []) ≡ o
+  pub first-only : (o : Option A) → firstOf (o ∷ []) ≡ o
   unfolding firstOf
   first-only none = refl
   first-only (some a) = refl

@@ -164,7 +164,7 @@ pub record Clear (sheet n : ℕ) (s : List ℕ) : Type 0 where
   pub loose : splitGroups (recordsOf s) .loose ≡ []
   pub few : n ≤ 256 → n + classCount s ≤ 256
 
-clear : (sheet n : ℕ) (s : List ℕ) → recordRefusal sheet n s ≡ none → tornRefusal sheet s ≡ none → Clear sheet n s
+pub clear : (sheet n : ℕ) (s : List ℕ) → recordRefusal sheet n s ≡ none → tornRefusal sheet s ≡ none → Clear sheet n s
 unfolding recordRefusal tornRefusal locatedIn classCount groupsOf
 clear sheet n s e e′ =
     let p : All Passed (locatedIn sheet n s) =
@@ -177,6 +177,16 @@ clear sheet n s e e′ =
       few = λ h. count-low sheet 0 n 0 0 (recordsOf s) h p;
     }
 
+-- what the second pass gives
+pub form-fits : (lib user : List ℕ) → formRefusal lib user ≡ none → (c : ℕ) → All (Fits (classCount lib) (total lib user) (group lib user) c) (group lib user c)
+unfolding formRefusal
+form-fits lib user e =
+    let tests : Located → List (ℕ × Bool) = formTests (group lib user) (classCount lib) (total lib user) in
+    by-class (Fits (classCount lib) (total lib user) (group lib user)) lib user
+    (weaken (λ l. refuseRecord l (tests l) ≡ none) (λ l. Fits (classCount lib) (total lib user) (group lib user) (l .class) (l .bytes))
+    (λ l k. fits (classCount lib) (total lib user) (group lib user) l (record-none l (tests l) k)) (located lib user)
+    (of-map (λ o. o ≡ none) (λ l. refuseRecord l (tests l)) (located lib user) (first-none _ e)))
+
 -- what acceptance gives
 pub record Sound (lib user : List ℕ) : Type 0 where
   pub librarySheet : Clear 0 0 lib
@@ -186,19 +196,15 @@ pub record Sound (lib user : List ℕ) : Type 0 where
   pub few : total lib user ≤ 256
 
 pub sound : (lib user : List ℕ) → sheetRefusal lib user ≡ none → Sound lib user
-unfolding sheetRefusal total formRefusal noClassRefusal
+unfolding sheetRefusal total noClassRefusal
 sound lib user e =
     let q = first-none _ e in
     let a = clear 0 0 lib (q .0) (q .1 .0) in
     let b = clear 1 (classCount lib) user (q .1 .1 .1 .0) (q .1 .1 .1 .1 .0) in
-    let tests : Located → List (ℕ × Bool) = formTests (group lib user) (classCount lib) (total lib user) in
     record {
       librarySheet = a;
       userSheet = b;
       some = if-none (eqb (classCount lib) 0) 7 0 (length lib) (q .1 .1 .0);
-      fits = by-class (Fits (classCount lib) (total lib user) (group lib user)) lib user
-          (weaken (λ l. refuseRecord l (tests l) ≡ none) (λ l. Fits (classCount lib) (total lib user) (group lib user) (l .class) (l .bytes))
-          (λ l k. fits (classCount lib) (total lib user) (group lib user) l (record-none l (tests l) k)) (located lib user)
-          (of-map (λ o. o ≡ none) (λ l. refuseRecord l (tests l)) (located lib user) (first-none _ (q .1 .1 .1 .1 .1 .0))));
+      fits = form-fits lib user (q .1 .1 .1 .1 .1 .0);
       few = b .few (omega (arith, a .few zero-le, zero-add (classCount lib)));
     }

@@ -26,13 +26,13 @@ gives-weaken P Q f none h = tt
 gives-weaken P Q f (some a) h = f a h
 
 module _ (P : Refusal → Type 0) where
-  gives-if : (b : Bool) (n s byte : ℕ) → (T b → P (record { number = n; sheet = s; byte = byte })) → Gives P (refuseIf b n s byte)
+  pub gives-if : (b : Bool) (n s byte : ℕ) → (T b → P (record { number = n; sheet = s; byte = byte })) → Gives P (refuseIf b n s byte)
   unfolding refuseIf
   gives-if true n s byte h = h tt
   gives-if false n s byte h = tt
 
   -- a record is refused with the number of one of the tests, at its own place
-  gives-record : (l : Located) (tests : List (ℕ × Bool)) → All (λ t. P (record { number = t .0; sheet = l .sheet; byte = l .byte })) tests → Gives P (refuseRecord l tests)
+  pub gives-record : (l : Located) (tests : List (ℕ × Bool)) → All (λ t. P (record { number = t .0; sheet = l .sheet; byte = l .byte })) tests → Gives P (refuseRecord l tests)
   unfolding refuseRecord
   gives-record l tests h =
       gives-first P _ (gives-map P (λ t. refuseIf (t .1) (t .0) (l .sheet) (l .byte)) tests
@@ -42,11 +42,11 @@ module _ (P : Refusal → Type 0) where
 -- ---- where located records begin
 
 -- l is in sheet s, and begins where one of the records does that stand from a byte on
-record Among (s from : ℕ) (rs : List (List ℕ)) (l : Located) : Type 0 where
-  number : ℕ
-  sheet : l .sheet ≡ s
-  there : number < length rs
-  sum : l .byte ≡ from + length (concat (take number rs))
+pub record Among (s from : ℕ) (rs : List (List ℕ)) (l : Located) : Type 0 where
+  pub number : ℕ
+  pub sheet : l .sheet ≡ s
+  pub there : number < length rs
+  pub sum : l .byte ≡ from + length (concat (take number rs))
 
 among-cons : (s from : ℕ) (r : List ℕ) (rs : List (List ℕ)) (l : Located) (ls : List Located) → l .sheet ≡ s → l .byte ≡ from
     → All (Among s (from + length r) rs) ls → All (Among s from (r ∷ rs)) (l ∷ ls)
@@ -59,7 +59,7 @@ among-cons s from r rs l ls e e′ h = (
       ls h,
 )
 
-locate-among : (s from n k b : ℕ) (rs : List (List ℕ)) → All (Among s from rs) (locate s from n k b rs)
+pub locate-among : (s from n k b : ℕ) (rs : List (List ℕ)) → All (Among s from rs) (locate s from n k b rs)
 unfolding locate
 locate-among s from n k b [] = tt
 locate-among s from n k b (r ∷ rs) =

@@ -1,0 +1,228 @@
+-- The second pass of both sheets, the deemed markers and the size of the sheets: what each end of them says of all refusals.
+-- Assumes nothing.
+use mathlib.Core.Path.{_≡_, refl, sym, ap, _∙_, subst}
+use mathlib.Core.Bool.{Bool, true, false, _||_}
+use mathlib.Core.List.{List, [], _∷_, _++_, map}
+use mathlib.Core.Option.{Option, none, some}
+use Prim.Native.Nat.{ℕ, _+_, _<_}
+use native.Mathlib.Omega.{arith}
+use lib.Dec.{ltb}
+use lib.ListN.{length, take, replicate}
+use borrow.Author.Tests.{lt-ltb, le-ltb}
+use Rattle.spec.specs.Lists.{firstOf}
+use Rattle.spec.specs.Sheet.{Group, classCount, total, group, groupStart, locatedIn, located}
+use Rattle.spec.specs.Refusals.{Refusal, refuseIf, refuseRecord, formTests, deemedTests, recordRefusal, tornRefusal, noClassRefusal, formRefusal, deemedRefusal, sheetRefusal, sizeRefusal, presentRefusal}
+use Rattle.theory.proofs.Bools.{nltb}
+use Rattle.theory.proofs.Answers.{some≢none, keep-head, none-if, Gives}
+use Rattle.theory.proofs.Accept.{form-fits}
+use Rattle.theory.proofs.Falls.{Falls, falls}
+use Rattle.pass.specs.Pass.{passOf}
+use Rattle.pass.specs.declared.Pass.{Pass}
+use Rattle.pass.specs.declared.Pass.the-variants.{Fine as Passes, Refused as Stops}
+use Rattle.pass.proofs.Walk.{first-only, first-past, first-some}
+use Rattle.groups.specs.Groups.{startOf, Indexed}
+use Rattle.groups.proofs.Classes.{in-library}
+use Rattle.overlay.specs.Memo.{Right}
+use Rattle.overlay.proofs.Recursion.{memo-new}
+use Rattle.second.specs.Second.{formIn, firstClass}
+use Rattle.form.specs.Form.{firstDeemed, passesRefusal, laterRefusal, Starts, Ready, checkedOf}
+use Rattle.form.specs.declared.Checked.{Checked}
+use Rattle.form.specs.declared.Checked.the-variants.{Fine, Refused}
+use Rattle.form.proofs.Passes.{first-append, Names, along-names, passes-none, stops-some}
+use Rattle.form.proofs.DeemedRecords.{answer, library-deemed, user-deemed}
+
+-- ---- answers along two sheets
+
+map-append : {A B : Type 0} (f : A → B) (xs ys : List A) → map f (xs ++ ys) ≡ map f xs ++ map f ys
+map-append f [] ys = refl
+map-append {A} {B} f (x ∷ xs) ys = ap (λ (l : List B). f x ∷ l) (map-append f xs ys)
+
+first-split : {A B : Type 0} (f : A → Option B) (xs ys : List A) → firstOf (map f (xs ++ ys)) ≡ firstOf (firstOf (map f xs) ∷ firstOf (map f ys) ∷ [])
+first-split f xs ys = ap firstOf (map-append f xs ys) ∙ first-append (map f xs) (map f ys) ∙ keep-head _ _ _ (sym (first-only _))
+
+-- ---- the second pass
+
+module _ (library user : List ℕ) where
+  pub form-parts : formRefusal library user
+      ≡ firstOf
+      (formIn (group library user) (classCount library) (total library user) 0 0 library
+      ∷ formIn (group library user) (classCount library) (total library user) 1 (classCount library) user
+      ∷ [])
+  unfolding formRefusal formIn located
+  form-parts = first-split (λ l. refuseRecord l (formTests (group library user) (classCount library) (total library user) l)) (locatedIn 0 0 library) (locatedIn 1 (classCount library) user)
+
+  pub form-falls : formRefusal library user ≡ none → Falls (group library user)
+  form-falls e = falls (classCount library) (total library user) (group library user) (form-fits library user e)
+
+  -- ---- the deemed markers
+
+  deemed-parts : deemedRefusal library user
+      ≡ firstOf
+      (firstOf (map (answer (group library user) (classCount library)) (locatedIn 0 0 library))
+      ∷ firstOf (map (answer (group library user) (classCount library)) (locatedIn 1 (classCount library) user))
+      ∷ [])
+  unfolding deemedRefusal answer located
+  deemed-parts = first-split (λ l. refuseRecord l (deemedTests (group library user) (classCount library) l)) (locatedIn 0 0 library) (locatedIn 1 (classCount library) user)
+
+  -- ---- the whole
+
+  pub sheet-parts : sheetRefusal library user ≡ firstOf (passesRefusal library user ∷ laterRefusal library user ∷ [])
+  unfolding sheetRefusal passesRefusal laterRefusal
+  sheet-parts =
+      first-append
+      (recordRefusal 0 0 library ∷ tornRefusal 0 library ∷ noClassRefusal library ∷ recordRefusal 1 (classCount library) user ∷ tornRefusal 1 user ∷ []) _
+      ∙ keep-head _ _ _ (first-append (formRefusal library user ∷ deemedRefusal library user ∷ []) [])
+
+-- ---- later: 9, 8, 10 and 11, where both sheets passed
+
+form-names : (library user : List ℕ) (nlib n sheet m : ℕ) (s : List ℕ) → Gives (Names sheet) (formIn (group library user) nlib n sheet m s)
+unfolding formIn
+form-names library user nlib n sheet m s = along-names (formTests (group library user) nlib n) sheet m s
+
+module _ {library user : List ℕ} {nlib n : ℕ} {row : List ℕ} (x : Indexed library user nlib n row) where
+  form-sheets : formRefusal library user
+      ≡ firstOf (formIn (group library user) nlib n 0 (firstClass nlib 0) library ∷ formIn (group library user) nlib n 1 (firstClass nlib 1) user ∷ [])
+  unfolding firstClass
+  form-sheets = rw (x .nlib-is, x .n-is) (form-parts library user)
+
+  first-deemed : firstDeemed (group library user) nlib ≡ firstDeemed (group library user) (classCount library)
+  first-deemed = ap (firstDeemed (group library user)) (x .nlib-is)
+
+  module _ {c : ℕ} (e : c ≡ firstDeemed (group library user) nlib) where
+    deemed-at : deemedRefusal library user ≡ firstOf (refuseIf (ltb c nlib) 11 0 (groupStart library c) ∷ none ∷ [])
+    deemed-at =
+        let q = e ∙ first-deemed in
+        deemed-parts library user
+        ∙ rw (library-deemed (group library user) (classCount library) library (x .library-clear .loose) refl, user-deemed (group library user) (classCount library) user, ← q, ← (x .nlib-is))
+
+    pub deemed-found : c < nlib → {b : ℕ} → b ≡ startOf library user c → deemedRefusal library user ≡ some (record { number = 11; sheet = 0; byte = b })
+    unfolding refuseIf firstOf
+    deemed-found h eb = deemed-at ∙ rw (lt-ltb c nlib h, eb, in-library x h .start)
+
+    pub deemed-none : (c < nlib → ⊥) → deemedRefusal library user ≡ none
+    unfolding refuseIf firstOf
+    deemed-none h = deemed-at ∙ rw (le-ltb c nlib (omega arith))
+
+  -- the second pass of the library sheet ended with p
+  module _ {p : Pass} (ep : p ≡ passOf (formIn (group library user) nlib n 0 (firstClass nlib 0) library) (firstClass nlib 0 + classCount library)) where
+    pub later-first : {number byte : ℕ} {memo : List ℕ} → p ≡ Stops number byte → Right (group library user) memo
+        → (Refused number 0 byte ≡ checkedOf (laterRefusal library user) nlib n) × Right (group library user) memo
+    unfolding laterRefusal
+    later-first f r =
+        let o = first-some _ (stops-some _ _ (form-names library user nlib n 0 (firstClass nlib 0) library) (sym f ∙ ep)) in
+        (rw (first-some (deemedRefusal library user ∷ []) (form-sheets ∙ o)), r)
+
+    -- and that of the user sheet with q
+    module _ {k : ℕ} (fp : p ≡ Passes k) {q : Pass} (eq : q ≡ passOf (formIn (group library user) nlib n 1 (firstClass nlib 1) user) (firstClass nlib 1 + classCount user)) where
+      library-fits : formIn (group library user) nlib n 0 (firstClass nlib 0) library ≡ none
+      library-fits = passes-none (formIn (group library user) nlib n 0 (firstClass nlib 0) library) (sym fp ∙ ep) .0
+
+      pub later-second : {number byte : ℕ} {memo : List ℕ} → q ≡ Stops number byte → Right (group library user) memo
+          → (Refused number 1 byte ≡ checkedOf (laterRefusal library user) nlib n) × Right (group library user) memo
+      unfolding laterRefusal
+      later-second f r =
+          let o = stops-some _ _ (form-names library user nlib n 1 (firstClass nlib 1) user) (sym f ∙ eq) in
+          (rw (first-some (deemedRefusal library user ∷ []) (form-sheets ∙ first-past _ _ library-fits ∙ o)), r)
+
+      module _ {m : ℕ} (fq : q ≡ Passes m) where
+        form-none : formRefusal library user ≡ none
+        form-none =
+            form-sheets ∙ first-past _ _ library-fits ∙ passes-none (formIn (group library user) nlib n 1 (firstClass nlib 1) user) (sym fq ∙ eq) .0
+
+        pub later-falls : Falls (group library user)
+        later-falls = form-falls library user form-none
+
+        then-deemed : laterRefusal library user ≡ deemedRefusal library user
+        unfolding laterRefusal
+        then-deemed = first-past _ _ form-none
+
+        module _ {c : ℕ} {memo : List ℕ} (h : (c ≡ firstDeemed (group library user) nlib) × Right (group library user) memo) where
+          pub later-deemed : c < nlib → {b : ℕ} → b ≡ startOf library user c → (Refused 11 0 b ≡ checkedOf (laterRefusal library user) nlib n) × Right (group library user) memo
+          later-deemed l e = (rw (then-deemed ∙ deemed-found (h .0) l e), h .1)
+
+          pub later-fine : (c < nlib → ⊥) → (Fine nlib n ≡ checkedOf (laterRefusal library user) nlib n) × Right (group library user) memo
+          later-fine l = (rw (then-deemed ∙ deemed-none (h .0) l), h .1)
+
+-- ---- check: 2 to 11
+
+-- a memo that knows nothing is right
+pub memo-fresh : (g : ℕ → Group) {memo : List ℕ} → memo ≡ replicate 256 65535 → Right g memo
+memo-fresh g e = subst (Right g) (sym e) (memo-new g)
+
+pub fine-none : (o : Option Refusal) {k m a b : ℕ} → Fine k m ≡ checkedOf o a b → (o ≡ none) × ((k ≡ a) × (m ≡ b))
+fine-none none e = (refl, (cc, cc))
+fine-none (some r) e = absurd (let z : _≡_ {A = ℕ} 0 1 = cc in omega arith)
+
+refused-some : (o : Option Refusal) (a b : ℕ) {number sheet byte : ℕ} → Refused number sheet byte ≡ checkedOf o a b → (r : Refusal) × (o ≡ some r)
+refused-some none a b e = absurd (let z : _≡_ {A = ℕ} 0 1 = cc in omega arith)
+refused-some (some r) a b e = (r, refl)
+
+module _ {library user row : List ℕ} {p : Checked} (e : (p ≡ checkedOf (passesRefusal library user) (classCount library) (total library user)) × Starts library user row) where
+  module _ {k m : ℕ} (f : p ≡ Fine k m) where
+    all-passed : (passesRefusal library user ≡ none) × ((k ≡ classCount library) × (m ≡ total library user))
+    all-passed = fine-none (passesRefusal library user) (sym f ∙ e .0)
+
+    pub check-indexed : Indexed library user k m row
+    check-indexed = rw (all-passed .1 .0, all-passed .1 .1) (e .1 .indexed (all-passed .0))
+
+    pub check-later : {r : Checked} {memo : List ℕ} → (r ≡ checkedOf (laterRefusal library user) k m) × Right (group library user) memo
+        → (r ≡ checkedOf (sheetRefusal library user) (classCount library) (total library user)) × Ready library user row memo
+    check-later {r} h =
+        let o : sheetRefusal library user ≡ laterRefusal library user = sheet-parts library user ∙ first-past _ _ (all-passed .0) in (
+          rw (o, ← (all-passed .1 .0), ← (all-passed .1 .1)) (h .0),
+          record { long = e .1 .long; indexed = λ _. e .1 .indexed (all-passed .0); right = λ _. h .1 },
+        )
+
+  pub check-passed : {number sheet byte : ℕ} (memo : List ℕ) → p ≡ Refused number sheet byte
+      → (p ≡ checkedOf (sheetRefusal library user) (classCount library) (total library user)) × Ready library user row memo
+  check-passed memo f =
+      let q = refused-some (passesRefusal library user) (classCount library) (total library user) (sym f ∙ e .0) in
+      let o = sheet-parts library user ∙ first-some _ (q .1) in (
+        e .0 ∙ rw (q .1, o),
+        record { long = e .1 .long; indexed = λ n. absurd (some≢none _ (sym o ∙ n)); right = λ n. absurd (some≢none _ (sym o ∙ n)) },
+      )
+
+-- ---- present: 1 to 11
+
+module _ (library user : List ℕ) (used : ℕ) where
+  -- what a call of the present sheets answers
+  abbrev pub Presents : Checked → List ℕ → List ℕ → Type 0
+  Presents p row memo =
+      (p ≡ checkedOf (presentRefusal library user used) (classCount library) (total library (take used user)))
+      × (presentRefusal library user used ≡ none → Ready library (take used user) row memo)
+
+  refused : {r : Refusal} {row memo : List ℕ} → presentRefusal library user used ≡ some r → Presents (Refused (r .number) (r .sheet) (r .byte)) row memo
+  refused o = (rw o, λ n. absurd (some≢none _ (sym o ∙ n)))
+
+  size-first : {r : Refusal} → sizeRefusal library user used ≡ some r → presentRefusal library user used ≡ some r
+  unfolding presentRefusal
+  size-first e = first-some _ e
+
+  pub library-long : {row memo : List ℕ} → 32768 < length library → Presents (Refused 1 0 0) row memo
+  unfolding sizeRefusal refuseIf firstOf
+  library-long h = refused (size-first (let o : sizeRefusal library user used ≡ some (record { number = 1; sheet = 0; byte = 0 }) = rw (lt-ltb 32768 (length library) h) in o))
+
+  module _ (l : 32768 < length library → ⊥) where
+    user-size : (b : Bool) → (ltb 32768 used || ltb (length user) used) ≡ b → sizeRefusal library user used ≡ refuseIf b 1 1 0
+    unfolding sizeRefusal
+    user-size b e = first-past _ _ (none-if (ltb 32768 (length library)) 1 0 0 (nltb 32768 (length library) (omega arith))) ∙ rw e
+
+    pub used-long : {row memo : List ℕ} → 32768 < used → Presents (Refused 1 1 0) row memo
+    unfolding refuseIf
+    used-long h = refused (size-first (user-size true (rw (lt-ltb 32768 used h))))
+
+    module _ (u : 32768 < used → ⊥) where
+      pub used-past : {row memo : List ℕ} → length user < used → Presents (Refused 1 1 0) row memo
+      unfolding refuseIf
+      used-past h = refused (size-first (user-size true (rw (le-ltb 32768 used (omega arith), lt-ltb (length user) used h))))
+
+      module _ (t : length user < used → ⊥) where
+        size-none : presentRefusal library user used ≡ sheetRefusal library (take used user)
+        unfolding presentRefusal refuseIf
+        size-none = first-past _ _ (user-size false (rw (le-ltb 32768 used (omega arith), le-ltb (length user) used (omega arith))))
+
+        pub present-is : {p : Checked} {row memo : List ℕ} (s : List ℕ) → s ≡ take used user
+            → (p ≡ checkedOf (sheetRefusal library s) (classCount library) (total library s)) × Ready library s row memo → Presents p row memo
+        present-is {p} {row} {memo} s e h =
+            let q = subst (λ (v : List ℕ). (p ≡ checkedOf (sheetRefusal library v) (classCount library) (total library v)) × Ready library v row memo) e h in
+            (q .0 ∙ rw size-none, λ _. q .1)

@@ -1,0 +1,4 @@
+pub mod Deeming
+pub mod Passes
+pub mod DeemedRecords
+pub mod Accepting

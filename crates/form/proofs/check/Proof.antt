@@ -1,0 +1,58 @@
+use borrow.Author.Needs.{needs}
+use mathlib.Core.List.{List}
+use Prim.Native.Nat.{ℕ}
+use Rattle.view.specs.View.{spliced}
+use Rattle.form.proofs.Accepting.{memo-fresh, check-indexed, check-later, check-passed}
+use Rattle.form.proofs.check.Statement.{statement}
+use Rattle.form.proofs.check.Tie as tie
+use Rattle.form.proofs.check.Reads as reads
+use Rattle.form.proofs.check.Lts as lts
+use Rattle.form.proofs.both_passes.Reads as both-passes-reads
+use Rattle.form.proofs.later.Reads as later-reads
+
+both-passes-requires : tie.Need-both-passes-requires
+both-passes-requires c κs = search needs
+
+enum-known-passed : tie.Need-enum-known-passed
+enum-known-passed c = search needs
+
+-- the user sheet that the parameters stand for
+abbrev user-sheet : tie.Start → List ℕ
+user-sheet c = spliced (c .args .user .now) (c .args .group .now) (c .args .cut)
+
+later-requires : tie.Need-later-requires
+later-requires c κs =
+    let p = c .before .before .before .before .before .before .before .before .before .before .before .before .before .before .pre in
+    (p .0, (check-indexed {user = user-sheet (c .before .before .before .before .before .before .before .before .before .before .before .before .before .before)} (c .before .before .before .before .before .before .before .both-passes .ensures) (c .before .before .before .passed .given .1), memo-fresh _ (p .1 .1 .1)))
+
+same-length : tie.Need-same-length
+same-length c = search needs
+
+same-length-2 : tie.Need-same-length-2
+same-length-2 c = search needs
+
+returns : tie.Need-returns
+returns c = check-later (c .before .before .before .before .before .before .before .before .before .before .both-passes .ensures) (c .before .before .before .before .before .before .passed .given .1) (c .before .before .later .ensures)
+
+enum-told : tie.Need-enum-told
+enum-told c = search needs
+
+same-length-3 : tie.Need-same-length-3
+same-length-3 c = search needs
+
+returns-2 : tie.Need-returns-2
+returns-2 c = check-passed (c .before .before .before .before .both-passes .ensures) _ (c .enum-told .given .1)
+
+pub check-spec : {M : Type 1} → statement M
+check-spec =
+    tie.close
+    (tie.spec
+    both-passes-requires
+    enum-known-passed
+    later-requires
+    same-length
+    same-length-2
+    returns
+    enum-told
+    same-length-3
+    returns-2)

@@ -1,0 +1,68 @@
+use borrow.Author.Needs.{needs}
+use Prim.Native.Nat.{_-_}
+use native.Mathlib.Omega.{arith}
+use mathlib.Core.Path.{sym, _∙_}
+use Rattle.spec.specs.Sheet.{group as groupOf}
+use Rattle.view.specs.View.{spliced}
+use Rattle.form.proofs.Deeming.{Deeming, library-class, deem-begin, deem-stop, deem-on, deem-end}
+use Rattle.form.proofs.deemed.Statement.{statement}
+use Rattle.form.proofs.deemed.Tie as tie
+use Rattle.form.proofs.deemed.Reads as reads
+use Rattle.form.proofs.deemed.Lts as lts
+use Rattle.form.proofs.deemed_breaks.Reads as deemed-breaks-reads
+use Rattle.overlay.proofs.overlay.Reads as overlay-reads
+
+abbrev Inv-loop : tie.InvT-loop
+Inv-loop library user group cut starts nlib n memo₀ c₀ memo c = Deeming (groupOf library (spliced user group cut)) nlib memo c
+
+abbrev μ-loop : tie.MeasureT-loop
+μ-loop library user group cut starts nlib n memo₀ c₀ memo c = nlib - c
+
+loop-holds : tie.Need-loop-holds Inv-loop μ-loop
+loop-holds c = deem-begin (c .before .before .before .before .before .pre .1 .1 .1)
+
+overlay-requires : tie.Need-overlay-requires Inv-loop μ-loop
+overlay-requires c κs =
+    let p = c .before .before .before .before .before .before .before .before .pre in
+    (p .0, (p .1 .0, (p .1 .1 .0, (library-class (p .1 .0) (c .before .loop-test .taken), c .before .before .loop .inv .right))))
+
+deemed-breaks-requires : tie.Need-deemed-breaks-requires Inv-loop μ-loop
+deemed-breaks-requires c κs = search needs
+
+same-length : tie.Need-same-length Inv-loop μ-loop
+same-length c = c .before .before .before .before .overlay .ensures .1 .long ∙ sym (c .before .before .before .before .before .before .before .before .before .before .before .before .before .pre .1 .1 .1 .long)
+
+returns : tie.Need-returns Inv-loop μ-loop
+returns c = deem-stop (c .before .before .before .before .before .before .before .loop .inv) (c .before .before .before .before .before .before .loop-test .taken) (c .before .before .before .before .overlay .ensures .0) (c .before .deemed-breaks .ensures) (c .before .before .before .before .overlay .ensures .1) (c .if1 .taken)
+
+add-c : tie.Need-add-c Inv-loop μ-loop
+add-c c = omega arith
+
+loop-less : tie.Need-loop-less Inv-loop μ-loop
+loop-less c = omega arith
+
+loop-again : tie.Need-loop-again Inv-loop μ-loop
+loop-again c = deem-on (c .before .before .before .before .before .before .before .loop .inv) (c .before .before .before .before .before .before .loop-test .taken) (c .before .before .before .before .overlay .ensures .0) (c .before .deemed-breaks .ensures) (c .before .before .before .before .overlay .ensures .1) (c .if1 .left)
+
+same-length-2 : tie.Need-same-length-2 Inv-loop μ-loop
+same-length-2 c = c .before .loop .inv .right .long ∙ sym (c .before .before .before .before .before .before .before .pre .1 .1 .1 .long)
+
+returns-2 : tie.Need-returns-2 Inv-loop μ-loop
+returns-2 c = deem-end (c .before .loop .inv) (omega arith)
+
+pub deemed-spec : {M : Type 1} → statement M
+deemed-spec =
+    tie.close
+    (tie.spec
+    Inv-loop
+    μ-loop
+    loop-holds
+    overlay-requires
+    deemed-breaks-requires
+    same-length
+    returns
+    add-c
+    loop-less
+    loop-again
+    same-length-2
+    returns-2)

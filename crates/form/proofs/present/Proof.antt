@@ -1,0 +1,60 @@
+use borrow.Author.Needs.{needs}
+use native.Mathlib.Nat.{le-refl}
+use native.Mathlib.Omega.{arith}
+use mathlib.Core.Path.{ap}
+use lib.ListN.{length, length-take}
+use Rattle.view.proofs.Splice.{plain}
+use Rattle.form.proofs.Accepting.{library-long, used-long, used-past, present-is}
+use Rattle.form.proofs.present.Statement.{statement}
+use Rattle.form.proofs.present.Tie as tie
+use Rattle.form.proofs.present.Reads as reads
+use Rattle.form.proofs.present.Lts as lts
+use Rattle.form.proofs.check.Reads as check-reads
+
+returns : tie.Need-returns
+returns c = library-long _ _ _ (omega arith)
+
+returns-2 : tie.Need-returns-2
+returns-2 c = used-long _ _ _ (omega arith) (omega arith)
+
+returns-3 : tie.Need-returns-3
+returns-3 c = used-past _ _ _ (omega arith) (omega arith) (omega arith)
+
+sub-check : tie.Need-sub-check
+sub-check c = search needs
+
+part-check-start : tie.Need-part-check-start
+part-check-start c = search needs
+
+part-check-end : tie.Need-part-check-end
+part-check-end c = search needs
+
+check-requires : tie.Need-check-requires
+check-requires c κs =
+    let u = c .before .before .before .before .before .before .before .before .before .before .args .user .now in
+    let p = c .before .before .before .before .before .before .before .before .before .before .pre in
+    (record { ordered = le-refl _; within = le-refl _; there = omega arith }, ((omega arith, omega (arith, ap length (plain u (c .before .before .before .before .before .before .before .before .before .before .args .used)), length-take (c .before .before .before .before .before .before .before .before .before .before .args .used) u)), (p .0, p .1)))
+
+same-length : tie.Need-same-length
+same-length c = search needs
+
+same-length-2 : tie.Need-same-length-2
+same-length-2 c = search needs
+
+returns-4 : tie.Need-returns-4
+returns-4 c = present-is _ _ _ (omega arith) (omega arith) (omega arith) _ (plain (c .before .before .before .before .before .before .before .before .before .before .before .before .before .before .before .args .user .now) (c .before .before .before .before .before .before .before .before .before .before .before .before .before .before .before .args .used)) (c .before .before .before .before .check .ensures)
+
+pub present-spec : {M : Type 1} → statement M
+present-spec =
+    tie.close
+    (tie.spec
+    returns
+    returns-2
+    returns-3
+    sub-check
+    part-check-start
+    part-check-end
+    check-requires
+    same-length
+    same-length-2
+    returns-4)

@@ -1,0 +1,61 @@
+-- The deemed markers by class number, and how the whole acceptance ends.
+-- Assumes nothing.
+use mathlib.Core.Path.{_≡_}
+use mathlib.Core.Bool.{Bool, true, false, not, _&&_, _||_}
+use mathlib.Core.List.{List, [], _∷_}
+use mathlib.Core.Option.{Option, none, some}
+use Prim.Native.Nat.{ℕ, zero, suc, _+_}
+use lib.Dec.{eqb}
+use lib.ListN.{length}
+use Rattle.spec.specs.Lists.{firstOf}
+use Rattle.spec.specs.Sheet.{Group, classCount, total, group}
+use Rattle.spec.specs.Markers.{clash}
+use Rattle.spec.specs.Classes.{overlay}
+use Rattle.spec.specs.Refusals.{Refusal, recordRefusal, tornRefusal, noClassRefusal, formRefusal, deemedRefusal, sheetRefusal}
+use Rattle.groups.specs.Groups.{Indexed}
+use Rattle.overlay.specs.Memo.{Right}
+use Rattle.form.specs.declared.Checked.{Checked}
+use Rattle.form.specs.declared.Checked.the-variants.{Fine, Refused}
+
+-- 11: the deemed markers m of class c clash, or it is class 0 and has any
+unfoldable pub deemedBreaks : ℕ → ℕ → Bool
+deemedBreaks c m = clash m || (eqb c 0 && not (eqb m 0))
+
+-- the first class from c on, of k, whose deemed markers are refused, or the one after the last
+unfoldable pub deemedFrom : (ℕ → Group) → ℕ → ℕ → ℕ
+deemedFrom g c zero = c
+deemedFrom g c (suc k) = elim (deemedBreaks c (overlay g c)) [ true ↦ c | false ↦ deemedFrom g (c + 1) k ]
+
+unfoldable pub firstDeemed : (ℕ → Group) → ℕ → ℕ
+firstDeemed g nlib = deemedFrom g 0 nlib
+
+-- ---- the whole
+
+-- 2 to 7 of two sheets, and 8 to 11
+unfoldable pub passesRefusal : List ℕ → List ℕ → Option Refusal
+passesRefusal library user =
+    firstOf
+    (recordRefusal 0 0 library
+    ∷ tornRefusal 0 library
+    ∷ noClassRefusal library
+    ∷ recordRefusal 1 (classCount library) user
+    ∷ tornRefusal 1 user
+    ∷ [])
+
+unfoldable pub laterRefusal : List ℕ → List ℕ → Option Refusal
+laterRefusal library user = firstOf (formRefusal library user ∷ deemedRefusal library user ∷ [])
+
+-- where nothing is refused by 2 to 7, the row is right
+pub record Starts (library user row : List ℕ) : Type 0 where
+  pub long : length row ≡ 256
+  pub indexed : passesRefusal library user ≡ none → Indexed library user (classCount library) (total library user) row
+
+-- where nothing is refused, row and memo are right
+pub record Ready (library user row memo : List ℕ) : Type 0 where
+  pub long : length row ≡ 256
+  pub indexed : sheetRefusal library user ≡ none → Indexed library user (classCount library) (total library user) row
+  pub right : sheetRefusal library user ≡ none → Right (group library user) memo
+
+abbrev pub checkedOf : Option Refusal → ℕ → ℕ → Checked
+checkedOf none nlib n = Fine nlib n
+checkedOf (some r) nlib n = Refused (r .number) (r .sheet) (r .byte)

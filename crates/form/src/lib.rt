@@ -1,0 +1,185 @@
+// Acceptance: the deemed markers (11), and all of 1 to 11 of a library sheet and a view.
+use groups::group_start;
+use markers::clash;
+use overlay::overlay;
+use pass::Pass;
+use pass::first_pass;
+use second::second_pass;
+use view::Cut;
+ghost use mathlib.Core.Path.{_≡_};
+ghost use mathlib.Core.Option.{none};
+ghost use Prim.Native.Nat.{_≤_};
+ghost use lib.ListN.{length, take, replicate};
+ghost use Rattle.spec.specs.Sheet.{group as groupOf, classCount, total};
+ghost use Rattle.spec.specs.Refusals.{sheetRefusal, presentRefusal};
+ghost use Rattle.theory.proofs.Falls.{Falls};
+ghost use Rattle.view.specs.View.{Fits, spliced};
+ghost use Rattle.groups.specs.Groups.{Indexed};
+ghost use Rattle.overlay.specs.Memo.{Right};
+ghost use Rattle.form.specs.Form.{deemedBreaks, firstDeemed, passesRefusal, laterRefusal, Starts, Ready, checkedOf};
+
+// The numbers of library classes and of all classes, or the refusal: number, sheet, byte.
+pub enum Checked {
+    Fine(usize, usize),
+    Refused(u8, u8, usize),
+}
+
+// Whether the deemed markers of class c are refused: they clash, or class 0 has any.
+fn deemed_breaks(c: usize, m: u8) -> bool
+    ensures { λ r. ⌜ r ≡ deemedBreaks c m ⌝ }
+{
+    if clash(m) {
+        return true;
+    }
+    if c == 0 {
+        return m != 0;
+    }
+    false
+}
+
+// The first library class whose deemed markers are refused, or the number of library classes.
+fn deemed(
+    library: &[u8],
+    user: &[u8],
+    group: &[u8],
+    cut: Cut,
+    starts: &[u16],
+    nlib: usize,
+    n: usize,
+    memo: &mut [u16],
+) -> usize
+    requires { ⌜ Fits cut (now user) ⌝ }
+    requires { ⌜ Indexed (now library) (spliced (now user) (now group) cut) nlib n (now starts) ⌝ }
+    requires { ⌜ Falls (groupOf (now library) (spliced (now user) (now group) cut)) ⌝ }
+    requires { ⌜ Right (groupOf (now library) (spliced (now user) (now group) cut)) (now memo) ⌝ }
+    ensures class { λ r. ⌜ r ≡ firstDeemed (groupOf (now (library .entry)) (spliced (now (user .entry)) (now (group .entry)) cut)) nlib ⌝ }
+    ensures memo { λ r. ⌜ Right (groupOf (now (library .entry)) (spliced (now (user .entry)) (now (group .entry)) cut)) (now (memo .exit)) ⌝ }
+{
+    let mut c = 0;
+    while c < nlib {
+        let m = overlay(library, user, group, cut, starts, nlib, n, c, memo);
+        if deemed_breaks(c, m) {
+            return c;
+        }
+        c += 1;
+    }
+    nlib
+}
+
+// The first pass of both sheets: the row of starts is filled. Refusals 2 to 7.
+fn both_passes(library: &[u8], user: &[u8], group: &[u8], cut: Cut, starts: &mut [u16]) -> Checked
+    requires { ⌜ Fits cut (now user) ⌝ }
+    requires { ⌜ (length (now library) ≤ 32768) × (length (spliced (now user) (now group) cut) ≤ 32768) ⌝ }
+    requires { ⌜ length (now starts) ≡ 256 ⌝ }
+    ensures answer { λ r. ⌜ r ≡ checkedOf (passesRefusal (now (library .entry)) (spliced (now (user .entry)) (now (group .entry)) cut)) (classCount (now (library .entry))) (total (now (library .entry)) (spliced (now (user .entry)) (now (group .entry)) cut)) ⌝ }
+    ensures starts { λ r. ⌜ Starts (now (library .entry)) (spliced (now (user .entry)) (now (group .entry)) cut) (now (starts .exit)) ⌝ }
+{
+    let size = library.len();
+    let all = Cut {
+        from: size,
+        to: size,
+        used: size,
+    };
+    let first = first_pass(library, &library[0..0], all, 0, 0, starts);
+    let nlib = match first {
+        Pass::Fine(k) => k,
+        Pass::Refused(number, byte) => {
+            return Checked::Refused(number, 0, byte);
+        }
+    };
+    if nlib == 0 {
+        return Checked::Refused(7, 0, size);
+    }
+    let second = first_pass(user, group, cut, 1, nlib, starts);
+    match second {
+        Pass::Fine(n) => Checked::Fine(nlib, n),
+        Pass::Refused(number, byte) => Checked::Refused(number, 1, byte),
+    }
+}
+
+// The second pass of both sheets and the deemed markers: 9, 8, 10, 11. 0 is none.
+fn later(
+    library: &[u8],
+    user: &[u8],
+    group: &[u8],
+    cut: Cut,
+    starts: &[u16],
+    nlib: usize,
+    n: usize,
+    memo: &mut [u16],
+) -> Checked
+    requires { ⌜ Fits cut (now user) ⌝ }
+    requires { ⌜ Indexed (now library) (spliced (now user) (now group) cut) nlib n (now starts) ⌝ }
+    requires { ⌜ Right (groupOf (now library) (spliced (now user) (now group) cut)) (now memo) ⌝ }
+    ensures answer { λ r. ⌜ r ≡ checkedOf (laterRefusal (now (library .entry)) (spliced (now (user .entry)) (now (group .entry)) cut)) nlib n ⌝ }
+    ensures memo { λ r. ⌜ Right (groupOf (now (library .entry)) (spliced (now (user .entry)) (now (group .entry)) cut)) (now (memo .exit)) ⌝ }
+{
+    let first = second_pass(library, user, group, cut, starts, nlib, n, 0);
+    if let Pass::Refused(number, byte) = first {
+        return Checked::Refused(number, 0, byte);
+    }
+    let second = second_pass(library, user, group, cut, starts, nlib, n, 1);
+    if let Pass::Refused(number, byte) = second {
+        return Checked::Refused(number, 1, byte);
+    }
+    let c = deemed(library, user, group, cut, starts, nlib, n, memo);
+    if c < nlib {
+        return Checked::Refused(
+            11,
+            0,
+            group_start(library, user, group, cut, starts, nlib, n, c),
+        );
+    }
+    Checked::Fine(nlib, n)
+}
+
+// All of 2 to 11 of a library sheet and a view. Where nothing is refused, the row of starts and the memo of overlay markers are right.
+pub fn check(
+    library: &[u8],
+    user: &[u8],
+    group: &[u8],
+    cut: Cut,
+    starts: &mut [u16],
+    memo: &mut [u16],
+) -> Checked
+    requires { ⌜ Fits cut (now user) ⌝ }
+    requires { ⌜ (length (now library) ≤ 32768) × (length (spliced (now user) (now group) cut) ≤ 32768) ⌝ }
+    requires { ⌜ (length (now starts) ≡ 256) × (now memo ≡ replicate 256 65535) ⌝ }
+    ensures answer { λ r. ⌜ r ≡ checkedOf (sheetRefusal (now (library .entry)) (spliced (now (user .entry)) (now (group .entry)) cut)) (classCount (now (library .entry))) (total (now (library .entry)) (spliced (now (user .entry)) (now (group .entry)) cut)) ⌝ }
+    ensures rows { λ r. ⌜ Ready (now (library .entry)) (spliced (now (user .entry)) (now (group .entry)) cut) (now (starts .exit)) (now (memo .exit)) ⌝ }
+{
+    let passed = both_passes(library, user, group, cut, starts);
+    if let Checked::Fine(nlib, n) = passed {
+        return later(library, user, group, cut, starts, nlib, n, memo);
+    }
+    passed
+}
+
+// All of 1 to 11 of the library sheet, the user buffer and its used length.
+pub fn present(
+    library: &[u8],
+    user: &[u8],
+    used: usize,
+    starts: &mut [u16],
+    memo: &mut [u16],
+) -> Checked
+    requires { ⌜ (length (now starts) ≡ 256) × (now memo ≡ replicate 256 65535) ⌝ }
+    ensures answer { λ r. ⌜ r ≡ checkedOf (presentRefusal (now (library .entry)) (now (user .entry)) used) (classCount (now (library .entry))) (total (now (library .entry)) (take used (now (user .entry)))) ⌝ }
+    ensures rows { λ r. ⌜ (presentRefusal (now (library .entry)) (now (user .entry)) used ≡ none → Ready (now (library .entry)) (take used (now (user .entry))) (now (starts .exit)) (now (memo .exit))) ⌝ }
+{
+    if 32768 < library.len() {
+        return Checked::Refused(1, 0, 0);
+    }
+    if 32768 < used {
+        return Checked::Refused(1, 1, 0);
+    }
+    if user.len() < used {
+        return Checked::Refused(1, 1, 0);
+    }
+    let cut = Cut {
+        from: used,
+        to: used,
+        used: used,
+    };
+    check(library, user, &library[0..0], cut, starts, memo)
+}

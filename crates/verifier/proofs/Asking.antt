@@ -1,0 +1,156 @@
+-- A question about one class, once the present sheets are accepted or refused.
+-- Assumes nothing.
+use mathlib.Core.Path.{_≡_, refl, sym, ap, _∙_, subst}
+use mathlib.Core.Bool.{Bool, true, false, not, _||_}
+use mathlib.Core.List.{List, [], _∷_, map}
+use mathlib.Core.Option.{Option, none, some}
+use Prim.Native.Nat.{ℕ, zero, suc, _+_, _≤_, _<_}
+use native.Mathlib.Nat.{zero-add}
+use native.Mathlib.Omega.{arith}
+use native.Mathlib.Decide.{ℕ-discrete}
+use lib.Dec.{T, eqb, leb, ltb, nltb→le}
+use lib.ListN.{length, take, getD, length-map, length-take}
+use borrow.Author.Tests.{eq-eqb, le-leb, lt-leb}
+use Rattle.spec.specs.Lists.{firstOf, span}
+use Rattle.spec.specs.Sheet.{classCount, total, group}
+use Rattle.spec.specs.Refusals.{Refusal, refuseIf, refusePlain, sizeRefusal, sheetRefusal, presentRefusal, unusedRefusal, queryRefusal}
+use Rattle.spec.specs.Promises.{Answer, refused, accepted, answerOf}
+use Rattle.theory.proofs.Bools.{not-or-l, not-or-r}
+use Rattle.theory.proofs.Answers.{first-none, if-none}
+use Rattle.theory.proofs.Accept.{sound}
+use Rattle.theory.proofs.Falls.{Falls, falls}
+use Rattle.pass.proofs.Walk.{first-past, first-some, first-only}
+use Rattle.view.specs.View.{Fits}
+use Rattle.groups.specs.Groups.{Indexed, startOf}
+use Rattle.overlay.specs.Memo.{Right}
+use Rattle.form.specs.Form.{checkedOf, Ready}
+use Rattle.form.specs.declared.Checked.{Checked}
+use Rattle.form.specs.declared.Checked.the-variants.{Fine, Refused}
+use Rattle.form.proofs.Accepting.{Presents, fine-none}
+
+-- ---- answers
+
+module _ {A : Type 0} {o : Option Refusal} where
+  pub answer-refused : (a : A) {r : Refusal} → o ≡ some r → refused r ≡ answerOf o a
+  unfolding answerOf
+  answer-refused a e = rw e
+
+  pub answer-fine : (a : A) → o ≡ none → accepted a ≡ answerOf o a
+  unfolding answerOf
+  answer-fine a e = rw e
+
+-- what an answer tells of the refusal and of the value
+pub told-fine : {A : Type 0} (o : Option Refusal) (a : A) {b : A} → accepted b ≡ answerOf o a → (o ≡ none) × (b ≡ a)
+unfolding answerOf
+told-fine none a e = (refl, cc)
+told-fine (some r) a e = absurd (let z : _≡_ {A = ℕ} 0 1 = cc in omega arith)
+
+pub told-refused : {A : Type 0} (o : Option Refusal) (a : A) {r : Refusal} → refused r ≡ answerOf o a → o ≡ some r
+unfolding answerOf
+told-refused none a e = absurd (let z : _≡_ {A = ℕ} 0 1 = cc in omega arith)
+told-refused (some r) a e = cc
+
+refused-is : (o : Option Refusal) (a b : ℕ) {number sheet byte : ℕ} → Refused number sheet byte ≡ checkedOf o a b → o ≡ some (record { number = number; sheet = sheet; byte = byte })
+refused-is none a b e = absurd (let z : _≡_ {A = ℕ} 0 1 = cc in omega arith)
+refused-is (some r) a b {number} {sheet} {byte} e =
+    let n : number ≡ r .number = cc in
+    let s : sheet ≡ r .sheet = cc in
+    let t : byte ≡ r .byte = cc in
+    rw (n, s, t)
+
+-- ---- the sheets alone
+
+-- a row of the values of a function
+getD-values : (f : ℕ → ℕ) (i n k : ℕ) → k < n → getD (map f (span i n)) k 0 ≡ f (i + k)
+unfolding span
+getD-values f i zero k h = absurd (omega arith)
+getD-values f i (suc n) zero h = ap f (let e : i ≡ i + 0 = omega arith in e)
+getD-values f i (suc n) (suc k) h = getD-values f (suc i) n k (omega arith) ∙ ap f (let e : suc i + k ≡ i + suc k = omega arith in e)
+
+length-span : (i n : ℕ) → length (span i n) ≡ n
+unfolding span
+length-span i zero = refl
+length-span i (suc n) = ap suc (length-span (suc i) n)
+
+some-class : (k : ℕ) → T (not (eqb k 0)) → 1 ≤ k
+some-class k t = go (ℕ-discrete k 0)
+  where
+    go : Dec (k ≡ 0) → 1 ≤ k
+    go (yes e) = absurd (subst (λ (b : Bool). T (not b)) (eq-eqb k 0 e) t)
+    go (no e) = omega arith
+
+module _ (library user : List ℕ) (used : ℕ) (e : presentRefusal library user used ≡ none) where
+  both : (sizeRefusal library user used ≡ none) × (sheetRefusal library (take used user) ≡ none)
+  unfolding presentRefusal
+  both = let q = first-none _ e in (q .0, q .1 .0)
+
+  pub sheet-fine : sheetRefusal library (take used user) ≡ none
+  sheet-fine = both .1
+
+  sizes : (length library ≤ 32768) × ((used ≤ 32768) × (used ≤ length user))
+  unfolding sizeRefusal
+  sizes =
+      let q = first-none _ (both .0) in
+      let l = if-none (ltb 32768 (length library)) 1 0 0 (q .0) in
+      let u = if-none (ltb 32768 used || ltb (length user) used) 1 1 0 (q .1 .0) in (
+        nltb→le 32768 (length library) l,
+        (nltb→le 32768 used (not-or-l (ltb 32768 used) (ltb (length user) used) u), nltb→le (length user) used (not-or-r (ltb 32768 used) (ltb (length user) used) u)),
+      )
+
+  pub used-there : used ≤ length user
+  used-there = sizes .1 .1
+
+  -- a row that holds the starts, for what speaks of no row
+  pub some-row : Indexed library (take used user) (classCount library) (total library (take used user)) (map (startOf library (take used user)) (span 0 256))
+  some-row =
+      let s = sound library (take used user) sheet-fine in
+      record {
+        library-clear = s .librarySheet;
+        user-clear = s .userSheet;
+        library-size = sizes .0;
+        user-size = omega (arith, length-take used user, sizes);
+        nlib-is = refl;
+        n-is = refl;
+        some = some-class (classCount library) (s .some);
+        few = s .few;
+        long = length-map (span 0 256) (startOf library (take used user)) ∙ length-span 0 256;
+        starts = λ c h. getD-values (startOf library (take used user)) 0 256 c (omega (arith, s .few)) ∙ ap (startOf library (take used user)) (zero-add c);
+      }
+
+-- ---- a class of accepted sheets
+
+module _ (library user : List ℕ) (used c : ℕ) {p : Checked} {row memo : List ℕ} (a : Presents library user used p row memo) where
+  -- the sheets are refused
+  pub sheets-refused : {number sheet byte : ℕ} → p ≡ Refused number sheet byte → queryRefusal library user used c ≡ some (record { number = number; sheet = sheet; byte = byte })
+  unfolding queryRefusal
+  sheets-refused f = first-some _ (refused-is (presentRefusal library user used) _ _ (sym f ∙ a .0))
+
+  module _ {nlib n : ℕ} (f : p ≡ Fine nlib n) where
+    told : (presentRefusal library user used ≡ none) × ((nlib ≡ classCount library) × (n ≡ total library (take used user)))
+    told = fine-none (presentRefusal library user used) (sym f ∙ a .0)
+
+    unused : (b : Bool) → leb (total library (take used user)) c ≡ b → queryRefusal library user used c ≡ refusePlain b 13
+    unfolding queryRefusal unusedRefusal
+    unused b e = first-past _ _ (told .0) ∙ ap (λ (x : Bool). refusePlain x 13) e
+
+    pub class-unused : n ≤ c → queryRefusal library user used c ≡ some (record { number = 13; sheet = 0; byte = 0 })
+    unfolding refusePlain refuseIf
+    class-unused h = unused true (le-leb (total library (take used user)) c (omega (arith, told .1 .1)))
+
+    pub class-used : (n ≤ c → ⊥) → queryRefusal library user used c ≡ none
+    unfolding refusePlain refuseIf
+    class-used h = unused false (lt-leb (total library (take used user)) c (omega (arith, told .1 .1)))
+
+    pub fits : Fits (record { from = used; to = used; used = used }) user
+    fits = record { ordered = omega arith; within = omega arith; there = used-there library user used (told .0) }
+
+    module _ {s : List ℕ} (q : s ≡ take used user) where
+      pub indexed : Indexed library s nlib n row
+      indexed = rw (q, told .1 .0, told .1 .1) (a .1 (told .0) .indexed (sheet-fine library user used (told .0)))
+
+      pub right : Right (group library s) memo
+      right = rw q (a .1 (told .0) .right (sheet-fine library user used (told .0)))
+
+      pub lower-numbers : Falls (group library s)
+      lower-numbers =
+          rw q (falls (classCount library) (total library (take used user)) (group library (take used user)) (sound library (take used user) (sheet-fine library user used (told .0)) .fits))
