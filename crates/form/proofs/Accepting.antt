@@ -2,7 +2,7 @@
 -- Assumes nothing.
 use mathlib.Core.Path.{_≡_, refl, sym, ap, _∙_, subst}
 use mathlib.Core.Bool.{Bool, true, false, _||_}
-use mathlib.Core.List.{List, [], _∷_, _++_, map}
+use mathlib.Core.List.{List, [], _∷_, _++_, map, map-append}
 use mathlib.Core.Option.{Option, none, some}
 use Prim.Native.Nat.{ℕ, _+_, _<_}
 use native.Mathlib.Omega.{arith}
@@ -13,13 +13,13 @@ use Rattle.spec.specs.Lists.{firstOf}
 use Rattle.spec.specs.Sheet.{Group, classCount, total, group, groupStart, locatedIn, located}
 use Rattle.spec.specs.Refusals.{Refusal, refuseIf, refuseRecord, formTests, deemedTests, recordRefusal, tornRefusal, noClassRefusal, formRefusal, deemedRefusal, sheetRefusal, sizeRefusal, presentRefusal}
 use Rattle.theory.proofs.Bools.{nltb}
-use Rattle.theory.proofs.Answers.{some≢none, keep-head, none-if, Gives}
+use Rattle.theory.proofs.Answers.{some≢none, first-some, first-only, first-past, first-append, keep-head, none-if, Gives}
 use Rattle.theory.proofs.Accept.{form-fits}
 use Rattle.theory.proofs.Falls.{Falls, falls}
 use Rattle.pass.specs.Pass.{passOf}
 use Rattle.pass.specs.declared.Pass.{Pass}
 use Rattle.pass.specs.declared.Pass.the-variants.{Fine as Passes, Refused as Stops}
-use Rattle.pass.proofs.Walk.{first-only, first-past, first-some}
+use Rattle.pass.proofs.Places.{answer}
 use Rattle.groups.specs.Groups.{startOf, Indexed}
 use Rattle.groups.proofs.Classes.{in-library}
 use Rattle.overlay.specs.Memo.{Right}
@@ -28,14 +28,10 @@ use Rattle.second.specs.Second.{formIn, firstClass}
 use Rattle.form.specs.Form.{firstDeemed, passesRefusal, laterRefusal, Starts, Ready, checkedOf}
 use Rattle.form.specs.declared.Checked.{Checked}
 use Rattle.form.specs.declared.Checked.the-variants.{Fine, Refused}
-use Rattle.form.proofs.Passes.{first-append, Names, along-names, passes-none, stops-some}
-use Rattle.form.proofs.DeemedRecords.{answer, library-deemed, user-deemed}
+use Rattle.form.proofs.Passes.{Names, along-names, passes-none, stops-some}
+use Rattle.form.proofs.DeemedRecords.{library-deemed, user-deemed}
 
 -- ---- answers along two sheets
-
-map-append : {A B : Type 0} (f : A → B) (xs ys : List A) → map f (xs ++ ys) ≡ map f xs ++ map f ys
-map-append f [] ys = refl
-map-append {A} {B} f (x ∷ xs) ys = ap (λ (l : List B). f x ∷ l) (map-append f xs ys)
 
 first-split : {A B : Type 0} (f : A → Option B) (xs ys : List A) → firstOf (map f (xs ++ ys)) ≡ firstOf (firstOf (map f xs) ∷ firstOf (map f ys) ∷ [])
 first-split f xs ys = ap firstOf (map-append f xs ys) ∙ first-append (map f xs) (map f ys) ∙ keep-head _ _ _ (sym (first-only _))
@@ -58,8 +54,8 @@ module _ (library user : List ℕ) where
 
   deemed-parts : deemedRefusal library user
       ≡ firstOf
-      (firstOf (map (answer (group library user) (classCount library)) (locatedIn 0 0 library))
-      ∷ firstOf (map (answer (group library user) (classCount library)) (locatedIn 1 (classCount library) user))
+      (firstOf (map (answer (deemedTests (group library user) (classCount library))) (locatedIn 0 0 library))
+      ∷ firstOf (map (answer (deemedTests (group library user) (classCount library))) (locatedIn 1 (classCount library) user))
       ∷ [])
   unfolding deemedRefusal answer located
   deemed-parts = first-split (λ l. refuseRecord l (deemedTests (group library user) (classCount library) l)) (locatedIn 0 0 library) (locatedIn 1 (classCount library) user)

@@ -2,7 +2,7 @@
 -- Assumes nothing.
 use mathlib.Core.Path.{_≡_, refl, sym, ap, _∙_, subst}
 use mathlib.Core.Bool.{Bool, not}
-use mathlib.Core.List.{List, [], _∷_, _++_, map}
+use mathlib.Core.List.{List, [], _∷_, map}
 use mathlib.Core.Logic.{_⊎_, inl, inr}
 use mathlib.Core.Option.{Option, none, some}
 use Prim.Native.Nat.{ℕ, _+_, _-_, _≤_, _<_}
@@ -16,26 +16,18 @@ use Rattle.spec.specs.Sheet.{recordsOf, classCount, total, groupStart, Located,
 use Rattle.spec.specs.Refusals.{Refusal, refuseIf, refuseRecord, recordTests, recordRefusal, tornRefusal, noClassRefusal}
 use Rattle.theory.proofs.Bools.{decide}
 use Rattle.theory.proofs.All.{weaken, of-members}
-use Rattle.theory.proofs.Answers.{some≢none, first-none, none-first, skip-none, keep-head, Gives, gives-first, gives-map}
+use Rattle.theory.proofs.Answers.{some≢none, first-none, none-first, skip-none, first-some, first-append, keep-head, Gives, gives-first, gives-map}
 use Rattle.theory.proofs.Refused.{gives-if, gives-record, Among, locate-among}
 use Rattle.theory.proofs.Accept.{Clear, clear}
 use Rattle.pass.specs.Pass.{passRefusal, passOf, filled, Filled}
 use Rattle.pass.specs.declared.Pass.{Pass}
 use Rattle.pass.specs.declared.Pass.the-variants.{Fine as Passes, Refused as Stops}
 use Rattle.pass.proofs.Starts.{filled-below, filled-start}
-use Rattle.pass.proofs.Walk.{first-some}
 use Rattle.groups.specs.Groups.{startOf}
 use Rattle.form.specs.Form.{passesRefusal, Starts, checkedOf}
 use Rattle.form.specs.declared.Checked.the-variants.{Fine, Refused}
 
 -- ---- answers
-
--- the first answer of a front part counts as one
-pub first-append : {A : Type 0} (xs ys : List (Option A)) → firstOf (xs ++ ys) ≡ firstOf (firstOf xs ∷ ys)
-unfolding firstOf
-first-append [] ys = refl
-first-append (none ∷ xs) ys = first-append xs ys
-first-append (some x ∷ xs) ys = refl
 
 -- a refusal names the sheet
 abbrev pub Names : ℕ → Refusal → Type 0

@@ -1,34 +1,20 @@
--- The records between two bytes of a sheet, walked by positions; what stands at a place of a record; and a walk that counts.
+-- The records between two bytes of a sheet, walked by positions; and a walk that counts.
 -- Assumes nothing.
 use mathlib.Core.Path.{_≡_, sym, ap, ap₂, _∙_}
 use mathlib.Core.Bool.{Bool, true, false}
 use mathlib.Core.List.{List, [], _∷_, _++_, append-assoc}
-use Prim.Native.Nat.{ℕ, _+_, _-_, _*_, _≤_, _<_}
+use Prim.Native.Nat.{ℕ, _+_, _-_, _≤_, _<_}
 use native.Mathlib.Omega.{arith}
 use lib.Dec.{eqb}
-use lib.ListN.{length, getD, take, drop, length-append, length-drop, take-append-drop}
-use lib.Seq.{length-take-le, take-append-seam, drop-at, getD-take, getD-drop}
+use lib.ListN.{length, take, drop, length-append, length-drop, take-append-drop}
+use lib.Seq.{length-take-le, take-append-seam, drop-at}
 use Rattle.spec.specs.Lists.{keep, concat}
-use Rattle.spec.specs.Record.{u16, kind as kindOf, isKind}
+use Rattle.spec.specs.Record.{u16, isKind}
 use Rattle.spec.specs.Sheet.{recordsIn, recordsOf, wholeEnd, ofKind}
-use Rattle.theory.proofs.All.{All}
+use Rattle.theory.proofs.All.{All, keep-yes, keep-no}
+use Rattle.theory.proofs.Parts.{part-length, part-word, part-kind}
 use Rattle.theory.proofs.Cut.{Whole, records-of-join, records-of-whole, join-records}
 use Rattle.groups.specs.Groups.{between, Tiled}
-
--- ---- what stands at a place of a part
-
-module _ (s : List ℕ) (at n : ℕ) where
-  pub part-length : at + n ≤ length s → length (take n (drop at s)) ≡ n
-  part-length h = length-take-le n (drop at s) (omega (arith, length-drop at s))
-
-  pub part-byte : (j : ℕ) → j < n → getD (take n (drop at s)) j 0 ≡ getD s (at + j) 0
-  part-byte j h = getD-take n (drop at s) j 0 h ∙ getD-drop at s j 0
-
-  pub part-word : (j : ℕ) → j + 1 < n → u16 (take n (drop at s)) j ≡ u16 s (at + j)
-  unfolding u16
-  part-word j h =
-      let e : at + (j + 1) ≡ at + j + 1 = omega arith in
-      ap₂ (λ (a b : ℕ). a + 256 * b) (part-byte j (omega arith)) (part-byte (j + 1) h ∙ ap (λ (k : ℕ). getD s k 0) e)
 
 -- ---- whole records that stand in a sheet
 
@@ -113,25 +99,21 @@ counted-end {s} {kind} {end} {all} {at} {m} h l =
     let e : length (ofKind kind (between s at end)) ≡ 0 = ap (λ (rs : List (List ℕ)). length (ofKind kind rs)) (tiled-end s at end l) in
     omega (arith, h .sum)
 
-pub of-kind : (k : ℕ) (r : List ℕ) (rs : List (List ℕ)) → length (ofKind k (r ∷ rs)) ≡ oneIf (isKind k r) + length (ofKind k rs)
-unfolding ofKind keep oneIf
-of-kind k r rs = go (isKind k r)
-  where
-    go : (b : Bool) → length {A = List ℕ} (elim b as (λ (c : Bool). List (List ℕ)) [ true ↦ r ∷ keep (isKind k) rs | false ↦ keep (isKind k) rs ]) ≡ oneIf b + length (keep (isKind k) rs)
-    go true = omega arith
-    go false = omega arith
+of-kind : (k : ℕ) (r : List ℕ) (rs : List (List ℕ)) (b : Bool) → isKind k r ≡ b → length (ofKind k (r ∷ rs)) ≡ oneIf b + length (ofKind k rs)
+unfolding ofKind oneIf
+of-kind k r rs true e = omega (arith, ap length (keep-yes (isKind k) r rs e))
+of-kind k r rs false e = omega (arith, ap length (keep-no (isKind k) r rs e))
 
 -- past the record at hand, whose length is `l` and whose kind is `k`
 pub counted-step : {s : List ℕ} {kind end all at m : ℕ} → Counted s kind end all at m → at < end
     → {l k m′ : ℕ} → l ≡ u16 s at → k ≡ u16 s (at + 2) → (b : Bool) → eqb k kind ≡ b → m′ ≡ m + oneIf b → Counted s kind end all (at + l) m′
-unfolding kindOf
 counted-step {s} {kind} {end} {all} {at} {m} h lt el ek b eb em =
     let t = tiled-step (h .tiled) lt in
     let r : List ℕ = take (u16 s at) (drop at s) in
-    let e : isKind kind r ≡ b = ap (λ (x : ℕ). eqb x kind) (part-word s at (u16 s at) 2 (omega (arith, t .0)) ∙ sym ek) ∙ eb in
+    let e : isKind kind r ≡ b = ap (λ (x : ℕ). eqb x kind) (part-kind s at (u16 s at) (t .0) ∙ sym ek) ∙ eb in
     rw (el, em) (record {
       tiled = t .3;
-      sum = omega (arith, h .sum, ap (λ (rs : List (List ℕ)). length (ofKind kind rs)) (t .2), of-kind kind r (between s (at + u16 s at) end), ap oneIf e);
+      sum = omega (arith, h .sum, ap (λ (rs : List (List ℕ)). length (ofKind kind rs)) (t .2), of-kind kind r (between s (at + u16 s at) end) b e);
       few = omega (arith, h .few, t .0, one-low b);
       low = h .low;
     })

@@ -6,7 +6,7 @@ use mathlib.Core.List.{List, [], _∷_, _++_, append-nil}
 use mathlib.Core.Logic.{_⊎_, inl, inr}
 use Prim.Native.Nat.{ℕ, suc, _+_, _-_, _≤_, _<_}
 use native.Mathlib.Omega.{arith}
-use lib.Dec.{T, leb, ltb, eqb→eq, leb→le, ltb→lt, nltb→le}
+use lib.Dec.{T, T-not, eqb, leb, ltb, eqb→eq, leb→le, ltb→lt, nltb→le}
 use lib.ListN.{length, getD, take, drop, length-append, List·getD-append}
 use lib.Seq.{take-suc, take-length, split-at, getD-append-add}
 use borrow.Author.Tests.{eq-eqb, ne-eqb, lt-ltb, le-ltb}
@@ -15,12 +15,13 @@ use Rattle.spec.specs.Record.{u16, kind, isClass, CLASS, byKind, withName, leng
 use Rattle.spec.specs.Sheet.{Group, recordsOf, splitGroups, groupsOf, classCount, groupStart, total, group, classRecord, ofKind, locatedIn, located}
 use Rattle.theory.specs.Claims.{sheetOf}
 use Rattle.theory.proofs.All.{All, all-append, all-left, all-right, all-kept, weaken}
-use Rattle.theory.proofs.Bools.{decide, and-l}
+use Rattle.theory.proofs.Bools.{decide, and-l, eq→eqb}
+use Rattle.theory.proofs.Parts.{part-length, part-byte, part-word}
 use Rattle.theory.proofs.Cut.{Whole, records-of-whole, concat-append, concat-concat, split-parts, sheet-grouped}
 use Rattle.theory.proofs.Accept.{Passed, by-class, Clear}
 use Rattle.theory.proofs.Form.{one-record, group-one-class}
 use Rattle.groups.specs.Groups.{sheetNumber, startOf, endOf, between, Tiled, Indexed}
-use Rattle.groups.proofs.Between.{placed, tiled-step, part-length, part-byte, part-word}
+use Rattle.groups.proofs.Between.{placed, tiled-step}
 
 -- ---- one sheet
 
@@ -91,6 +92,14 @@ module _ (library user : List ℕ) (sheet : ℕ) where
   pub user-sheet : (sheet ≡ 0 → ⊥) → sheetOf library user sheet ≡ user
   user-sheet ne = rw (ne-eqb sheet 0 ne, sheetOf)
 
+-- both are short
+pub sheet-low : {library user : List ℕ} {nlib n : ℕ} {row : List ℕ} → Indexed library user nlib n row → (sheet : ℕ) → length (sheetOf library user sheet) ≤ 32768
+sheet-low {library} {user} x sheet = go (decide (eqb sheet 0))
+  where
+    go : T (eqb sheet 0) ⊎ T (not (eqb sheet 0)) → length (sheetOf library user sheet) ≤ 32768
+    go (inl t) = rw (library-sheet library user sheet (eqb→eq sheet 0 t)) (x .library-size)
+    go (inr t) = rw (user-sheet library user sheet (λ e. T-not (eqb sheet 0) t (eq→eqb e))) (x .user-size)
+
 pub library-number : (nlib c : ℕ) → c < nlib → sheetNumber nlib c ≡ 0
 unfolding sheetNumber
 library-number nlib c h = rw (lt-ltb c nlib h, sheetNumber)
@@ -105,7 +114,6 @@ pub record Held (library user : List ℕ) (nlib c : ℕ) (s : List ℕ) (i : ℕ
   pub sheet : ℕ
   pub before : ℕ
   pub clear : Clear sheet before s
-  pub small : length s ≤ 32768
   pub there : i < classCount s
   pub start : startOf library user c ≡ groupStart s i
   pub its : group library user c ≡ getD (groupsOf s) i []
@@ -120,7 +128,6 @@ module _ {library user : List ℕ} {nlib n : ℕ} {row : List ℕ} (x : Indexed 
         sheet = 0;
         before = 0;
         clear = x .library-clear;
-        small = x .library-size;
         there = l;
         start = rw (lt-ltb c (length (groupsOf library)) l, startOf);
         its = List·getD-append (groupsOf library) (groupsOf user) [] c l;
@@ -137,7 +144,6 @@ module _ {library user : List ℕ} {nlib n : ℕ} {row : List ℕ} (x : Indexed 
         sheet = 1;
         before = classCount library;
         clear = x .user-clear;
-        small = x .user-size;
         there = omega (arith, x .nlib-is, x .n-is);
         start = rw (le-ltb c (length (groupsOf library)) k, startOf) (ap (groupStart user) d);
         its = ap (λ (k : ℕ). getD (groupsOf library ++ groupsOf user) k []) (sym e) ∙ getD-append-add (groupsOf library) (groupsOf user) (c - nlib) [];
@@ -178,11 +184,8 @@ module _ {library user : List ℕ} {nlib n : ℕ} {row : List ℕ} (x : Indexed 
   pub group-between : between (sheetOf library user (sheetNumber nlib c)) (startOf library user c) (endOf library user c) ≡ group library user c
   group-between = by-sheet _ (λ s i k. held-placed k .1)
 
-  pub sheet-small : length (sheetOf library user (sheetNumber nlib c)) ≤ 32768
-  sheet-small = by-sheet _ (λ s i k. rw (k .is) (k .small))
-
   pub end-small : endOf library user c ≤ 32768
-  end-small = omega (arith, group-tiled, sheet-small)
+  end-small = omega (arith, group-tiled, sheet-low x (sheetNumber nlib c))
 
   -- for a walk that has the sheet's number and both ends
   pub group-walk : {sheet at end : ℕ} → sheet ≡ sheetNumber nlib c → at ≡ startOf library user c → end ≡ endOf library user c

@@ -2,22 +2,22 @@
 -- Assumes nothing.
 use mathlib.Core.Path.{_≡_, refl, sym, ap, ap₂, _∙_, subst}
 use mathlib.Core.Bool.{Bool, true, false}
-use mathlib.Core.List.{List, [], _∷_, _++_, map, append-nil}
+use mathlib.Core.List.{List, [], _∷_, map, append-nil, map-append}
 use Prim.Native.Nat.{ℕ, zero, suc, _≤_, _<_}
 use native.Mathlib.Nat.{not-suc-le-zero, le-of-suc-le-suc, le-refl}
 use native.Mathlib.Decide.{ℕ-discrete}
 use native.Mathlib.Omega.{arith}
 use lib.Bits.{bitOr}
-use lib.Dec.{T, eqb, ltb, eqb→eq, lt→ltb}
+use lib.Dec.{T, eqb, eqb→eq}
 use lib.ListN.{length, getD, set, replicate, length-set, length-replicate}
 use lib.Seq.{getD-set-same, getD-set-other}
+use borrow.Author.Tests.{lt-ltb, le-ltb}
 use Rattle.spec.specs.Lists.{gather}
 use Rattle.spec.specs.Record.{u16, none16, IMPLEMENTS, ownMarkers, superclass, unlessNone}
 use Rattle.spec.specs.Sheet.{Group, classRecord}
 use Rattle.spec.specs.Markers.{union, unionAll}
 use Rattle.spec.specs.Classes.{superclasses, targets, supertypes, gathered}
 use Rattle.spec.specs.Refusals.{oneClass}
-use Rattle.theory.proofs.Bools.{t-true, t-false, nltb}
 use Rattle.theory.proofs.All.{map-cong}
 use Rattle.theory.proofs.Falls.{Falls}
 use Rattle.theory.proofs.Overlay.{gathered-enough, supertypes-lower}
@@ -29,11 +29,11 @@ use Rattle.overlay.proofs.Unions.{union-assoc, union-zero, union-append
 
 pub lower-none : (g : ℕ → Group) (c i : ℕ) → c ≤ i → 0 ≡ lowerRaw g c i
 unfolding lowerRaw
-lower-none g c i h = sym (ap (λ (b : Bool). elim b as (λ (x : Bool). ℕ) [ true ↦ raw g i | false ↦ 0 ]) (t-false (ltb i c) (nltb i c h)))
+lower-none g c i h = rw (le-ltb i c h, lowerRaw)
 
 pub lower-is : (g : ℕ → Group) (c i : ℕ) → i < c → raw g i ≡ lowerRaw g c i
 unfolding lowerRaw
-lower-is g c i h = sym (ap (λ (b : Bool). elim b as (λ (x : Bool). ℕ) [ true ↦ raw g i | false ↦ 0 ]) (t-true (ltb i c) (lt→ltb i c h)))
+lower-is g c i h = rw (lt-ltb i c h, lowerRaw)
 
 -- ---- the memo
 
@@ -65,10 +65,6 @@ pub memo-new : (g : ℕ → Group) → Right g (replicate 256 65535)
 memo-new g = record { long = length-replicate {A = ℕ} 256 65535; is = λ i h. absurd (all-big 256 i h) }
 
 -- ---- what a class gathers
-
-map-append : {A B : Type 0} (f : A → B) (xs ys : List A) → map f (xs ++ ys) ≡ map f xs ++ map f ys
-map-append f [] ys = refl
-map-append f (x ∷ xs) ys = ap (λ l. f x ∷ l) (map-append f xs ys)
 
 -- 65535 is no class, and no lower one
 none-lower : (g : ℕ → Group) (c x : ℕ) → c < 256 → unionAll (map (lowerRaw g c) (unlessNone x)) ≡ lowerRaw g c x

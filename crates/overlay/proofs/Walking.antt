@@ -1,7 +1,7 @@
 -- The walk over a class's records that joins what is gathered for its interfaces.
 -- Assumes nothing.
 use mathlib.Core.Path.{_≡_, sym, ap, _∙_, subst}
-use mathlib.Core.Bool.{Bool, true, false}
+use mathlib.Core.Bool.{true, false}
 use mathlib.Core.List.{List, _∷_, map}
 use Prim.Native.Nat.{ℕ, _+_, _≤_, _<_}
 use native.Mathlib.Omega.{arith}
@@ -16,11 +16,12 @@ use Rattle.spec.specs.Markers.{union, unionAll}
 use Rattle.spec.specs.Classes.{targets}
 use Rattle.theory.specs.Claims.{sheetOf}
 use Rattle.theory.proofs.Bools.{true-t}
-use Rattle.theory.proofs.All.{All}
+use Rattle.theory.proofs.All.{All, keep-yes, keep-no}
+use Rattle.theory.proofs.Parts.{part-length, part-word, part-kind}
 use Rattle.theory.proofs.References.{by-kind}
 use Rattle.groups.specs.Groups.{sheetNumber, startOf, endOf, between, Tiled, Indexed}
-use Rattle.groups.proofs.Between.{part-length, part-word, tiled-step, tiled-end}
-use Rattle.groups.proofs.Classes.{group-tiled, group-between, group-lengths, sheet-small}
+use Rattle.groups.proofs.Between.{tiled-step, tiled-end}
+use Rattle.groups.proofs.Classes.{group-tiled, group-between, group-lengths, end-small}
 use Rattle.overlay.specs.Memo.{lowerRaw, withInterfaces, Right}
 use Rattle.overlay.proofs.Unions.{union-assoc, union-zero}
 
@@ -39,7 +40,7 @@ walk-start {library} {user} {nlib} {n} x {c} h mine r =
     let e = group-between x h in
     record {
       tiled = group-tiled x h;
-      small = omega (arith, group-tiled x h .within, sheet-small x h);
+      small = end-small x h;
       sizes = subst (All (λ r. T (lengthFits r))) (sym e) (group-lengths x c);
       rest = ap (λ (rs : List (List ℕ)). union mine (unionAll (map (lowerRaw (group library user) c) (targets IMPLEMENTS rs)))) e;
       right = r;
@@ -62,12 +63,12 @@ walk-end {g} {c} {mine} {s} {end = end} {at} {m} w h =
 
 -- what a record adds to the interfaces
 targets-implements : (r : List ℕ) (rs : List (List ℕ)) → isKind IMPLEMENTS r ≡ true → targets IMPLEMENTS (r ∷ rs) ≡ target r ∷ targets IMPLEMENTS rs
-unfolding targets ofKind keep
-targets-implements r rs e = ap (λ (b : Bool). map target (elim b as (λ (x : Bool). List (List ℕ)) [ true ↦ r ∷ keep (isKind IMPLEMENTS) rs | false ↦ keep (isKind IMPLEMENTS) rs ])) e
+unfolding targets ofKind
+targets-implements r rs e = ap (map target) (keep-yes (isKind IMPLEMENTS) r rs e)
 
 targets-other : (r : List ℕ) (rs : List (List ℕ)) → isKind IMPLEMENTS r ≡ false → targets IMPLEMENTS (r ∷ rs) ≡ targets IMPLEMENTS rs
-unfolding targets ofKind keep
-targets-other r rs e = ap (λ (b : Bool). map target (elim b as (λ (x : Bool). List (List ℕ)) [ true ↦ r ∷ keep (isKind IMPLEMENTS) rs | false ↦ keep (isKind IMPLEMENTS) rs ])) e
+unfolding targets ofKind
+targets-other r rs e = ap (map target) (keep-no (isKind IMPLEMENTS) r rs e)
 
 six : (r : List ℕ) → T (isKind IMPLEMENTS r) → T (lengthFits r) → length r ≡ 6
 unfolding lengthFits
@@ -78,8 +79,7 @@ module _ {g : ℕ → Group} {c mine : ℕ} {s memo : List ℕ} {end at m : ℕ}
   record-here = take (u16 s at) (drop at s)
 
   kind-here : kind record-here ≡ u16 s (at + 2)
-  unfolding kind
-  kind-here = part-word s at (u16 s at) 2 (omega (arith, tiled-step (w .tiled) h .0))
+  kind-here = part-kind s at (u16 s at) (tiled-step (w .tiled) h .0)
 
   sizes-here : All (λ r. T (lengthFits r)) (record-here ∷ between s (at + u16 s at) end)
   sizes-here = subst (All (λ r. T (lengthFits r))) (tiled-step (w .tiled) h .2) (w .sizes)

@@ -3,13 +3,13 @@
 use mathlib.Core.Path.{_≡_, refl, sym}
 use mathlib.Core.Bool.{true}
 use mathlib.Core.List.{List}
-use Prim.Native.Nat.{ℕ}
+use Prim.Native.Nat.{ℕ, _+_, _-_}
 use native.Mathlib.Omega.{arith}
 use lib.ListN.{length, take, drop}
-use Rattle.spec.specs.Record.{u8, kind, byKind, flags, zeroByte, className, fieldTy, localTy, kindFits, withName, lengthFits, bodyFits}
-use Rattle.pass.specs.Pass.{homeFits, sizeFits, bodyAt}
+use Rattle.spec.specs.Record.{u8, kind, byKind, flags, zeroByte, className, fieldTy, localTy, kindFits, nameFits, withName, lengthFits, bodyFits}
+use Rattle.theory.proofs.Parts.{part-byte, part-word, part-type, part-rest}
+use Rattle.pass.specs.Pass.{homeFits, sizeFits, nameAt, bodyAt}
 use Rattle.pass.proofs.Tables.{each, size-known, at-least}
-use Rattle.pass.proofs.Reading.{byte-in, u16-in, type-in, name-in}
 
 -- kinds without flags, type or name
 pub other-body : (sheet : ℕ) (s : List ℕ) (at k n : ℕ) → sizeFits k n ≡ true → (k ≡ 1 → ⊥) → (k ≡ 3 → ⊥) → (k ≡ 4 → ⊥) → (k ≡ 7 → ⊥) → true ≡ bodyAt sheet s at k n
@@ -30,25 +30,29 @@ unfolding lengthFits byKind withName sizeFits
 length-fits r = refl
 
 module _ (sheet : ℕ) (s : List ℕ) (at n : ℕ) where
+  name-in : (j : ℕ) → nameFits (drop j (take n (drop at s))) ≡ nameAt s at n j
+  unfolding nameAt
+  name-in j = let e : n - j ≡ (at + n) - (at + j) = omega arith in rw (part-rest s at n j, e)
+
   pub body-fits : sizeFits (kind (take n (drop at s))) n ≡ true → bodyFits sheet (take n (drop at s)) ≡ bodyAt sheet s at (kind (take n (drop at s))) n
   unfolding byKind bodyFits bodyAt flags zeroByte u8 className fieldTy localTy
   body-fits h =
       each (λ k. kind (take n (drop at s)) ≡ k → sizeFits k n ≡ true → bodyFits sheet (take n (drop at s)) ≡ bodyAt sheet s at k n) 9 (
         λ e h. rw e,
         (
-          λ e h. let l = at-least 1 refl h in rw (e, u16-in s at n 4 (omega arith), byte-in s at n 7 (omega arith), name-in s at n 12),
+          λ e h. let l = at-least 1 refl h in rw (e, part-word s at n 4 (omega arith), part-byte s at n 7 (omega arith), name-in 12),
           (
             λ e h. rw e,
             (
-              λ e h. let l = at-least 3 refl h in rw (e, u16-in s at n 4 (omega arith), type-in s at n 6 (omega arith), name-in s at n 10),
+              λ e h. let l = at-least 3 refl h in rw (e, part-word s at n 4 (omega arith), part-type s at n 6 (omega arith), name-in 10),
               (
-                λ e h. let l = at-least 4 refl h in rw (e, type-in s at n 4 (omega arith), name-in s at n 8),
+                λ e h. let l = at-least 4 refl h in rw (e, part-type s at n 4 (omega arith), name-in 8),
                 (
                   λ e h. rw e,
                   (
                     λ e h. rw e,
                     (
-                      λ e h. let l = at-least 7 refl h in rw (e, u16-in s at n 4 (omega arith), name-in s at n 6),
+                      λ e h. let l = at-least 7 refl h in rw (e, part-word s at n 4 (omega arith), name-in 6),
                       (
                         λ e h. rw e,
                         tt,

@@ -3,7 +3,7 @@
 use mathlib.Core.Path.{_≡_, refl, sym, ap, _∙_}
 use mathlib.Core.Bool.{Bool, true, false, not}
 use mathlib.Core.List.{List}
-use mathlib.Core.Option.{Option, none, some}
+use mathlib.Core.Option.{none, some}
 use Prim.Native.Nat.{ℕ, suc, _+_, _≤_, _<_}
 use native.Mathlib.Nat.{zero-add}
 use native.Mathlib.Numerals.{add-one}
@@ -14,21 +14,20 @@ use borrow.Author.Tests.{eq-eqb, ne-eqb}
 use Rattle.spec.specs.Lists.{all, concat}
 use Rattle.spec.specs.Record.{u16, kind, isClass}
 use Rattle.spec.specs.Sheet.{wholeFirst, recordsOf, wholeEnd, Split, splitGroups, groupsOf, classCount, Located, locatedIn}
-use Rattle.spec.specs.Refusals.{Refusal, refuseIf, refuseRecord, recordTests, recordRefusal, tornRefusal}
+use Rattle.spec.specs.Refusals.{refuseIf, recordTests, recordRefusal, tornRefusal}
 use Rattle.theory.proofs.Bools.{not-or-l, not-or-r}
 use Rattle.theory.proofs.All.{All}
 use Rattle.theory.proofs.Cut.{split-class, split-other}
-use Rattle.theory.proofs.Answers.{some≢none, Fails, record-none}
+use Rattle.theory.proofs.Answers.{some≢none, first-past, first-some, Fails, record-none}
 use Rattle.pass.specs.Pass.{numberOf, recordAt, place, recordNumber, passRefusal, passOf, fill, filled, Filled}
 use Rattle.pass.specs.declared.Pass.the-variants.{Fine, Refused}
 use Rattle.pass.proofs.Starts.{fill-class, fill-other}
-use Rattle.pass.proofs.Walk.{Whole, whole-at, at-whole, records-stop, end-stop, records-here, length-here, class-here, other-here, first-past, first-some, rest, walk-stop, walk-step, walk-class, walk-other, place-refuses}
+use Rattle.pass.proofs.Whole.{Whole, whole-at, at-whole, whole-unless, records-stop, end-stop, records-here, length-here, class-here, other-here}
+use Rattle.pass.proofs.Numbers.{number-torn}
+use Rattle.pass.proofs.Places.{answer, place-class, place-other, place-refuses}
+use Rattle.pass.proofs.Walk.{rest, walk-stop, walk-step, walk-class, walk-other}
 
 -- ---- one record
-
--- what refuses a located record
-unfoldable pub answer : Located → Option Refusal
-answer l = refuseRecord l (recordTests l)
 
 -- the kind before a record is not asked for
 tests-before : (sheet at n k b : ℕ) (r : List ℕ) → recordTests (place sheet at n k b r) ≡ recordTests (place sheet at n k 0 r)
@@ -45,13 +44,8 @@ module _ (sheet : ℕ) (s : List ℕ) (at n k b : ℕ) (w : Whole s at) where
   unfolding recordNumber
   number-here = rw (at-whole w, recordNumber, tests-before sheet at n k b (recordAt s at))
 
-  answer-here : answer (place sheet at n k b (recordAt s at)) ≡ refuseIf (not (eqb (recordNumber sheet s at n k) 0)) (recordNumber sheet s at n k) sheet at
-  unfolding answer
-  answer-here = rw number-here (place-refuses sheet at n k b (recordAt s at) (recordTests (place sheet at n k b (recordAt s at))) (unfold recordTests all in tt))
-
-pub number-torn : (sheet : ℕ) (s : List ℕ) (at n k : ℕ) → wholeFirst (drop at s) ≡ false → recordNumber sheet s at n k ≡ 2
-unfolding recordNumber
-number-torn sheet s at n k e = rw (e, recordNumber)
+  answer-here : answer recordTests (place sheet at n k b (recordAt s at)) ≡ refuseIf (not (eqb (recordNumber sheet s at n k) 0)) (recordNumber sheet s at n k) sheet at
+  answer-here = rw number-here (place-refuses recordTests sheet at n k b (recordAt s at) (unfold recordTests all in tt))
 
 -- what a record that is not refused says of its numbers
 pub record Passed (s : List ℕ) (at c k : ℕ) : Type 0 where
@@ -60,30 +54,18 @@ pub record Passed (s : List ℕ) (at c k : ℕ) : Type 0 where
   pub group-room : (u16 s (at + 2) ≡ 1 → ⊥) → k < 255
 
 -- "class 257 or a group's record 256"
-room : (l : Located) → answer l ≡ none → (l .class < 256) × (l .recordNumber < 255)
+room : (l : Located) → answer recordTests l ≡ none → (l .class < 256) × (l .recordNumber < 255)
 unfolding answer recordTests
 room l e =
     let f : All Fails (recordTests l) = record-none l (recordTests l) e in
     let t = f .1 .1 .1 .1 .0 in
     (nleb→lt 256 (l .class) (not-or-l (leb 256 (l .class)) (leb 255 (l .recordNumber)) t), nleb→lt 255 (l .recordNumber) (not-or-r (leb 256 (l .class)) (leb 255 (l .recordNumber)) t))
 
-class-place : (sheet at n k b : ℕ) (r : List ℕ) → isClass r ≡ true → place sheet at n k b r .class ≡ n
-unfolding place
-class-place sheet at n k b r e = rw (e, place)
-
-other-place : (sheet at n k b : ℕ) (r : List ℕ) → isClass r ≡ false → place sheet at n k b r .recordNumber ≡ k
-unfolding place
-other-place sheet at n k b r e = rw (e, place)
-
 module _ (sheet : ℕ) (s : List ℕ) (at c k : ℕ) (z : recordNumber sheet s at c k ≡ 0) where
   passed-whole : Whole s at
-  passed-whole = go (wholeFirst (drop at s)) refl
-    where
-      go : (b : Bool) → wholeFirst (drop at s) ≡ b → Whole s at
-      go true e = whole-at s at e
-      go false e = let q = number-torn sheet s at c k e in absurd (omega arith)
+  passed-whole = whole-unless s at (λ e. omega (arith, number-torn sheet s at c k e))
 
-  passed-answer : (b : ℕ) → answer (place sheet at c k b (recordAt s at)) ≡ none
+  passed-answer : (b : ℕ) → answer recordTests (place sheet at c k b (recordAt s at)) ≡ none
   passed-answer b = answer-here sheet s at c k b passed-whole ∙ (unfold refuseIf in rw z)
 
   pub passed : Passed s at c k
@@ -92,8 +74,8 @@ module _ (sheet : ℕ) (s : List ℕ) (at c k : ℕ) (z : recordNumber sheet s a
       let q = room (place sheet at c k 0 r) (passed-answer 0) in
       record {
         here = passed-whole;
-        class-room = λ e. omega (arith, class-place sheet at c k 0 r (class-here passed-whole e));
-        group-room = λ e. omega (arith, other-place sheet at c k 0 r (other-here passed-whole e));
+        class-room = λ e. omega (arith, ap (λ (l : Located). l .class) (place-class sheet at c k 0 r (class-here passed-whole e)));
+        group-room = λ e. omega (arith, ap (λ (l : Located). l .recordNumber) (place-other sheet at c k 0 r (other-here passed-whole e)));
       }
 
 -- ---- the records from a byte on
@@ -141,7 +123,7 @@ module _ (s : List ℕ) (e : wholeFirst s ≡ false) where
 -- the pass stands at byte `at`, after c classes and k records of the open group, and has made `row` of `row₀`
 pub record Going (sheet : ℕ) (s : List ℕ) (base : ℕ) (row₀ row : List ℕ) (at c k : ℕ) : Type 0 where
   pub before : ℕ  -- the kind of the record before
-  pub rest : rest answer sheet s at c k before ≡ recordRefusal sheet base s
+  pub rest : rest (answer recordTests) sheet s at c k before ≡ recordRefusal sheet base s
   pub end : at + wholeEnd (drop at s) ≡ wholeEnd s
   pub rows : fill row c at (recordsOf (drop at s)) ≡ filled row₀ base s
   pub count : c + classCount (drop at s) ≡ base + classCount s
@@ -173,7 +155,7 @@ module _ {sheet : ℕ} {s : List ℕ} {base : ℕ} {row₀ row : List ℕ} {at c
         let e = end-stop s at h in
         let z = none-end (drop at s) e in
         let l : wholeEnd s ≡ length s = omega (arith, g .end, g .inside) in
-        first-past _ _ (sym (g .rest) ∙ walk-stop answer sheet s at c k (g .before) e) ∙ rw (eq-eqb (wholeEnd s) (length s) l)
+        first-past _ _ (sym (g .rest) ∙ walk-stop (answer recordTests) sheet s at c k (g .before) e) ∙ rw (eq-eqb (wholeEnd s) (length s) l)
 
     ends-count : c ≡ base + classCount s
     ends-count = omega (arith, g .count, none-count (drop at s) (end-stop s at h))
@@ -192,13 +174,13 @@ module _ {sheet : ℕ} {s : List ℕ} {base : ℕ} {row₀ row : List ℕ} {at c
         go : (b : Bool) → wholeFirst (drop at s) ≡ b → passRefusal sheet base s ≡ some (record { number = number; sheet = sheet; byte = at })
         go true w =
             let a = answer-here sheet s at c k (g .before) (whole-at s at w) in
-            first-some _ (sym (g .rest) ∙ walk-step answer sheet s at c k (g .before) (whole-at s at w) ∙ first-some _ (a ∙ rw (← e, ne-eqb number 0 z)))
+            first-some _ (sym (g .rest) ∙ walk-step (answer recordTests) sheet s at c k (g .before) (whole-at s at w) ∙ first-some _ (a ∙ rw (← e, ne-eqb number 0 z)))
         go false w =
             let n = number-torn sheet s at c k w in
             let q = none-end (drop at s) w in
             let l : wholeEnd s ≡ at = omega (arith, g .end) in
             let m : number ≡ 2 = omega arith in
-            first-past _ _ (sym (g .rest) ∙ walk-stop answer sheet s at c k (g .before) w) ∙ rw (ne-eqb (wholeEnd s) (length s) (λ d. omega arith), l, m)
+            first-past _ _ (sym (g .rest) ∙ walk-stop (answer recordTests) sheet s at c k (g .before) w) ∙ rw (ne-eqb (wholeEnd s) (length s) (λ d. omega arith), l, m)
 
     -- the record at hand is refused
     pub stops : at < length s → (number ≡ 0 → ⊥) → (m : ℕ) → (Refused number at ≡ passOf (passRefusal sheet base s) m) × Filled (passRefusal sheet base s) base s row₀ row
@@ -215,7 +197,7 @@ module _ {sheet : ℕ} {s : List ℕ} {base : ℕ} {row₀ row : List ℕ} {at c
           record {
             before = kind (recordAt s at);
             rest = rw (el, ec, en, add-one)
-                (sym (first-past _ _ (passed-answer sheet s at c k (sym e ∙ z) (g .before))) ∙ sym (walk-class answer sheet s at c k (g .before) w o) ∙ g .rest);
+                (sym (first-past _ _ (passed-answer sheet s at c k (sym e ∙ z) (g .before))) ∙ sym (walk-class (answer recordTests) sheet s at c k (g .before) w o) ∙ g .rest);
             end = rw el (omega (arith, end-step w, g .end));
             rows = rw (el, es, ec, add-one) (sym (rows-class w row c o) ∙ g .rows);
             count = rw el (omega (arith, count-class w o, g .count));
@@ -235,7 +217,7 @@ module _ {sheet : ℕ} {s : List ℕ} {base : ℕ} {row₀ row : List ℕ} {at c
           record {
             before = kind (recordAt s at);
             rest = rw (el, ec, en, add-one)
-                (sym (first-past _ _ (passed-answer sheet s at c k (sym e ∙ z) (g .before))) ∙ sym (walk-other answer sheet s at c k (g .before) w o) ∙ g .rest);
+                (sym (first-past _ _ (passed-answer sheet s at c k (sym e ∙ z) (g .before))) ∙ sym (walk-other (answer recordTests) sheet s at c k (g .before) w o) ∙ g .rest);
             end = rw el (omega (arith, end-step w, g .end));
             rows = rw (el, es, ec) (sym (rows-other w row c o) ∙ g .rows);
             count = rw el (omega (arith, count-other w o, g .count));

@@ -1,8 +1,9 @@
 pub mod Tables
 pub mod Names
-pub mod Reading
+pub mod Whole
 pub mod Bodies
 pub mod Numbers
+pub mod Places
 pub mod Walk
 pub mod Starts
 pub mod Going

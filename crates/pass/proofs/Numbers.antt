@@ -1,56 +1,29 @@
 -- The number that refuses what begins at a byte: first whether a whole record does, then the tests of that record in their order.
 -- Assumes nothing.
-use mathlib.Core.Path.{_≡_, refl, sym, _∙_, ap}
-use mathlib.Core.Bool.{Bool, true, false, not, _&&_, _||_}
+use mathlib.Core.Path.{_≡_, refl, sym}
+use mathlib.Core.Bool.{Bool, true, false, not, _||_, or-false}
 use mathlib.Core.List.{List, [], _∷_}
-use Prim.Native.Nat.{ℕ, zero, suc, _+_, _-_, _≤_, _<_}
-use native.Mathlib.Nat.{add-zero}
+use Prim.Native.Nat.{ℕ, zero, suc, _+_, _-_, _≤_}
 use native.Mathlib.Omega.{arith}
-use lib.Dec.{T, eqb, leb, ltb, leb→le}
-use lib.ListN.{length, getD, take, drop, length-drop}
-use lib.Seq.{getD-drop}
-use borrow.Author.Tests.{le-leb, lt-leb}
+use lib.Dec.{eqb, leb, ltb}
+use lib.ListN.{length, drop}
+use borrow.Author.Tests.{lt-leb}
 use Rattle.spec.specs.Record.{u16, kind, isClass, bodyFits}
 use Rattle.spec.specs.Sheet.{wholeFirst}
 use Rattle.spec.specs.Refusals.{recordTests}
-use Rattle.theory.proofs.Bools.{and-l, and-r, true-t}
 use Rattle.pass.specs.Pass.{homeFits, sizeFits, bodyAt, orderNumber, numberOf, recordAt, place, recordNumber}
-use Rattle.pass.proofs.Reading.{length-in, u16-in}
+use Rattle.pass.proofs.Whole.{Whole, at-whole, not-whole, length-here, kind-here}
 use Rattle.pass.proofs.Bodies.{kind-fits, length-fits, body-fits}
 
--- ---- whether a whole record begins at a byte
+-- ---- no whole record begins at a byte
 
-pub record Whole (s : List ℕ) (at : ℕ) : Type 0 where
-  pub four : at + 4 ≤ length s
-  pub long : 4 ≤ u16 s at
-  pub ends : at + u16 s at ≤ length s
-
-u16-drop : (s : List ℕ) (at : ℕ) → u16 (drop at s) 0 ≡ u16 s at
-unfolding u16
-u16-drop s at = rw (getD-drop at s 0 0, getD-drop at s 1 0, add-zero at)
-
-module _ (s : List ℕ) (at : ℕ) where
-  pub whole-first : Whole s at → wholeFirst (drop at s) ≡ true
-  unfolding wholeFirst
-  whole-first w =
-      rw (u16-drop s at, length-drop at s, le-leb 4 (length s - at) (omega arith), le-leb 4 (u16 s at) (w .long), le-leb (u16 s at) (length s - at) (omega arith))
-
-  pub first-whole : at < length s → wholeFirst (drop at s) ≡ true → Whole s at
-  unfolding wholeFirst
-  first-whole h e =
-      let t = true-t (rw (u16-drop s at, length-drop at s) at e) in
-      let p = leb→le 4 (length s - at) (and-l (leb 4 (length s - at)) (leb 4 (u16 s at)) (and-l (leb 4 (length s - at) && leb 4 (u16 s at)) (leb (u16 s at) (length s - at)) t)) in
-      let q = leb→le 4 (u16 s at) (and-r (leb 4 (length s - at)) (leb 4 (u16 s at)) (and-l (leb 4 (length s - at) && leb 4 (u16 s at)) (leb (u16 s at) (length s - at)) t)) in
-      let r = leb→le (u16 s at) (length s - at) (and-r (leb 4 (length s - at) && leb 4 (u16 s at)) (leb (u16 s at) (length s - at)) t) in
-      record { four = omega arith; long = omega arith; ends = omega arith }
-
-  pub torn : (sheet n k : ℕ) → at < length s → (Whole s at → ⊥) → 2 ≡ recordNumber sheet s at n k
+module _ (sheet : ℕ) (s : List ℕ) (at n k : ℕ) where
+  pub number-torn : wholeFirst (drop at s) ≡ false → recordNumber sheet s at n k ≡ 2
   unfolding recordNumber
-  torn sheet n k h w = go (wholeFirst (drop at s)) refl
-    where
-      go : (b : Bool) → wholeFirst (drop at s) ≡ b → 2 ≡ recordNumber sheet s at n k
-      go true e = absurd (w (first-whole h e))
-      go false e = rw (e, recordNumber)
+  number-torn e = rw (e, recordNumber)
+
+  pub torn : (Whole s at → ⊥) → 2 ≡ recordNumber sheet s at n k
+  torn w = sym (number-torn (not-whole s at w))
 
 -- ---- the tests of a whole record
 
@@ -58,10 +31,6 @@ module _ (s : List ℕ) (at : ℕ) where
 abbrev pub full : Bool → ℕ → ℕ → Bool
 full true n k = leb 256 n
 full false n k = leb 255 k
-
-or-false : (b : Bool) → (b || false) ≡ b
-or-false true = refl
-or-false false = refl
 
 placed : (sheet at n k : ℕ) (r : List ℕ) → n ≤ 256
     → recordTests (place sheet at n k 0 r) ≡ (3, not (homeFits sheet (kind r))) ∷ (4, not (sizeFits (kind r) (length r))) ∷ (6, not (isClass r || ltb 0 k)) ∷ (5, not (bodyFits sheet r)) ∷ (7, full (isClass r) n k) ∷ []
@@ -118,10 +87,9 @@ whole-number : (sheet : ℕ) (s : List ℕ) (at n k : ℕ) → Whole s at → n 
     → recordNumber sheet s at n k ≡ orElse (orderNumber sheet (u16 s (at + 2)) (u16 s at) k) (late (bodyAt sheet s at (u16 s (at + 2)) (u16 s at)) (full (eqb (u16 s (at + 2)) 1) n k))
 unfolding recordNumber recordAt orderNumber kind
 whole-number sheet s at n k w h =
-    let r = take (u16 s at) (drop at s) in
-    let el : length r ≡ u16 s at = length-in s at (u16 s at) (w .ends) in
-    let ek : kind r ≡ u16 s (at + 2) = u16-in s at (u16 s at) 2 (omega arith) in
-    rw (whole-first s at w, recordNumber, placed sheet at n k r h, el, ek)
+    let r = recordAt s at in
+    let ek = kind-here w in
+    rw (at-whole w, recordNumber, placed sheet at n k r h, length-here w, ek)
     (decided (homeFits sheet (u16 s (at + 2))) (sizeFits (u16 s (at + 2)) (u16 s at)) (eqb (u16 s (at + 2)) 1 || ltb 0 k) (bodyFits sheet r) (bodyAt sheet s at (u16 s (at + 2)) (u16 s at)) (full (eqb (u16 s (at + 2)) 1) n k)
     (λ e. rw ek at (body-fits sheet s at (u16 s at) (rw ek e))))
 

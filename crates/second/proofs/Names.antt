@@ -17,12 +17,13 @@ use Rattle.spec.specs.Sheet.{Group, group, classRecord}
 use Rattle.spec.specs.Refusals.{nameMet}
 use Rattle.theory.specs.Claims.{sheetOf}
 use Rattle.theory.proofs.Bools.{and-r, true-t, t-true}
+use Rattle.theory.proofs.Parts.{part-length, part-byte}
 use Rattle.pass.specs.Pass.{recordAt}
+use Rattle.pass.proofs.Whole.{length-here}
 use Rattle.groups.specs.Groups.{sheetNumber, startOf, Indexed}
-use Rattle.groups.proofs.Between.{part-length, part-byte}
-use Rattle.groups.proofs.Classes.{class-long, class-record, class-room, class-size, group-tiled}
+use Rattle.groups.proofs.Classes.{class-long, class-record, class-room, class-size, group-tiled, sheet-low}
 use Rattle.second.specs.Second.{Sized}
-use Rattle.second.proofs.Positions.{length-at, ends-within, sheet-low}
+use Rattle.second.proofs.Positions.{whole, ends-within}
 
 -- ---- two lists
 
@@ -110,7 +111,7 @@ module _ {library user : List ℕ} {nlib n : ℕ} {row : List ℕ} (x : Indexed 
   unfolding className recordAt
   compares small e = record {
     first = class-record x h ∙ ap₂ (λ (k i : ℕ). take (u16 (sheetOf library user k) i) (drop i (sheetOf library user k))) (sym eo) (sym ef) ∙ ap (λ (k : ℕ). take k (drop from (sheetOf library user other))) (sym ew ∙ sym ev ∙ e);
-    second = ap (λ (k : ℕ). take k (drop at t)) (sym (length-at z) ∙ sym el);
+    second = ap (λ (k : ℕ). take k (drop at t)) (sym (length-here (whole z)) ∙ sym el);
     first-ends = rw (eo, ef) (omega (arith, e, own-length, class-room x h, group-tiled x h));
     second-ends = omega (arith, el, ends-within z);
     first-small = sheet-low x other;

@@ -3,25 +3,28 @@
 use mathlib.Core.Path.{_≡_, refl, sym, ap, _∙_, subst}
 use mathlib.Core.Bool.{Bool, true, false, not}
 use mathlib.Core.List.{List}
-use mathlib.Core.Option.{Option, none}
+use mathlib.Core.Option.{none}
 use Prim.Native.Nat.{ℕ, suc, _+_, _-_, _≤_, _<_}
 use native.Mathlib.Nat.{zero-add}
 use native.Mathlib.Numerals.{add-one}
 use native.Mathlib.Decide.{ℕ-discrete}
 use native.Mathlib.Omega.{arith}
-use lib.Dec.{T, eqb, ltb, ltb→lt}
+use lib.Dec.{T, eqb, ltb→lt}
 use lib.ListN.{length, drop}
 use borrow.Author.Tests.{eq-eqb, ne-eqb}
 use Rattle.spec.specs.Lists.{all}
 use Rattle.spec.specs.Record.{u16, kind, isClass, lengthFits}
-use Rattle.spec.specs.Sheet.{Group, wholeFirst, recordsOf, wholeEnd, classCount, Located, locate, locatedIn}
-use Rattle.spec.specs.Refusals.{Refusal, refuseIf, refuseRecord, formTests}
+use Rattle.spec.specs.Sheet.{Group, recordsOf, wholeEnd, classCount, Located, locate, locatedIn}
+use Rattle.spec.specs.Refusals.{refuseIf, formTests}
 use Rattle.theory.proofs.Bools.{t-true}
 use Rattle.theory.proofs.All.{All}
+use Rattle.theory.proofs.Answers.{first-past, first-some}
 use Rattle.theory.proofs.Accept.{Passed, Clear}
 use Rattle.pass.specs.Pass.{numberOf, recordAt, place, passOf}
 use Rattle.pass.specs.declared.Pass.the-variants.{Fine, Refused}
-use Rattle.pass.proofs.Walk.{Whole, whole-at, at-whole, locate-cons, classesAfter, recordsAfter, end-stop, records-here, length-here, kind-here, class-here, other-here, first-past, first-some, rest, walk-stop, walk-class, walk-other, walk-step, place-refuses}
+use Rattle.pass.proofs.Whole.{Whole, at-whole, whole-unless, end-stop, records-here, length-here, kind-here, class-here, other-here}
+use Rattle.pass.proofs.Places.{answer, classPlace, otherPlace, place-other, by-place, classesAfter, recordsAfter, locate-cons, place-refuses}
+use Rattle.pass.proofs.Walk.{rest, walk-stop, walk-class, walk-other, walk-step}
 use Rattle.pass.proofs.Going.{end-step, count-class, count-other, none-end, none-count}
 use Rattle.second.specs.Second.{Sized, formNumber, formIn, openedBy}
 
@@ -44,10 +47,7 @@ unfolding place classOf openedBy
 place-seen sheet at c k b r = go (isClass r)
   where
     go : (x : Bool)
-        → (let l : Located = elim x as (λ (y : Bool). Located) [
-          | true ↦ record { sheet = sheet; byte = at; class = c; recordNumber = 0; before = 0; grouped = true; bytes = r }
-          | false ↦ record { sheet = sheet; byte = at; class = c - 1; recordNumber = k; before = b; grouped = ltb 0 k; bytes = r }
-        ] in seen (l .class) (l .bytes) ≡ seen (elim x as (λ (y : Bool). ℕ) [ true ↦ c + 1 | false ↦ c ] - 1) r)
+        → (let l : Located = elim x as (λ (y : Bool). Located) [ true ↦ classPlace sheet at c k b r | false ↦ otherPlace sheet at c k b r ] in seen (l .class) (l .bytes) ≡ seen (elim x as (λ (y : Bool). ℕ) [ true ↦ c + 1 | false ↦ c ] - 1) r)
     go true = ap (λ (m : ℕ). seen m r) (let e : c ≡ c + 1 - 1 = omega arith in e)
     go false = refl
 
@@ -62,22 +62,18 @@ module _ (g : ℕ → Group) (nlib n sheet : ℕ) {s : List ℕ} {at : ℕ} (w :
       (tests-seen g nlib n (place sheet at c k b (recordAt s at))
       ∙ ap (formTests g nlib n) (place-seen sheet at c k b (recordAt s at) ∙ ap (λ (x : ℕ). seen (classOf x c) (recordAt s at)) (kind-here w)))
 
-  answer-here : refuseRecord (place sheet at c k b (recordAt s at)) (formTests g nlib n (place sheet at c k b (recordAt s at))) ≡ refuseIf (not (eqb number-here 0)) number-here sheet at
+  answer-here : answer (formTests g nlib n) (place sheet at c k b (recordAt s at)) ≡ refuseIf (not (eqb number-here 0)) number-here sheet at
   answer-here =
-      place-refuses sheet at c k b (recordAt s at) (formTests g nlib n (place sheet at c k b (recordAt s at))) (unfold formTests all in tt)
+      place-refuses (formTests g nlib n) sheet at c k b (recordAt s at) (unfold formTests all in tt)
       ∙ ap (λ (m : ℕ). refuseIf (not (eqb m 0)) m sheet at) tests-here
 
 -- ---- the pass at a byte
-
--- what refuses a located record
-unfoldable pub answer : (ℕ → Group) → ℕ → ℕ → Located → Option Refusal
-answer g nlib n l = refuseRecord l (formTests g nlib n l)
 
 -- the pass stands at byte `at` after c classes
 pub record Passing (g : ℕ → Group) (nlib n sheet : ℕ) (s : List ℕ) (base at c : ℕ) : Type 0 where
   pub inGroup : ℕ  -- the records of the open group
   pub before : ℕ  -- the kind of the record before
-  pub rest : rest (answer g nlib n) sheet s at c inGroup before ≡ formIn g nlib n sheet base s
+  pub rest : rest (answer (formTests g nlib n)) sheet s at c inGroup before ≡ formIn g nlib n sheet base s
   pub passed : All Passed (locate sheet at c inGroup before (recordsOf (drop at s)))
   pub count : c + classCount (drop at s) ≡ base + classCount s
   pub opened : 0 < inGroup → base < c
@@ -117,23 +113,8 @@ module _ (sheet c k b : ℕ) {s : List ℕ} {at : ℕ} (w : Whole s at) (h : All
   others-other e =
       subst (λ (x : Bool). All Passed (locate sheet (at + u16 s at) (classesAfter x c) (recordsAfter x k) (kind (recordAt s at)) (recordsOf (drop (at + u16 s at) s)))) (other-here w e) (located .1)
 
-place-bytes : (sheet at c k b : ℕ) (r : List ℕ) → place sheet at c k b r .bytes ≡ r
-unfolding place
-place-bytes sheet at c k b r = go (isClass r)
-  where
-    go : (x : Bool) → (elim x as (λ (y : Bool). Located) [
-      | true ↦ record { sheet = sheet; byte = at; class = c; recordNumber = 0; before = 0; grouped = true; bytes = r }
-      | false ↦ record { sheet = sheet; byte = at; class = c - 1; recordNumber = k; before = b; grouped = ltb 0 k; bytes = r }
-    ]) .bytes ≡ r
-    go true = refl
-    go false = refl
-
 place-grouped : (sheet at c k b : ℕ) (r : List ℕ) → isClass r ≡ false → T (place sheet at c k b r .grouped) → 0 < k
-unfolding place
-place-grouped sheet at c k b r e t = ltb→lt 0 k (subst (λ (x : Bool). T ((elim x as (λ (y : Bool). Located) [
-  | true ↦ record { sheet = sheet; byte = at; class = c; recordNumber = 0; before = 0; grouped = true; bytes = r }
-  | false ↦ record { sheet = sheet; byte = at; class = c - 1; recordNumber = k; before = b; grouped = ltb 0 k; bytes = r }
-]) .grouped)) e t)
+place-grouped sheet at c k b r e t = ltb→lt 0 k (rw (place-other sheet at c k b r e) at t)
 
 opened-class : (k c : ℕ) → k ≡ 1 → openedBy k c ≡ c + 1
 unfolding openedBy
@@ -149,21 +130,17 @@ module _ {g : ℕ → Group} {nlib n sheet : ℕ} {s : List ℕ} {base at c : �
   ends h =
       let e = end-stop s at h in
       let k : c ≡ base + classCount s = omega (arith, p .count, none-count (drop at s) e) in
-      rw (sym (p .rest) ∙ walk-stop (answer g nlib n) sheet s at c (p .inGroup) (p .before) e, ← k)
+      rw (sym (p .rest) ∙ walk-stop (answer (formTests g nlib n)) sheet s at c (p .inGroup) (p .before) e, ← k)
 
   module _ (h : at < length s) where
     pub here : Whole s at
-    here = go (wholeFirst (drop at s)) refl
-      where
-        go : (b : Bool) → wholeFirst (drop at s) ≡ b → Whole s at
-        go true e = whole-at s at e
-        go false e = absurd (let z = none-end (drop at s) e in omega (arith, p .end))
+    here = whole-unless s at (λ e. omega (arith, none-end (drop at s) e, p .end))
 
     first : Passed (place sheet at c (p .inGroup) (p .before) (recordAt s at))
     first = located sheet c (p .inGroup) (p .before) here (p .passed) .0
 
     pub sized : Sized s at
-    sized = record { whole = at-whole here; size = t-true _ (subst (λ (r : List ℕ). T (lengthFits r)) (place-bytes sheet at c (p .inGroup) (p .before) (recordAt s at)) (first .lengthFits)) }
+    sized = record { whole = at-whole here; size = t-true _ (rw (by-place sheet at c (p .inGroup) (p .before) (recordAt s at) (λ l. l .bytes ≡ recordAt s at) refl refl) at (first .lengthFits)) }
 
     -- a class is open, and it is one of the sheet's
     pub class-open : {k c′ : ℕ} → k ≡ u16 s (at + 2) → c′ ≡ openedBy k c → (base < c′) × (c′ ≤ base + classCount s)
@@ -182,22 +159,21 @@ module _ {g : ℕ → Group} {nlib n sheet : ℕ} {s : List ℕ} {base at c : �
       unfolding classOf
       is-number = en ∙ ap (λ (x : ℕ). formNumber g nlib n (x - 1) (recordAt s at)) (ec ∙ ap (λ (x : ℕ). openedBy x c) ek)
 
-      answered : answer g nlib n (place sheet at c (p .inGroup) (p .before) (recordAt s at)) ≡ refuseIf (not (eqb number 0)) number sheet at
-      unfolding answer
+      answered : answer (formTests g nlib n) (place sheet at c (p .inGroup) (p .before) (recordAt s at)) ≡ refuseIf (not (eqb number 0)) number sheet at
       answered = answer-here g nlib n sheet here c (p .inGroup) (p .before) ∙ ap (λ (m : ℕ). refuseIf (not (eqb m 0)) m sheet at) (sym is-number)
 
       -- the record at hand is refused
       pub stops : (number ≡ 0 → ⊥) → (m : ℕ) → Refused number at ≡ passOf (formIn g nlib n sheet base s) m
       unfolding refuseIf
       stops z m =
-          rw (sym (p .rest) ∙ walk-step (answer g nlib n) sheet s at c (p .inGroup) (p .before) here ∙ first-some {a = record { number = number; sheet = sheet; byte = at }} _ (answered ∙ rw (ne-eqb number 0 z)))
+          rw (sym (p .rest) ∙ walk-step (answer (formTests g nlib n)) sheet s at c (p .inGroup) (p .before) here ∙ first-some {a = record { number = number; sheet = sheet; byte = at }} _ (answered ∙ rw (ne-eqb number 0 z)))
 
       -- it is passed
       pub goes-on : number ≡ 0 → {l : ℕ} → l ≡ u16 s at → Passing g nlib n sheet s base (at + l) c′
       unfolding refuseIf
       goes-on z {l} el = go (ℕ-discrete (u16 s (at + 2)) 1)
         where
-          fine : answer g nlib n (place sheet at c (p .inGroup) (p .before) (recordAt s at)) ≡ none
+          fine : answer (formTests g nlib n) (place sheet at c (p .inGroup) (p .before) (recordAt s at)) ≡ none
           fine = answered ∙ rw z
 
           go : Dec (u16 s (at + 2) ≡ 1) → Passing g nlib n sheet s base (at + l) c′
@@ -207,7 +183,7 @@ module _ {g : ℕ → Group} {nlib n sheet : ℕ} {s : List ℕ} {base at c : �
               (record {
                 inGroup = 1;
                 before = kind (recordAt s at);
-                rest = sym (first-past _ _ fine) ∙ sym (walk-class (answer g nlib n) sheet s at c (p .inGroup) (p .before) here e) ∙ p .rest;
+                rest = sym (first-past _ _ fine) ∙ sym (walk-class (answer (formTests g nlib n)) sheet s at c (p .inGroup) (p .before) here e) ∙ p .rest;
                 passed = others-class sheet c (p .inGroup) (p .before) here (p .passed) e;
                 count = omega (arith, p .count, count-class here e);
                 opened = λ y. omega (arith, p .base-low);
@@ -221,7 +197,7 @@ module _ {g : ℕ → Group} {nlib n sheet : ℕ} {s : List ℕ} {base at c : �
               (record {
                 inGroup = suc (p .inGroup);
                 before = kind (recordAt s at);
-                rest = sym (first-past _ _ fine) ∙ sym (walk-other (answer g nlib n) sheet s at c (p .inGroup) (p .before) here ne) ∙ p .rest;
+                rest = sym (first-past _ _ fine) ∙ sym (walk-other (answer (formTests g nlib n)) sheet s at c (p .inGroup) (p .before) here ne) ∙ p .rest;
                 passed = others-other sheet c (p .inGroup) (p .before) here (p .passed) ne;
                 count = omega (arith, p .count, count-other here ne);
                 opened = λ y. p .opened (place-grouped sheet at c (p .inGroup) (p .before) (recordAt s at) (other-here here ne) (first .grouped));

@@ -1,23 +1,21 @@
 -- What stands in the record that begins at a byte of a sheet, read at its place in the sheet.
 -- Assumes nothing.
 use mathlib.Core.Path.{_≡_, sym, ap, _∙_}
-use mathlib.Core.Bool.{true, not}
-use mathlib.Core.Logic.{_⊎_, inl, inr}
+use mathlib.Core.Bool.{true}
 use mathlib.Core.List.{List}
 use Prim.Native.Nat.{ℕ, _+_, _≤_, _<_}
 use native.Mathlib.Omega.{arith}
-use lib.Dec.{T, T-not, eqb, eqb→eq}
 use lib.ListN.{length, getD}
 use Rattle.spec.specs.Record.{u16, bit, kind, CLASS, IMPLEMENTS, FIELD, LOCAL, USES, BUILDS, MEMBER, REFERS, flags, superclass, encloser, target, index, tyAt, fieldTy, localTy, isStatic}
 use Rattle.theory.specs.Claims.{sheetOf}
-use Rattle.theory.proofs.Bools.{decide, true-t, eq→eqb}
+use Rattle.theory.proofs.Bools.{true-t}
+use Rattle.theory.proofs.Parts.{part-word, part-type}
 use Rattle.pass.specs.Pass.{recordAt, sizeFits}
 use Rattle.pass.proofs.Tables.{shortest, size-known, at-least}
-use Rattle.pass.proofs.Reading.{type-in}
 use Rattle.pass.proofs.Bodies.{length-fits}
-use Rattle.pass.proofs.Walk.{Whole, whole-at, u16-record, length-here, kind-here}
+use Rattle.pass.proofs.Whole.{Whole, whole-at, length-here, kind-here}
 use Rattle.groups.specs.Groups.{Indexed}
-use Rattle.groups.proofs.Classes.{library-sheet, user-sheet}
+use Rattle.groups.proofs.Classes.{sheet-low}
 use Rattle.second.specs.Second.{Sized}
 
 -- ---- a known kind that is none of the other seven is BUILDS
@@ -35,40 +33,35 @@ just-six k l h n7 n8 = omega arith
 module _ {s : List ℕ} {at : ℕ} (z : Sized s at) where
   -- ---- kind and length
 
-  whole : Whole s at
+  pub whole : Whole s at
   whole = whole-at s at (z .whole)
 
-  pub kind-at : kind (recordAt s at) ≡ u16 s (at + 2)
-  kind-at = kind-here whole
-
-  pub length-at : length (recordAt s at) ≡ u16 s at
-  length-at = length-here whole
-
   pub ends-within : at + length (recordAt s at) ≤ length s
-  ends-within = omega (arith, length-at, whole)
+  ends-within = omega (arith, length-here whole, whole)
 
   fits : sizeFits (kind (recordAt s at)) (length (recordAt s at)) ≡ true
   fits = sym (length-fits (recordAt s at)) ∙ z .size
 
   -- as long as the shortest record of its kind
   pub long-enough : (k : ℕ) → kind (recordAt s at) ≡ k → getD shortest k 0 ≤ u16 s at
-  long-enough k e = omega (arith, at-least k e fits, length-at)
+  long-enough k e = omega (arith, at-least k e fits, length-here whole)
 
   pub last-kind : {k : ℕ} → k ≡ u16 s (at + 2) → (k ≡ CLASS → ⊥) → (k ≡ IMPLEMENTS → ⊥) → (k ≡ FIELD → ⊥) → (k ≡ LOCAL → ⊥) → (k ≡ USES → ⊥) → (k ≡ MEMBER → ⊥) → (k ≡ REFERS → ⊥)
       → kind (recordAt s at) ≡ BUILDS
   last-kind {k} e n1 n2 n3 n4 n5 n7 n8 =
       let h = size-known (kind (recordAt s at)) (length (recordAt s at)) fits in
-      let n0 : k ≡ 0 → ⊥ = λ q. no-kind (length (recordAt s at)) (rw (kind-at, ← e, q) at fits) in
-      kind-at ∙ sym e ∙ just-six k (six-or-more k n0 n1 n2 n3 n4 n5) (rw (kind-at, ← e) at h) n7 n8
+      let n0 : k ≡ 0 → ⊥ = λ q. no-kind (length (recordAt s at)) (rw (kind-here whole, ← e, q) at fits) in
+      kind-here whole ∙ sym e ∙ just-six k (six-or-more k n0 n1 n2 n3 n4 n5) (rw (kind-here whole, ← e) at h) n7 n8
 
   -- ---- what stands in it
 
   word-at : (k i : ℕ) → kind (recordAt s at) ≡ k → i + 1 < getD shortest k 0 → u16 (recordAt s at) i ≡ u16 s (at + i)
-  word-at k i e h = u16-record s at i (omega (arith, long-enough k e))
+  unfolding recordAt
+  word-at k i e h = part-word s at (u16 s at) i (omega (arith, long-enough k e))
 
   type-at : (k i : ℕ) → kind (recordAt s at) ≡ k → i + 3 < getD shortest k 0 → tyAt (recordAt s at) i ≡ tyAt s (at + i)
   unfolding recordAt
-  type-at k i e h = type-in s at (u16 s at) i (omega (arith, long-enough k e))
+  type-at k i e h = part-type s at (u16 s at) i (omega (arith, long-enough k e))
 
   pub flags-at : kind (recordAt s at) ≡ CLASS → flags (recordAt s at) ≡ u16 s (at + 4)
   unfolding flags
@@ -103,14 +96,7 @@ module _ {s : List ℕ} {at : ℕ} (z : Sized s at) where
   unfolding localTy
   local-type-at e = type-at LOCAL 4 e (omega arith)
 
--- ---- both sheets are short
-
-pub sheet-low : {library user : List ℕ} {nlib n : ℕ} {row : List ℕ} → Indexed library user nlib n row → (sheet : ℕ) → length (sheetOf library user sheet) ≤ 32768
-sheet-low {library} {user} x sheet = go (decide (eqb sheet 0))
-  where
-    go : T (eqb sheet 0) ⊎ T (not (eqb sheet 0)) → length (sheetOf library user sheet) ≤ 32768
-    go (inl t) = rw (library-sheet library user sheet (eqb→eq sheet 0 t)) (x .library-size)
-    go (inr t) = rw (user-sheet library user sheet (λ e. T-not (eqb sheet 0) t (eq→eqb e))) (x .user-size)
+-- ---- it begins below the end of a short sheet
 
 pub at-low : {library user : List ℕ} {nlib n : ℕ} {row : List ℕ} → Indexed library user nlib n row → (sheet : ℕ) {at : ℕ} → Sized (sheetOf library user sheet) at → at + 4 ≤ 32768
 at-low {library} {user} x sheet {at} z = omega (arith, sheet-low x sheet, whole-at (sheetOf library user sheet) at (z .whole))

@@ -1,11 +1,10 @@
 -- Each of the two sheets by its number: it passed the first pass, and its classes stand in a row.
 -- Assumes nothing.
-use mathlib.Core.Path.{_≡_, sym, ap, _∙_, subst}
+use mathlib.Core.Path.{_≡_}
 use mathlib.Core.List.{List}
 use Prim.Native.Nat.{ℕ, _+_, _≤_, _<_}
 use native.Mathlib.Decide.{ℕ-discrete}
 use native.Mathlib.Omega.{arith}
-use lib.ListN.{length}
 use borrow.Author.Tests.{eq-eqb, ne-eqb}
 use Rattle.spec.specs.Sheet.{classCount, total}
 use Rattle.theory.specs.Claims.{sheetOf}
@@ -25,7 +24,6 @@ first-user nlib {sheet} e = rw (ne-eqb sheet 0 e, firstClass)
 -- what the first pass leaves of a sheet
 pub record Ordered (nlib n sheet : ℕ) (s : List ℕ) : Type 0 where
   pub clear : Clear sheet (firstClass nlib sheet) s
-  pub size : length s ≤ 32768
   pub last : firstClass nlib sheet + classCount s ≤ n
   pub few : n ≤ 256
 
@@ -38,7 +36,6 @@ ordered {library} {user} {row} {nlib} {n} i {sheet} h = go (ℕ-discrete sheet 0
         rw (library-sheet library user sheet e)
         (record {
           clear = rw (first-library nlib e, e) (i .library-clear);
-          size = i .library-size;
           last = omega (arith, first-library nlib e, i .nlib-is, i .n-is);
           few = i .few;
         })
@@ -47,7 +44,6 @@ ordered {library} {user} {row} {nlib} {n} i {sheet} h = go (ℕ-discrete sheet 0
         rw (user-sheet library user sheet ne)
         (record {
           clear = rw (first-user nlib ne, one, i .nlib-is) (i .user-clear);
-          size = i .user-size;
           last = omega (arith, first-user nlib ne, i .nlib-is, i .n-is);
           few = i .few;
         })

@@ -82,6 +82,15 @@ pub weaken : {A : Type 0} (P Q : A → Type 0) → ((x : A) → P x → Q x) →
 weaken P Q f [] h = tt
 weaken P Q f (x ∷ xs) h = (f x (h .0), weaken P Q f xs (h .1))
 
+module _ {A : Type 0} (p : A → Bool) (x : A) (xs : List A) where
+  pub keep-yes : p x ≡ true → keep p (x ∷ xs) ≡ x ∷ keep p xs
+  unfolding keep
+  keep-yes e = rw (e, keep)
+
+  pub keep-no : p x ≡ false → keep p (x ∷ xs) ≡ keep p xs
+  unfolding keep
+  keep-no e = rw (e, keep)
+
 -- a passed test, beside what held before
 module _ {A : Type 0} (P : A → Type 0) (p : A → Bool) where
   pub all-kept : (xs : List A) → All P xs → All (λ x. P x × T (p x)) (keep p xs)

@@ -1,8 +1,8 @@
 -- The first answer along a list: when there is none, and what holds of it where there is one. So of refusals.
 -- Assumes nothing.
-use mathlib.Core.Path.{_≡_, refl}
+use mathlib.Core.Path.{_≡_, refl, _∙_}
 use mathlib.Core.Bool.{Bool, true, false, not}
-use mathlib.Core.List.{List, [], _∷_, map}
+use mathlib.Core.List.{List, [], _∷_, _++_, map}
 use mathlib.Core.Option.{Option, none, some}
 use Prim.Native.Nat.{ℕ}
 use native.Mathlib.Omega.{arith}
@@ -33,6 +33,25 @@ module _ {A : Type 0} where
   unfolding firstOf
   skip-none none os e = refl
   skip-none (some a) os e = absurd (some≢none a e)
+
+  pub first-some : {o : Option A} {a : A} (os : List (Option A)) → o ≡ some a → firstOf (o ∷ os) ≡ some a
+  unfolding firstOf
+  first-some os e = rw e
+
+  pub first-only : (o : Option A) → firstOf (o ∷ []) ≡ o
+  unfolding firstOf
+  first-only none = refl
+  first-only (some a) = refl
+
+  pub first-past : (o x : Option A) → o ≡ none → firstOf (o ∷ x ∷ []) ≡ x
+  first-past o x e = skip-none o (x ∷ []) e ∙ first-only x
+
+  -- the first answer of a front part counts as one
+  pub first-append : (xs ys : List (Option A)) → firstOf (xs ++ ys) ≡ firstOf (firstOf xs ∷ ys)
+  unfolding firstOf
+  first-append [] ys = refl
+  first-append (none ∷ xs) ys = first-append xs ys
+  first-append (some x ∷ xs) ys = refl
 
   pub keep-head : (o : Option A) (os os′ : List (Option A)) → firstOf os ≡ firstOf os′ → firstOf (o ∷ os) ≡ firstOf (o ∷ os′)
   unfolding firstOf

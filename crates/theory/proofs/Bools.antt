@@ -3,9 +3,9 @@
 use mathlib.Core.Path.{_≡_, refl, sym, subst}
 use mathlib.Core.Logic.{_⊎_, inl, inr}
 use mathlib.Core.Bool.{Bool, true, false, not, _&&_, _||_}
-use Prim.Native.Nat.{ℕ, _≤_, _<_}
-use native.Mathlib.Omega.{arith}
-use lib.Dec.{T, eqb, ltb, eqb-refl, ltb→lt}
+use Prim.Native.Nat.{ℕ, _≤_}
+use lib.Dec.{T, eqb, ltb}
+use borrow.Author.Tests.{le-ltb, eq-eqb}
 use Rattle.spec.specs.Markers.{implies}
 
 pub decide : (b : Bool) → T b ⊎ T (not b)
@@ -110,11 +110,7 @@ T-implies false b t u = absurd u
 -- ---- numbers
 
 pub nltb : (m n : ℕ) → n ≤ m → T (not (ltb m n))
-nltb m n h = go (ltb m n) (λ t. ltb→lt m n t)
-  where
-    go : (b : Bool) → (T b → m < n) → T (not b)
-    go true f = let z : m < n = f tt in absurd (omega arith)
-    go false f = tt
+nltb m n h = false-t (le-ltb m n h)
 
 pub eq→eqb : {m n : ℕ} → m ≡ n → T (eqb m n)
-eq→eqb {m} e = subst (λ (k : ℕ). T (eqb m k)) e (eqb-refl m)
+eq→eqb {m} {n} e = true-t (eq-eqb m n e)

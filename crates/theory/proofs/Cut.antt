@@ -6,14 +6,16 @@ use mathlib.Core.List.{List, [], _∷_, _++_, map, append-assoc, append-nil}
 use Prim.Native.Nat.{ℕ, zero, suc, _+_, _*_, _≤_}
 use native.Mathlib.Nat.{le-of-suc-le-suc, not-suc-le-zero, le-refl}
 use native.Mathlib.Omega.{arith}
-use lib.Dec.{T, eqb, leb, eqb→eq, leb→le, le→leb, eqb-refl}
+use lib.Dec.{T, eqb, leb, eqb→eq, leb→le, eqb-refl}
 use lib.ListN.{length, take, drop, length-append, take-append-drop, List·getD-append}
-use lib.Seq.{take-append-seam, drop-append-seam, getD-take, length-take-le}
+use lib.Seq.{take-append-seam, drop-append-seam, length-take-le}
+use borrow.Author.Tests.{le-leb}
 use Rattle.spec.specs.Lists.{any, concat}
 use Rattle.spec.specs.Record.{u16, isClass}
 use Rattle.spec.specs.Sheet.{Group, wholeFirst, recordsIn, recordsOf, wholeEnd, Split, splitGroups, groupsOf}
 use Rattle.spec.specs.Refusals.{oneClass, wholeGroup}
 use Rattle.theory.proofs.All.{All, all-append, all-left, all-right, all-map}
+use Rattle.theory.proofs.Parts.{u16-take}
 use Rattle.theory.proofs.Bools.{t-and, t-true, t-false, and-l, and-r, not-or-l, not-or-r}
 
 -- a list of bytes that is one whole record
@@ -25,26 +27,45 @@ u16-append : (r t : List ℕ) → 4 ≤ length r → u16 (r ++ t) 0 ≡ u16 r 0
 unfolding u16
 u16-append r t h = ap₂ (λ (a b : ℕ). a + 256 * b) (List·getD-append r t 0 0 (omega arith)) (List·getD-append r t 0 1 (omega arith))
 
-u16-take : (k : ℕ) (s : List ℕ) → 4 ≤ k → u16 (take k s) 0 ≡ u16 s 0
-unfolding u16
-u16-take k s h = ap₂ (λ (a b : ℕ). a + 256 * b) (getD-take k s 0 0 (omega arith)) (getD-take k s 1 0 (omega arith))
+-- whether a whole record comes first, in numbers
+pub record First (s : List ℕ) : Type 0 where
+  pub left : 4 ≤ length s
+  pub four : 4 ≤ u16 s 0
+  pub ends : u16 s 0 ≤ length s
+
+module _ (s : List ℕ) where
+  pub first-is : T (wholeFirst s) → First s
+  unfolding wholeFirst
+  first-is t =
+      let a : T (leb 4 (length s) && leb 4 (u16 s 0)) = and-l (leb 4 (length s) && leb 4 (u16 s 0)) (leb (u16 s 0) (length s)) t in
+      record {
+        left = leb→le 4 (length s) (and-l (leb 4 (length s)) (leb 4 (u16 s 0)) a);
+        four = leb→le 4 (u16 s 0) (and-r (leb 4 (length s)) (leb 4 (u16 s 0)) a);
+        ends = leb→le (u16 s 0) (length s) (and-r (leb 4 (length s) && leb 4 (u16 s 0)) (leb (u16 s 0) (length s)) t);
+      }
+
+  pub is-first : First s → wholeFirst s ≡ true
+  unfolding wholeFirst
+  is-first f = rw (le-leb 4 (length s) (f .left), le-leb 4 (u16 s 0) (f .four), le-leb (u16 s 0) (length s) (f .ends))
+
+-- one record and the others
+pub records-first : (n : ℕ) (s : List ℕ) → wholeFirst s ≡ true → recordsIn (suc n) s ≡ take (u16 s 0) s ∷ recordsIn n (drop (u16 s 0) s)
+unfolding recordsIn
+records-first n s e = rw (e, recordsIn)
 
 whole-first : (r t : List ℕ) → Whole r → wholeFirst (r ++ t) ≡ true
-unfolding wholeFirst
 whole-first r t w =
-    t-true _ (t-and (leb 4 (length (r ++ t)) && leb 4 (u16 (r ++ t) 0)) (leb (u16 (r ++ t) 0) (length (r ++ t)))
-    (t-and (leb 4 (length (r ++ t))) (leb 4 (u16 (r ++ t) 0)) (le→leb 4 (length (r ++ t)) (omega (arith, length-append r t)))
-    (le→leb 4 (u16 (r ++ t) 0) (omega (arith, u16-append r t (w .four)))))
-    (le→leb (u16 (r ++ t) 0) (length (r ++ t)) (omega (arith, u16-append r t (w .four), length-append r t))))
+    let u = u16-append r t (w .four) in
+    let l = length-append r t in
+    is-first (r ++ t) (record { left = omega (arith, w); four = omega (arith, w); ends = omega (arith, w) })
 
 records-cons : (n : ℕ) (r t : List ℕ) → Whole r → recordsIn (suc n) (r ++ t) ≡ r ∷ recordsIn n t
-unfolding recordsIn
 records-cons n r t w =
-    ap (λ (b : Bool). elim b as (λ (c : Bool). List (List ℕ)) [ true ↦ take (u16 (r ++ t) 0) (r ++ t) ∷ recordsIn n (drop (u16 (r ++ t) 0) (r ++ t)) | false ↦ [] ]) (whole-first r t w)
+    records-first n (r ++ t) (whole-first r t w)
     ∙ ap (λ (k : ℕ). take k (r ++ t) ∷ recordsIn n (drop k (r ++ t))) (u16-append r t (w .four) ∙ w .own)
     ∙ ap₂ (λ (a b : List ℕ). a ∷ recordsIn n b) (take-append-seam r t) (drop-append-seam r t)
 
-pub records-nil : (n : ℕ) → recordsIn n [] ≡ []
+records-nil : (n : ℕ) → recordsIn n [] ≡ []
 unfolding recordsIn wholeFirst
 records-nil zero = refl
 records-nil (suc n) = refl
@@ -67,12 +88,10 @@ records-of-join rs w = records-join (length (concat rs)) rs w (count-le rs w)
 
 -- what is cut off is whole records
 first-whole : (s : List ℕ) → T (wholeFirst s) → Whole (take (u16 s 0) s)
-unfolding wholeFirst
 first-whole s t =
-    let a : T (leb 4 (length s) && leb 4 (u16 s 0)) = and-l (leb 4 (length s) && leb 4 (u16 s 0)) (leb (u16 s 0) (length s)) t in
-    let b : 4 ≤ u16 s 0 = leb→le 4 (u16 s 0) (and-r (leb 4 (length s)) (leb 4 (u16 s 0)) a) in
-    let c : u16 s 0 ≤ length s = leb→le (u16 s 0) (length s) (and-r (leb 4 (length s) && leb 4 (u16 s 0)) (leb (u16 s 0) (length s)) t) in
-    record { four = omega (arith, length-take-le (u16 s 0) s c); own = u16-take (u16 s 0) s b ∙ sym (length-take-le (u16 s 0) s c) }
+    let f = first-is s t in
+    let l = length-take-le (u16 s 0) s (f .ends) in
+    record { four = omega (arith, f); own = u16-take (u16 s 0) s 0 (omega (arith, f)) ∙ sym l }
 
 if-t : {B : Type 0} (Q : B → Type 0) (b : Bool) (x y : B) → (T b → Q x) → Q y → Q (elim b as (λ (c : Bool). B) [ true ↦ x | false ↦ y ])
 if-t Q true x y h k = h tt

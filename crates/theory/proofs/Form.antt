@@ -20,8 +20,8 @@ use Rattle.spec.specs.Relations.{Depends, Superclass, References, Uses, Root}
 use Rattle.spec.specs.Breaks.{Not, Flag}
 use Rattle.spec.specs.Refusals.{Accepted, oneClass, superclassFits, presentRefusal}
 use Rattle.theory.specs.Claims.{Relations, RelationsHold, One, Form, FormHolds}
-use Rattle.theory.proofs.Bools.{decide, t-and, and-l, and-r, not-or-l, not-or-r, not-or, eq→eqb}
-use Rattle.theory.proofs.All.{All, all-append, all-take, all-drop, all-left, all-right, all-get, all-at, at-member}
+use Rattle.theory.proofs.Bools.{decide, t-and, and-l, and-r, not-or-l, not-or-r, not-or, eq→eqb, t-true, t-false}
+use Rattle.theory.proofs.All.{All, all-append, all-take, all-drop, all-left, all-right, all-get, all-at, at-member, keep-yes, keep-no}
 use Rattle.theory.proofs.Cut.{split-parts}
 use Rattle.theory.proofs.Answers.{first-none}
 use Rattle.theory.proofs.Accept.{Fits, Sound, sound}
@@ -84,20 +84,14 @@ markers-low library user hl hu c =
 no-class : (rs : List (List ℕ)) → T (not (any isClass rs)) → ofKind CLASS rs ≡ []
 unfolding ofKind keep any
 no-class [] t = refl
-no-class (r ∷ rs) t = go (isClass r) (not-or-l (isClass r) (any isClass rs) t) (no-class rs (not-or-r (isClass r) (any isClass rs) t))
-  where
-    go : (b : Bool) → T (not b) → ofKind CLASS rs ≡ [] → _≡_ {A = List (List ℕ)} (elim b as (λ (c : Bool). List (List ℕ)) [ true ↦ r ∷ keep (isKind CLASS) rs | false ↦ keep (isKind CLASS) rs ]) []
-    go true t e = absurd t
-    go false t e = e
+no-class (r ∷ rs) t = keep-no isClass r rs (t-false (isClass r) (not-or-l (isClass r) (any isClass rs) t)) ∙ no-class rs (not-or-r (isClass r) (any isClass rs) t)
 
 pub one-record : (h : Group) → T (oneClass h) → ofKind CLASS h ≡ classRecord h ∷ []
-unfolding oneClass ofKind keep classRecord
+unfolding oneClass ofKind classRecord
 one-record [] t = absurd t
-one-record (r ∷ rs) t = go (isClass r) (and-l (isClass r) (not (any isClass rs)) t)
-  where
-    go : (b : Bool) → T b → _≡_ {A = List (List ℕ)} (elim b as (λ (c : Bool). List (List ℕ)) [ true ↦ r ∷ keep (isKind CLASS) rs | false ↦ keep (isKind CLASS) rs ]) (r ∷ [])
-    go true u = ap (λ (l : List (List ℕ)). r ∷ l) (no-class rs (and-r (isClass r) (not (any isClass rs)) t))
-    go false u = absurd u
+one-record (r ∷ rs) t =
+    keep-yes isClass r rs (t-true (isClass r) (and-l (isClass r) (not (any isClass rs)) t))
+    ∙ ap (λ (l : List (List ℕ)). r ∷ l) (no-class rs (and-r (isClass r) (not (any isClass rs)) t))
 
 class-first : (P : List ℕ → Type 0) (h : Group) → T (oneClass h) → All P h → P (classRecord h) × T (isClass (classRecord h))
 unfolding oneClass classRecord

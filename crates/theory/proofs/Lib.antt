@@ -1,5 +1,6 @@
 pub mod Bools
 pub mod All
+pub mod Parts
 pub mod Cut
 pub mod Reach
 pub mod Complete

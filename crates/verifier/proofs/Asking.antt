@@ -2,7 +2,7 @@
 -- Assumes nothing.
 use mathlib.Core.Path.{_≡_, refl, sym, ap, _∙_, subst}
 use mathlib.Core.Bool.{Bool, true, false, not, _||_}
-use mathlib.Core.List.{List, [], _∷_, map}
+use mathlib.Core.List.{List, map}
 use mathlib.Core.Option.{Option, none, some}
 use Prim.Native.Nat.{ℕ, zero, suc, _+_, _≤_, _<_}
 use native.Mathlib.Nat.{zero-add}
@@ -11,19 +11,18 @@ use native.Mathlib.Decide.{ℕ-discrete}
 use lib.Dec.{T, eqb, leb, ltb, nltb→le}
 use lib.ListN.{length, take, getD, length-map, length-take}
 use borrow.Author.Tests.{eq-eqb, le-leb, lt-leb}
-use Rattle.spec.specs.Lists.{firstOf, span}
+use Rattle.spec.specs.Lists.{span}
 use Rattle.spec.specs.Sheet.{classCount, total, group}
 use Rattle.spec.specs.Refusals.{Refusal, refuseIf, refusePlain, sizeRefusal, sheetRefusal, presentRefusal, unusedRefusal, queryRefusal}
-use Rattle.spec.specs.Promises.{Answer, refused, accepted, answerOf}
+use Rattle.spec.specs.Promises.{refused, accepted, answerOf}
 use Rattle.theory.proofs.Bools.{not-or-l, not-or-r}
-use Rattle.theory.proofs.Answers.{first-none, if-none}
+use Rattle.theory.proofs.Answers.{first-none, first-past, first-some, if-none}
 use Rattle.theory.proofs.Accept.{sound}
 use Rattle.theory.proofs.Falls.{Falls, falls}
-use Rattle.pass.proofs.Walk.{first-past, first-some, first-only}
 use Rattle.view.specs.View.{Fits}
 use Rattle.groups.specs.Groups.{Indexed, startOf}
 use Rattle.overlay.specs.Memo.{Right}
-use Rattle.form.specs.Form.{checkedOf, Ready}
+use Rattle.form.specs.Form.{checkedOf}
 use Rattle.form.specs.declared.Checked.{Checked}
 use Rattle.form.specs.declared.Checked.the-variants.{Fine, Refused}
 use Rattle.form.proofs.Accepting.{Presents, fine-none}

@@ -1,7 +1,6 @@
 use mathlib.Core.Path.{_≡_, sym, _∙_}
 use native.Mathlib.Omega.{arith}
-use mathlib.Core.List.{List}
-use borrow.Author.Tests.{eq-eqb, ne-eqb, le-leb, lt-leb}
+use borrow.Author.Tests.{ne-eqb, le-leb, lt-leb}
 use lib.Dec.{eqb}
 use Rattle.view.specs.View.{spliced}
 use Rattle.pass.specs.Pass.{recordNumber}
@@ -21,7 +20,7 @@ sub-if1 c = search needs
 
 -- src/lib.rt:193:9
 returns : tie.Need-returns
-returns c = torn _ _ _ _ _ (omega arith) (λ w. omega arith)
+returns c = torn _ _ _ _ _ (λ w. omega arith)
 
 -- src/lib.rt:195:9
 word-at-requires : tie.Need-word-at-requires
@@ -29,7 +28,7 @@ word-at-requires c κs = search needs
 
 -- src/lib.rt:197:9
 returns-2 : tie.Need-returns-2
-returns-2 c = torn _ _ _ _ _ (omega arith) (λ w. omega arith)
+returns-2 c = torn _ _ _ _ _ (λ w. omega arith)
 
 -- src/lib.rt:199:13
 cast-n : tie.Need-cast-n
@@ -41,7 +40,7 @@ sub-if3 c = search needs
 
 -- src/lib.rt:201:9
 returns-3 : tie.Need-returns-3
-returns-3 c = torn _ _ _ _ _ (omega arith) (λ w. omega arith)
+returns-3 c = torn _ _ _ _ _ (λ w. omega arith)
 
 -- src/lib.rt:203:42
 add-word-at : tie.Need-add-word-at
@@ -61,7 +60,7 @@ order-number-requires c κs = search needs
 
 -- src/lib.rt:206:9
 returns-4 : tie.Need-returns-4
-returns-4 c = by-order _ _ (record { four = omega arith; long = omega arith; ends = omega arith }) (omega arith) (c .before .before .before .before .before .word-at .ensures) (c .before .before .word-at2 .ensures) (c .before .order-number .ensures) (c .if4 .taken)
+returns-4 c = by-order _ _ (record { left = omega arith; four = omega arith; ends = omega arith }) (omega arith) (c .before .before .before .before .before .word-at .ensures) (c .before .before .word-at2 .ensures) (c .before .order-number .ensures) (c .if4 .taken)
 
 -- src/lib.rt:208:8
 body-fits-requires : tie.Need-body-fits-requires
@@ -69,7 +68,7 @@ body-fits-requires c κs = (c .before .before .before .before .before .before .b
 
 -- the number of a record that is in its place
 from-body : (c : tie.After-body-fits) → recordNumber (c .before .before .before .before .before .before .before .before .before .before .args .sheet) (spliced (c .before .before .before .before .before .before .before .before .before .before .args .user .now) (c .before .before .before .before .before .before .before .before .before .before .args .group .now) (c .before .before .before .before .before .before .before .before .before .before .args .cut)) (c .before .before .before .before .before .before .before .before .before .before .args .at) (c .before .before .before .before .before .before .before .before .before .before .args .c) (c .before .before .before .before .before .before .before .before .before .before .args .k) ≡ late (c .body-fits .result) (full (eqb (c .before .before .before .word-at2 .result) 1) (c .before .before .before .before .before .before .before .before .before .before .args .c) (c .before .before .before .before .before .before .before .before .before .before .args .k))
-from-body c = rw (c .body-fits .ensures) (by-body _ _ (record { four = omega arith; long = omega arith; ends = omega arith }) (omega arith) (c .before .before .before .before .before .before .word-at .ensures) (c .before .before .before .word-at2 .ensures) (c .before .before .order-number .ensures) (c .before .if4 .left))
+from-body c = rw (c .body-fits .ensures) (by-body _ _ (record { left = omega arith; four = omega arith; ends = omega arith }) (omega arith) (c .before .before .before .before .before .before .word-at .ensures) (c .before .before .before .word-at2 .ensures) (c .before .before .order-number .ensures) (c .before .if4 .left))
 
 -- src/lib.rt:211:17
 returns-5 : tie.Need-returns-5

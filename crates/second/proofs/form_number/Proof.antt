@@ -4,8 +4,9 @@ use mathlib.Core.Path.{sym, _∙_}
 use mathlib.Core.Bool.{true, false}
 use native.Mathlib.Omega.{arith}
 use borrow.Author.Tests.{le-leb, lt-leb}
-use Rattle.second.proofs.Positions.{at-low, length-at}
-use Rattle.second.proofs.ByPlace.{class-here, class-at, field-at, local-at, member-at, implements-at, uses-at, refers-at, builds-at}
+use Rattle.pass.proofs.Whole.{length-here, class-here}
+use Rattle.second.proofs.Positions.{whole, at-low}
+use Rattle.second.proofs.ByPlace.{class-at, field-at, local-at, member-at, implements-at, uses-at, refers-at, builds-at}
 use borrow.Author.Needs.{needs}
 use Rattle.second.proofs.form_number.Statement.{statement}
 use Rattle.second.proofs.form_number.Tie as tie
@@ -38,7 +39,7 @@ wide-requires c κs = search needs
 
 -- src/lib.rt:459:9
 class-number-requires : tie.Need-class-number-requires
-class-number-requires c κs = let p = c .before .before .before .before .before .before .before .before .pre .1 in (c .before .before .before .before .before .before .before .before .pre .0, (p .0, (p .1 .0, (p .1 .1, (class-here (p .1 .1) (c .before .before .before .word-of .ensures) (c .before .before .if1 .taken), c .wide .ensures .0 ∙ c .before .word-of2 .ensures ∙ sym (length-at (p .1 .1)))))))
+class-number-requires c κs = let p = c .before .before .before .before .before .before .before .before .pre .1 in (c .before .before .before .before .before .before .before .before .pre .0, (p .0, (p .1 .0, (p .1 .1, (class-here (whole (p .1 .1)) (sym (c .before .before .before .word-of .ensures) ∙ c .before .before .if1 .taken), c .wide .ensures .0 ∙ c .before .word-of2 .ensures ∙ sym (length-here (whole (p .1 .1))))))))
 
 -- src/lib.rt:459:9
 returns : tie.Need-returns

@@ -8,7 +8,7 @@ use Rattle.theory.specs.Claims.{sheetOf}
 use Rattle.view.specs.View.{spliced}
 use Rattle.pass.specs.Pass.{recordAt}
 use Rattle.groups.proofs.Classes.{class-low}
-use Rattle.second.proofs.Positions.{sheet-low}
+use Rattle.groups.proofs.Classes.{sheet-low}
 use Rattle.second.proofs.Names.{Comparing, compared, differs, compares-on, lengths-differ, compares}
 use Rattle.second.proofs.same_name.Statement.{statement}
 use Rattle.second.proofs.same_name.Tie as tie

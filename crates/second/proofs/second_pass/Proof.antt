@@ -1,13 +1,13 @@
 -- `second::second_pass`: at each record the pass stands where the walk of the whole sheet does.
 -- Assumes nothing.
-use Prim.Native.Nat.{_-_, _+_}
+use Prim.Native.Nat.{_-_}
 use native.Mathlib.Omega.{arith}
-use lib.ListN.{length}
 use Rattle.spec.specs.Sheet.{group as groupOf}
 use Rattle.theory.specs.Claims.{sheetOf}
 use Rattle.view.specs.View.{spliced}
 use Rattle.second.specs.Second.{firstClass}
 use Rattle.second.proofs.Passing.{Passing, begin, ends, here, sized, class-open, stops, goes-on}
+use Rattle.groups.proofs.Classes.{sheet-low}
 use Rattle.second.proofs.Sheets.{ordered}
 use Rattle.second.proofs.second_pass.Statement.{statement}
 use Rattle.second.proofs.second_pass.Tie as tie
@@ -41,11 +41,11 @@ loop-holds c = rw (c .first-class .ensures) (begin _ _ _ _ _ _ ((ordered (c .bef
 
 -- src/lib.rt:584:62
 add-word-of : tie.Need-add-word-of Inv-loop μ-loop
-add-word-of c = omega (arith, c .before .before .before .sheet-len .ensures, (ordered (c .before .before .before .before .before .before .before .before .pre .1 .0) (c .before .before .before .before .before .before .before .before .pre .1 .1)) .size)
+add-word-of c = omega (arith, c .before .before .before .sheet-len .ensures, sheet-low (c .before .before .before .before .before .before .before .before .pre .1 .0) (c .before .before .before .before .before .before .before .before .args .sheet))
 
 -- src/lib.rt:584:20
 word-of-requires : tie.Need-word-of-requires Inv-loop μ-loop
-word-of-requires c κs = (c .before .before .before .before .before .before .before .before .pre .0, omega (arith, c .before .before .before .sheet-len .ensures, (ordered (c .before .before .before .before .before .before .before .before .pre .1 .0) (c .before .before .before .before .before .before .before .before .pre .1 .1)) .size))
+word-of-requires c κs = (c .before .before .before .before .before .before .before .before .pre .0, omega (arith, c .before .before .before .sheet-len .ensures, sheet-low (c .before .before .before .before .before .before .before .before .pre .1 .0) (c .before .before .before .before .before .before .before .before .args .sheet)))
 
 -- src/lib.rt:584:9
 opened-requires : tie.Need-opened-requires Inv-loop μ-loop
@@ -70,7 +70,7 @@ returns c =
 
 -- src/lib.rt:589:20
 word-of-requires-2 : tie.Need-word-of-requires-2 Inv-loop μ-loop
-word-of-requires-2 c κs = (c .before .before .before .before .before .before .before .before .before .before .before .before .pre .0, omega (arith, c .before .before .before .before .before .before .before .sheet-len .ensures, (ordered (c .before .before .before .before .before .before .before .before .before .before .before .before .pre .1 .0) (c .before .before .before .before .before .before .before .before .before .before .before .before .pre .1 .1)) .size))
+word-of-requires-2 c κs = (c .before .before .before .before .before .before .before .before .before .before .before .before .pre .0, omega (arith, c .before .before .before .before .before .before .before .sheet-len .ensures, sheet-low (c .before .before .before .before .before .before .before .before .before .before .before .before .pre .1 .0) (c .before .before .before .before .before .before .before .before .before .before .before .before .args .sheet)))
 
 -- src/lib.rt:589:15
 wide-requires : tie.Need-wide-requires Inv-loop μ-loop
@@ -78,7 +78,7 @@ wide-requires c κs = tt
 
 -- src/lib.rt:589:9
 add-at : tie.Need-add-at Inv-loop μ-loop
-add-at c = omega (arith, c .wide .ensures, c .before .before .before .before .before .before .before .before .before .sheet-len .ensures, (ordered (c .before .before .before .before .before .before .before .before .before .before .before .before .before .before .pre .1 .0) (c .before .before .before .before .before .before .before .before .before .before .before .before .before .before .pre .1 .1)) .size)
+add-at c = omega (arith, c .wide .ensures, c .before .before .before .before .before .before .before .before .before .sheet-len .ensures, sheet-low (c .before .before .before .before .before .before .before .before .before .before .before .before .before .before .pre .1 .0) (c .before .before .before .before .before .before .before .before .before .before .before .before .before .before .args .sheet))
 
 -- src/lib.rt:583:5
 loop-less : tie.Need-loop-less Inv-loop μ-loop

@@ -4,7 +4,7 @@ use mathlib.Core.Path.{ap, _∙_}
 use native.Mathlib.Omega.{arith}
 use Rattle.spec.specs.Promises.{accepted, namePart}
 use Rattle.view.proofs.Splice.{plain}
-use Rattle.groups.proofs.Classes.{class-low, class-long, class-size}
+use Rattle.groups.proofs.Classes.{class-low, class-long}
 use Rattle.verifier.proofs.Asking.{answer-refused, answer-fine, sheets-refused, class-unused, class-used, fits, indexed}
 use Rattle.verifier.proofs.Parts.{part-read, size-read}
 use borrow.Author.Needs.{needs}

@@ -1,4 +1,3 @@
-use Prim.Native.Nat.{_-_, _+_}
 use mathlib.Core.Path.{_≡_, refl}
 use native.Mathlib.Omega.{arith}
 use borrow.Author.Needs.{needs}

@@ -1,0 +1,105 @@
+-- A whole record at a byte of a sheet, said in numbers, and the records from that byte on.
+-- Assumes nothing.
+use mathlib.Core.Path.{_≡_, refl, sym, _∙_}
+use mathlib.Core.Bool.{Bool, true, false}
+use mathlib.Core.List.{List, [], _∷_}
+use Prim.Native.Nat.{ℕ, zero, suc, _+_, _≤_}
+use native.Mathlib.Omega.{arith}
+use lib.ListN.{length, take, drop, length-drop}
+use lib.Seq.{drop-drop}
+use borrow.Author.Tests.{eq-eqb, ne-eqb}
+use Rattle.spec.specs.Record.{u16, kind, isClass}
+use Rattle.spec.specs.Sheet.{wholeFirst, recordsIn, recordsOf}
+use Rattle.theory.proofs.Bools.{true-t}
+use Rattle.theory.proofs.Parts.{u16-here, part-length, part-kind}
+use Rattle.theory.proofs.Cut.{first-is, is-first, records-first}
+use Rattle.pass.specs.Pass.{recordAt}
+
+-- four bytes are left, and the length that stands there is 4 at least and does not pass the end
+pub record Whole (s : List ℕ) (at : ℕ) : Type 0 where
+  pub left : at + 4 ≤ length s
+  pub four : 4 ≤ u16 s at
+  pub ends : at + u16 s at ≤ length s
+
+pub whole-at : (s : List ℕ) (at : ℕ) → wholeFirst (drop at s) ≡ true → Whole s at
+whole-at s at e =
+    let f = first-is (drop at s) (true-t e) in
+    let l = length-drop at s in
+    let w = u16-here s at in
+    record { left = omega (arith, f); four = omega (arith, f); ends = omega (arith, f) }
+
+pub at-whole : {s : List ℕ} {at : ℕ} → Whole s at → wholeFirst (drop at s) ≡ true
+at-whole {s} {at} w =
+    let l = length-drop at s in
+    let e = u16-here s at in
+    is-first (drop at s) (record { left = omega (arith, w); four = omega (arith, w); ends = omega (arith, w) })
+
+pub whole-unless : (s : List ℕ) (at : ℕ) → (wholeFirst (drop at s) ≡ false → ⊥) → Whole s at
+whole-unless s at n = go (wholeFirst (drop at s)) refl
+  where
+    go : (b : Bool) → wholeFirst (drop at s) ≡ b → Whole s at
+    go true e = whole-at s at e
+    go false e = absurd (n e)
+
+pub not-whole : (s : List ℕ) (at : ℕ) → (Whole s at → ⊥) → wholeFirst (drop at s) ≡ false
+not-whole s at n = go (wholeFirst (drop at s)) refl
+  where
+    go : (b : Bool) → wholeFirst (drop at s) ≡ b → b ≡ false
+    go true e = absurd (n (whole-at s at e))
+    go false e = refl
+
+pub end-stop : (s : List ℕ) (at : ℕ) → length s ≤ at → wholeFirst (drop at s) ≡ false
+end-stop s at h = not-whole s at (λ w. omega (arith, w))
+
+-- ---- the records from a byte on
+
+stop-in : (n : ℕ) (s : List ℕ) → wholeFirst s ≡ false → recordsIn n s ≡ []
+unfolding recordsIn
+stop-in zero s e = refl
+stop-in (suc n) s e = rw (e, recordsIn)
+
+nil-in : (n : ℕ) (s : List ℕ) → length s ≤ 0 → recordsIn n s ≡ []
+nil-in n s h = stop-in n s (end-stop s 0 h)
+
+-- fuel past the length changes nothing
+enough : (n m : ℕ) (s : List ℕ) → length s ≤ n → length s ≤ m → recordsIn n s ≡ recordsIn m s
+enough zero m s h k = nil-in zero s h ∙ sym (nil-in m s h)
+enough (suc n) zero s h k = nil-in (suc n) s k ∙ sym (nil-in zero s k)
+enough (suc n) (suc m) s h k = go (wholeFirst s) refl (enough n m)
+  where
+    go : (b : Bool) → wholeFirst s ≡ b → ((t : List ℕ) → length t ≤ n → length t ≤ m → recordsIn n t ≡ recordsIn m t) → recordsIn (suc n) s ≡ recordsIn (suc m) s
+    go true e ih =
+        let w = whole-at s 0 e in
+        let d = length-drop (u16 s 0) s in
+        rw (records-first n s e, records-first m s e, ih (drop (u16 s 0) s) (omega arith) (omega arith))
+    go false e ih = stop-in (suc n) s e ∙ sym (stop-in (suc m) s e)
+
+records-step : (s : List ℕ) → wholeFirst s ≡ true → recordsOf s ≡ take (u16 s 0) s ∷ recordsOf (drop (u16 s 0) s)
+unfolding recordsOf
+records-step s e =
+    let t : List ℕ = drop (u16 s 0) s in
+    let d = length-drop (u16 s 0) s in
+    enough (length s) (suc (length s)) s (omega arith) (omega arith) ∙ rw (records-first (length s) s e, enough (length s) (length t) t (omega arith) (omega arith))
+
+pub records-stop : (s : List ℕ) → wholeFirst s ≡ false → recordsOf s ≡ []
+unfolding recordsOf
+records-stop s e = stop-in (length s) s e
+
+module _ {s : List ℕ} {at : ℕ} (w : Whole s at) where
+  pub records-here : recordsOf (drop at s) ≡ recordAt s at ∷ recordsOf (drop (at + u16 s at) s)
+  unfolding recordAt
+  records-here = records-step (drop at s) (at-whole w) ∙ rw (u16-here s at, drop-drop (u16 s at) at s)
+
+  pub length-here : length (recordAt s at) ≡ u16 s at
+  unfolding recordAt
+  length-here = part-length s at (u16 s at) (w .ends)
+
+  pub kind-here : kind (recordAt s at) ≡ u16 s (at + 2)
+  unfolding recordAt
+  kind-here = part-kind s at (u16 s at) (w .four)
+
+  pub class-here : u16 s (at + 2) ≡ 1 → isClass (recordAt s at) ≡ true
+  class-here e = eq-eqb (kind (recordAt s at)) 1 (kind-here ∙ e)
+
+  pub other-here : (u16 s (at + 2) ≡ 1 → ⊥) → isClass (recordAt s at) ≡ false
+  other-here e = ne-eqb (kind (recordAt s at)) 1 (λ q. e (sym kind-here ∙ q))
