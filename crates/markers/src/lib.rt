@@ -1,6 +1,6 @@
-// Sets of markers: the closure as a table, and which sets clash.
+// Sets of markers: the closure as a table, unions, and which sets clash.
 ghost use mathlib.Core.Path.{_≡_};
-ghost use Rattle.spec.specs.Markers.{closure as closureOf, clash as clashOf};
+ghost use Rattle.spec.specs.Markers.{closure as closureOf, union as unionOf, clash as clashOf};
 
 // For each set the least closed set that holds it.
 const CLOSURES: [u8; 256] = [
@@ -267,6 +267,13 @@ pub fn closure(m: u8) -> u8
 {
     let i = m as usize;
     CLOSURES[i]
+}
+
+// The markers of both sets.
+pub fn union(a: u8, b: u8) -> u8
+    ensures { λ r. ⌜ r ≡ unionOf a b ⌝ }
+{
+    a | b
 }
 
 // Powerless with Token, Selfless with Equatable.

@@ -7,7 +7,6 @@ use Prim.Native.Nat.{ℕ, zero, suc, _≤_, _<_}
 use native.Mathlib.Nat.{not-suc-le-zero, le-of-suc-le-suc, le-refl}
 use native.Mathlib.Decide.{ℕ-discrete}
 use native.Mathlib.Omega.{arith}
-use lib.Bits.{bitOr}
 use lib.Dec.{T, eqb, eqb→eq}
 use lib.ListN.{length, getD, set, replicate, length-set, length-replicate}
 use lib.Seq.{getD-set-same, getD-set-other}
@@ -86,14 +85,15 @@ module _ (g : ℕ → Group) (f : Falls g) where
       ap (λ (ms : List ℕ). union (ownMarkers (classRecord (g c))) (unionAll ms))
       (map-cong (λ e. e < c) (gathered g c) (lowerRaw g c) (λ e q. gathered-enough g f c (suc e) e q (le-refl (suc e)) ∙ lower-is g c e q) (supertypes (g c)) (supertypes-lower g f c))
 
-  pub raw-is : (c : ℕ) → c < 256 → T (oneClass (g c)) → {mine x up m : ℕ} → mine ≡ ownMarkers (classRecord (g c)) → x ≡ u16 (classRecord (g c)) 8 → up ≡ lowerRaw g c x
-      → m ≡ withInterfaces g c (bitOr mine up) → m ≡ raw g c
+  pub raw-is : (c : ℕ) → c < 256 → T (oneClass (g c)) → {mine x up set m : ℕ} → mine ≡ ownMarkers (classRecord (g c)) → x ≡ u16 (classRecord (g c)) 8 → up ≡ lowerRaw g c x
+      → set ≡ union mine up → m ≡ withInterfaces g c set → m ≡ raw g c
   unfolding withInterfaces supertypes superclass union
-  raw-is c h o {mine} {x} {up} em ex eu e =
+  raw-is c h o {mine} {x} {up} em ex eu es e =
       let own : ℕ = ownMarkers (classRecord (g c)) in
       let above : ℕ = lowerRaw g c (u16 (classRecord (g c)) 8) in
       let rest : ℕ = unionAll (map (lowerRaw g c) (targets IMPLEMENTS (g c))) in
       e
+      ∙ ap (λ (a : ℕ). union a rest) es
       ∙ ap₂ (λ (a b : ℕ). union (union a b) rest) em (eu ∙ ap (lowerRaw g c) ex)
       ∙ union-assoc own above rest
       ∙ ap (union own)

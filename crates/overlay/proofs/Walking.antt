@@ -5,7 +5,6 @@ use mathlib.Core.Bool.{true, false}
 use mathlib.Core.List.{List, _∷_, map}
 use Prim.Native.Nat.{ℕ, _+_, _≤_, _<_}
 use native.Mathlib.Omega.{arith}
-use lib.Bits.{bitOr}
 use lib.Dec.{T, eqb→eq}
 use lib.ListN.{length, take, drop}
 use borrow.Author.Tests.{eq-eqb, ne-eqb}
@@ -89,7 +88,7 @@ module _ {g : ℕ → Group} {c mine : ℕ} {s memo : List ℕ} {end at m : ℕ}
 
   -- an IMPLEMENTS record, whose class is asked
   pub walk-asks : {l k i got m′ : ℕ} {memo′ memo″ : List ℕ} → l ≡ u16 s at → k ≡ u16 s (at + 2) → k ≡ 2 → i ≡ u16 s (at + 4) → got ≡ lowerRaw g c i → Right g memo′
-      → memo″ ≡ memo′ → m′ ≡ bitOr m got → Walking g c mine s memo″ end (at + l) m′
+      → memo″ ≡ memo′ → m′ ≡ union m got → Walking g c mine s memo″ end (at + l) m′
   unfolding unionAll union target
   walk-asks {l} {k} {i} {got} {m′} {memo′} el ek e ei eg r er em =
       let t : isKind IMPLEMENTS record-here ≡ true = eq-eqb _ _ (kind-here ∙ sym ek ∙ e) in

@@ -7,6 +7,7 @@ use groups::own_markers;
 use groups::sheet_of;
 use groups::word_of;
 use markers::closure;
+use markers::union;
 use view::Cut;
 ghost use mathlib.Core.Path.{_≡_};
 ghost use Prim.Native.Nat.{_+_, _≤_, _<_};
@@ -87,7 +88,7 @@ pub fn gathered(
         nlib,
         n,
         c,
-        own | up,
+        union(own, up),
         memo,
     );
     memo[c] = m as u16;
@@ -123,7 +124,10 @@ fn interfaces(
         let kind = word_of(library, user, group, cut, sheet, at + 2);
         if kind == 2 {
             let i = wide(word_of(library, user, group, cut, sheet, at + 4));
-            m = m | lower(library, user, group, cut, starts, nlib, n, c, i, memo);
+            m = union(
+                m,
+                lower(library, user, group, cut, starts, nlib, n, c, i, memo),
+            );
         }
         at += wide(word_of(library, user, group, cut, sheet, at));
     }

@@ -27,6 +27,7 @@ use Rattle.groups.proofs.group_start.Reads as group-start-reads
 use Rattle.groups.proofs.own_markers.Reads as own-markers-reads
 use Rattle.groups.proofs.sheet_of.Reads as sheet-of-reads
 use Rattle.groups.proofs.word_of.Reads as word-of-reads
+use Rattle.markers.proofs.union.Reads as union-reads
 use Rattle.overlay.proofs.wide.Reads as wide-reads
 use Rattle.overlay.proofs.+gathered+interfaces+lower.{statement}
 use Rattle.overlay.proofs.+gathered+interfaces+lower.Tie.{close}
@@ -62,10 +63,10 @@ abbrev lower-below : ℕ → In 5 lower-kinds.ps
 lower-below t = and 5 lower-kinds.ps (falls 5 lower-kinds.ps _<_ μ-lower t) lower.Pre
 
 abbrev claims-gathered : ℕ → gathered-lts.Claims
-claims-gathered t = (class-word-reads.Asked, class-word-reads.Learnt, wide-reads.Asked, wide-reads.Learnt, lower-below t, lower.Post, own-markers-reads.Asked, own-markers-reads.Learnt, interfaces-below t, interfaces.Post)
+claims-gathered t = (class-word-reads.Asked, class-word-reads.Learnt, wide-reads.Asked, wide-reads.Learnt, lower-below t, lower.Post, own-markers-reads.Asked, own-markers-reads.Learnt, union-reads.Asked, union-reads.Learnt, interfaces-below t, interfaces.Post)
 
 abbrev claims-interfaces : ℕ → interfaces-lts.Claims
-claims-interfaces t = (sheet-of-reads.Asked, sheet-of-reads.Learnt, group-end-reads.Asked, group-end-reads.Learnt, group-start-reads.Asked, group-start-reads.Learnt, word-of-reads.Asked, word-of-reads.Learnt, wide-reads.Asked, wide-reads.Learnt, lower-below t, lower.Post)
+claims-interfaces t = (sheet-of-reads.Asked, sheet-of-reads.Learnt, group-end-reads.Asked, group-end-reads.Learnt, group-start-reads.Asked, group-start-reads.Learnt, word-of-reads.Asked, word-of-reads.Learnt, wide-reads.Asked, wide-reads.Learnt, lower-below t, lower.Post, union-reads.Asked, union-reads.Learnt)
 
 abbrev claims-lower : ℕ → lower-lts.Claims
 claims-lower t = (gathered-below t, gathered.Post)
@@ -94,25 +95,28 @@ gathered-lower-requires t c κs = (omega arith, ((c .before .before .before .bef
 gathered-own-markers-requires : (t : ℕ) → gathered-lts.Need-own-markers-requires (claims-gathered t) (gathered-at t) gathered.Post
 gathered-own-markers-requires t c κs = ((c .before .before .before .before .before .before .before .before .before .before .before .before .before .pre .1 .0), ((c .before .before .before .before .before .before .before .before .before .before .before .before .before .pre .1 .1 .0), (c .before .before .before .before .before .before .before .before .before .before .before .before .before .pre .1 .1 .1 .1 .0)))
 
+gathered-union-requires : (t : ℕ) → gathered-lts.Need-union-requires (claims-gathered t) (gathered-at t) gathered.Post
+gathered-union-requires t c κs = search needs
+
 gathered-interfaces-requires : (t : ℕ) → gathered-lts.Need-interfaces-requires (claims-gathered t) (gathered-at t) gathered.Post
-gathered-interfaces-requires t c κs = (omega arith, ((c .before .before .before .before .before .before .before .before .before .before .before .before .before .before .before .pre .1 .0), ((c .before .before .before .before .before .before .before .before .before .before .before .before .before .before .before .pre .1 .1 .0), ((c .before .before .before .before .before .before .before .before .before .before .before .before .before .before .before .pre .1 .1 .1 .0), ((c .before .before .before .before .before .before .before .before .before .before .before .before .before .before .before .pre .1 .1 .1 .1 .0), c .before .before .before .before .lower .ensures .1)))))
+gathered-interfaces-requires t c κs = (omega arith, ((c .before .before .before .before .before .before .before .before .before .before .before .before .before .before .before .before .pre .1 .0), ((c .before .before .before .before .before .before .before .before .before .before .before .before .before .before .before .before .pre .1 .1 .0), ((c .before .before .before .before .before .before .before .before .before .before .before .before .before .before .before .before .pre .1 .1 .1 .0), ((c .before .before .before .before .before .before .before .before .before .before .before .before .before .before .before .before .pre .1 .1 .1 .1 .0), c .before .before .before .before .before .lower .ensures .1)))))
 
 gathered-cast-memo : (t : ℕ) → gathered-lts.Need-cast-memo (claims-gathered t) (gathered-at t) gathered.Post
 gathered-cast-memo t c = omega arith
 
 gathered-mul-memo : (t : ℕ) → gathered-lts.Need-mul-memo (claims-gathered t) (gathered-at t) gathered.Post
-gathered-mul-memo t c = omega (arith, (c .before .before .before .before .before .before .before .before .before .before .before .before .before .before .before .before .before .before .pre .1 .1 .1 .1 .0), (c .before .before .before .before .before .before .before .before .before .before .before .before .before .before .before .before .before .before .pre .1 .1 .0) .few)
+gathered-mul-memo t c = omega (arith, (c .before .before .before .before .before .before .before .before .before .before .before .before .before .before .before .before .before .before .before .pre .1 .1 .1 .1 .0), (c .before .before .before .before .before .before .before .before .before .before .before .before .before .before .before .before .before .before .before .pre .1 .1 .0) .few)
 
 gathered-slice-write-memo : (t : ℕ) → gathered-lts.Need-slice-write-memo (claims-gathered t) (gathered-at t) gathered.Post
-gathered-slice-write-memo t c = omega (arith, (c .before .before .before .before .before .before .before .before .before .before .before .before .before .before .before .before .before .before .pre .1 .1 .1 .1 .0), (c .before .before .before .before .before .before .before .before .before .before .before .before .before .before .before .before .before .before .pre .1 .1 .0) .few, c .before .before .interfaces .ensures .1 .long)
+gathered-slice-write-memo t c = omega (arith, (c .before .before .before .before .before .before .before .before .before .before .before .before .before .before .before .before .before .before .before .pre .1 .1 .1 .1 .0), (c .before .before .before .before .before .before .before .before .before .before .before .before .before .before .before .before .before .before .before .pre .1 .1 .0) .few, c .before .before .interfaces .ensures .1 .long)
 
 gathered-same-length : (t : ℕ) → gathered-lts.Need-same-length (claims-gathered t) (gathered-at t) gathered.Post
-gathered-same-length t c = simp length-set (c .before .before .interfaces .ensures .1 .long ∙ sym ((c .before .before .before .before .before .before .before .before .before .before .before .before .before .before .before .before .before .before .pre .1 .1 .1 .1 .1) .long))
+gathered-same-length t c = simp length-set (c .before .before .interfaces .ensures .1 .long ∙ sym ((c .before .before .before .before .before .before .before .before .before .before .before .before .before .before .before .before .before .before .before .pre .1 .1 .1 .1 .1) .long))
 
 gathered-returns-2 : (t : ℕ) → gathered-lts.Need-returns-2 (claims-gathered t) (gathered-at t) gathered.Post
 gathered-returns-2 t c =
-    let e = raw-is _ (c .before .before .before .before .before .before .before .before .before .before .before .before .before .before .before .before .before .before .pre .1 .1 .1 .0) _ (omega (arith, (c .before .before .before .before .before .before .before .before .before .before .before .before .before .before .before .before .before .before .pre .1 .1 .1 .1 .0), (c .before .before .before .before .before .before .before .before .before .before .before .before .before .before .before .before .before .before .pre .1 .1 .0) .few)) (group-one-class _ _ _ (omega (arith, (c .before .before .before .before .before .before .before .before .before .before .before .before .before .before .before .before .before .before .pre .1 .1 .1 .1 .0), (c .before .before .before .before .before .before .before .before .before .before .before .before .before .before .before .before .before .before .pre .1 .1 .0) .n-is))) (c .before .before .before .before .own-markers .ensures) (c .before .before .before .before .before .before .before .before .before .wide .ensures .0 ∙ c .before .before .before .before .before .before .before .before .before .before .class-word .ensures) (c .before .before .before .before .before .before .before .lower .ensures .0) (c .before .before .interfaces .ensures .0) in
-    (e, memo-set _ _ _ _ (c .before .before .interfaces .ensures .1) (omega (arith, (c .before .before .before .before .before .before .before .before .before .before .before .before .before .before .before .before .before .before .pre .1 .1 .1 .1 .0), (c .before .before .before .before .before .before .before .before .before .before .before .before .before .before .before .before .before .before .pre .1 .1 .0) .few)) e)
+    let e = raw-is _ (c .before .before .before .before .before .before .before .before .before .before .before .before .before .before .before .before .before .before .before .pre .1 .1 .1 .0) _ (omega (arith, (c .before .before .before .before .before .before .before .before .before .before .before .before .before .before .before .before .before .before .before .pre .1 .1 .1 .1 .0), (c .before .before .before .before .before .before .before .before .before .before .before .before .before .before .before .before .before .before .before .pre .1 .1 .0) .few)) (group-one-class _ _ _ (omega (arith, (c .before .before .before .before .before .before .before .before .before .before .before .before .before .before .before .before .before .before .before .pre .1 .1 .1 .1 .0), (c .before .before .before .before .before .before .before .before .before .before .before .before .before .before .before .before .before .before .before .pre .1 .1 .0) .n-is))) (c .before .before .before .before .before .own-markers .ensures) (c .before .before .before .before .before .before .before .before .before .before .wide .ensures .0 ∙ c .before .before .before .before .before .before .before .before .before .before .before .class-word .ensures) (c .before .before .before .before .before .before .before .before .lower .ensures .0) (c .before .before .before .before .union .ensures) (c .before .before .interfaces .ensures .0) in
+    (e, memo-set _ _ _ _ (c .before .before .interfaces .ensures .1) (omega (arith, (c .before .before .before .before .before .before .before .before .before .before .before .before .before .before .before .before .before .before .before .pre .1 .1 .1 .1 .0), (c .before .before .before .before .before .before .before .before .before .before .before .before .before .before .before .before .before .before .before .pre .1 .1 .0) .few)) e)
 
 abbrev interfaces-Inv-loop : interfaces-lts.InvT-loop
 interfaces-Inv-loop library user group cut starts nlib n c mine memo₀ sheet end at₀ m₀ memo at m =
@@ -151,6 +155,9 @@ interfaces-wide-requires t c κs = search needs
 interfaces-lower-requires : (t : ℕ) → interfaces-lts.Need-lower-requires (claims-interfaces t) (interfaces-at t) interfaces.Post interfaces-Inv-loop interfaces-μ-loop
 interfaces-lower-requires t c κs = (omega arith, ((c .before .before .before .before .before .before .before .before .before .before .before .before .before .before .before .pre .1 .0), ((c .before .before .before .before .before .before .before .before .before .before .before .before .before .before .before .pre .1 .1 .0), ((c .before .before .before .before .before .before .before .before .before .before .before .before .before .before .before .pre .1 .1 .1 .0), ((c .before .before .before .before .before .before .before .before .before .before .before .before .before .before .before .pre .1 .1 .1 .1 .0), c .before .before .before .before .before .before .loop .inv .right)))))
 
+interfaces-union-requires : (t : ℕ) → interfaces-lts.Need-union-requires (claims-interfaces t) (interfaces-at t) interfaces.Post interfaces-Inv-loop interfaces-μ-loop
+interfaces-union-requires t c κs = search needs
+
 interfaces-word-of-requires-3 : (t : ℕ) → interfaces-lts.Need-word-of-requires-3 (claims-interfaces t) (interfaces-at t) interfaces.Post interfaces-Inv-loop interfaces-μ-loop
 interfaces-word-of-requires-3 t c κs = ((c .before .before .before .before .before .before .before .before .before .before .before .before .pre .1 .0), omega (arith, c .before .before .before .loop .inv .small))
 
@@ -166,7 +173,7 @@ interfaces-loop-less t c = omega (arith, walk-on (c .before .before .before .bef
 interfaces-loop-again : (t : ℕ) → interfaces-lts.Need-loop-again (claims-interfaces t) (interfaces-at t) interfaces.Post interfaces-Inv-loop interfaces-μ-loop
 interfaces-loop-again t c =
     ⊎-elim
-    (λ w. walk-asks (c .before .before .before .before .before .loop .inv) (omega arith) (c .wide2 .ensures .0 ∙ c .before .word-of3 .ensures) (c .before .before .before .word-of .ensures) (w .0 .taken) (w .2 .ensures .0 ∙ w .1 .ensures) (w .4 .ensures .0) (w .4 .ensures .1) (w .7) (w .8))
+    (λ w. walk-asks (c .before .before .before .before .before .loop .inv) (omega arith) (c .wide2 .ensures .0 ∙ c .before .word-of3 .ensures) (c .before .before .before .word-of .ensures) (w .0 .taken) (w .2 .ensures .0 ∙ w .1 .ensures) (w .4 .ensures .0) (w .4 .ensures .1) (w .8) (w .9 ∙ w .7 .ensures))
     (λ w. walk-passes (c .before .before .before .before .before .loop .inv) (omega arith) (c .wide2 .ensures .0 ∙ c .before .word-of3 .ensures) (c .before .before .before .word-of .ensures) (w .0 .left) (w .2) (w .1))
     (c .before .before .if1 .came)
 
@@ -203,6 +210,7 @@ pub +gathered+interfaces+lower-spec : {M : Type 1} → statement M
     (gathered-wide-requires t)
     (gathered-lower-requires t)
     (gathered-own-markers-requires t)
+    (gathered-union-requires t)
     (gathered-interfaces-requires t)
     (gathered-cast-memo t)
     (gathered-mul-memo t)
@@ -224,6 +232,7 @@ pub +gathered+interfaces+lower-spec : {M : Type 1} → statement M
     (interfaces-word-of-requires-2 t)
     (interfaces-wide-requires t)
     (interfaces-lower-requires t)
+    (interfaces-union-requires t)
     (interfaces-word-of-requires-3 t)
     (interfaces-wide-requires-2 t)
     (interfaces-add-at t)
