@@ -1,0 +1,9 @@
+pub mod Rows
+pub mod Enclosing
+pub mod Chains
+pub mod Marking
+pub mod Runs
+pub mod Drawing
+pub mod Visiting
+pub mod Sweeping
+pub mod Closing

@@ -1,0 +1,70 @@
+-- Parts of a search: one that does nothing, one after another, and one that lowers one entry.
+-- Assumes nothing.
+use mathlib.Core.Path.{_≡_, refl, _∙_, subst}
+use mathlib.Core.List.{List, List·Memᴰ}
+use Prim.Native.Nat.{ℕ, _+_, _*_, _≤_, _<_}
+use native.Mathlib.Nat.{le-refl}
+use native.Mathlib.Decide.{ℕ-discrete}
+use native.Mathlib.Omega.{arith}
+use lib.ListN.{length, getD, set}
+use lib.Seq.{getD-set-same, getD-set-other}
+use Rattle.lanes.specs.Lanes.{Fits, Draws, via, entryAt, Sound, Other, Run, Joint}
+use Rattle.lanes.proofs.Rows.{sum-set}
+
+module _ {step : ℕ → List ℕ} {outer : ℕ → ℕ} {n lanes : ℕ} where
+  pub run-none : {P : List ℕ → Type 0} (s : List ℕ) → P s → Run step outer n lanes P s s 0
+  run-none s p =
+      record { keeps = λ g h. h; down = λ i. le-refl (getD s i 255); kept = λ i o. refl; less = omega arith; still = λ z. refl; closed = λ z. p }
+
+  -- If neither part changed anything, what both say holds of the one row.
+  pub run-then : {P Q : List ℕ → Type 0} (R : List ℕ → Type 0) {s₀ s s′ : List ℕ} {a b r : ℕ} → Run step outer n lanes P s₀ s a → Run step outer n lanes Q s s′ b
+      → Joint a b r → (P s₀ → Q s₀ → R s₀) → Run step outer n lanes R s₀ s′ r
+  run-then {Q = Q} R f h e c =
+      record {
+        keeps = λ g x. h .keeps g (f .keeps g x);
+        down = λ i. let u = f .down i in let w = h .down i in omega arith;
+        kept = λ i o. h .kept i o ∙ f .kept i o;
+        less = omega (arith, f .less, h .less, e .0);
+        still = λ z. h .still (e .1 z .1) ∙ f .still (e .1 z .0);
+        closed = λ z. c (f .closed (e .1 z .0)) (subst Q (f .still (e .1 z .0)) (h .closed (e .1 z .1)));
+      }
+
+  pub run-only : {P : List ℕ → Type 0} (R : List ℕ → Type 0) {s₀ s : List ℕ} {r : ℕ} → Run step outer n lanes P s₀ s r → (P s₀ → R s₀) → Run step outer n lanes R s₀ s r
+  run-only R f c =
+      record { keeps = f .keeps; down = f .down; kept = f .kept; less = f .less; still = f .still; closed = λ z. c (f .closed z) }
+
+-- The entry of m in lane k becomes that of t.
+module _ (step : ℕ → List ℕ) (outer : ℕ → ℕ) (n lanes : ℕ) (s : List ℕ) (k m t : ℕ) (few : n ≤ 256) (hk : k < lanes) (hm : m < n) (ht : t < n) (long : lanes * 256 ≤ length s) where
+  lower-sound : entryAt s k t < 255 → Fits outer (entryAt s k t) m → List·Memᴰ t (step m) → (g : List ℕ) → Sound step outer n lanes g s
+      → Sound step outer n lanes g (set s (k * 256 + m) (entryAt s k t))
+  unfolding Sound
+  lower-sound b f e g h k′ m′ hk′ hm′ v = go (ℕ-discrete (k′ * 256 + m′) (k * 256 + m))
+    where
+      go : Dec (k′ * 256 + m′ ≡ k * 256 + m) → Draws step outer n (entryAt g k′) (entryAt (set s (k * 256 + m) (entryAt s k t)) k′ m′) m′
+      go (yes q) =
+          let ek : k′ ≡ k = omega arith in
+          let em : m′ ≡ m = omega arith in
+          let ev : entryAt (set s (k * 256 + m) (entryAt s k t)) k m ≡ entryAt s k t = getD-set-same s (k * 256 + m) (entryAt s k t) 255 (omega arith) in
+          rw (ek, em, ev) (via f e ht (h k t hk ht b))
+      go (no q) =
+          let ev : entryAt (set s (k * 256 + m) (entryAt s k t)) k′ m′ ≡ entryAt s k′ m′ =
+          getD-set-other s (k * 256 + m) (k′ * 256 + m′) (entryAt s k t) 255 q in
+          rw ev (h k′ m′ hk′ hm′ (rw ev at v))
+
+  pub run-lower : (P : List ℕ → Type 0) → entryAt s k t < entryAt s k m → entryAt s k m ≤ 255 → Fits outer (entryAt s k t) m → List·Memᴰ t (step m)
+      → Run step outer n lanes P s (set s (k * 256 + m) (entryAt s k t)) 1
+  unfolding Other
+  run-lower P lt b f e =
+      let l : k * 256 + m < length s = omega arith in
+      record {
+        keeps = lower-sound (omega arith) f e;
+        down = λ i. go i (ℕ-discrete i (k * 256 + m));
+        kept = λ i o. getD-set-other s (k * 256 + m) i (entryAt s k t) 255 (λ q. o k m hk hm q);
+        less = let u = sum-set s (k * 256 + m) (entryAt s k t) l in omega arith;
+        still = λ z. absurd (omega arith);
+        closed = λ z. absurd (omega arith);
+      }
+    where
+      go : (i : ℕ) → Dec (i ≡ k * 256 + m) → getD (set s (k * 256 + m) (entryAt s k t)) i 255 ≤ getD s i 255
+      go i (yes q) = let u = getD-set-same s (k * 256 + m) (entryAt s k t) 255 (omega arith) in rw (q, u) (omega arith)
+      go i (no q) = let u = getD-set-other s (k * 256 + m) i (entryAt s k t) 255 q in omega arith

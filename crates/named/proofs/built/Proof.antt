@@ -1,0 +1,51 @@
+-- `named::built`, by the kind.
+-- Assumes nothing.
+use mathlib.Core.Path.{_∙_}
+use Rattle.named.proofs.Reading.{builds-class, builds-none}
+use borrow.Author.Needs.{needs}
+use Rattle.named.proofs.built.Statement.{statement}
+use Rattle.named.proofs.built.Tie as tie
+use Rattle.named.proofs.built.Reads as reads
+use Rattle.named.proofs.built.Lts as lts
+use Rattle.groups.proofs.word_of.Reads as word-of-reads
+use Rattle.named.proofs.wide.Reads as wide-reads
+
+-- src/lib.rt:40:50
+add-word-of : tie.Need-add-word-of
+add-word-of c = search needs
+
+-- src/lib.rt:40:8
+word-of-requires : tie.Need-word-of-requires
+word-of-requires c κs = search needs
+
+-- src/lib.rt:41:63
+add-word-of-2 : tie.Need-add-word-of-2
+add-word-of-2 c = search needs
+
+-- src/lib.rt:41:21
+word-of-requires-2 : tie.Need-word-of-requires-2
+word-of-requires-2 c κs = search needs
+
+-- src/lib.rt:41:9
+wide-requires : tie.Need-wide-requires
+wide-requires c κs = search needs
+
+-- src/lib.rt:41:9
+returns : tie.Need-returns
+returns c = builds-class (c .before .before .before .before .before .before .before .pre .1 .0) (c .before .before .before .word-of .ensures) (c .before .before .if1 .taken) (c .wide .ensures .0 ∙ c .before .word-of2 .ensures)
+
+-- src/lib.rt:34:1
+returns-2 : tie.Need-returns-2
+returns-2 c = builds-none (c .before .before .before .before .before .pre .1 .0) (c .before .word-of .ensures) (c .if1 .left)
+
+pub built-spec : {M : Type 1} → statement M
+built-spec =
+    tie.close
+    (tie.spec
+    add-word-of
+    word-of-requires
+    add-word-of-2
+    word-of-requires-2
+    wide-requires
+    returns
+    returns-2)

@@ -1,0 +1,178 @@
+-- The search along every record, from a single 0: it finds the classes that depend on one.
+-- Assumes nothing.
+use mathlib.Core.Path.{_≡_, refl, sym, ap, _∙_, subst}
+use mathlib.Core.Bool.{Bool, true, false}
+use mathlib.Core.List.{List, [], _∷_, List·Memᴰ}
+use mathlib.Core.Logic.{inl}
+use mathlib.Core.Option.{none}
+use Prim.Native.Nat.{ℕ, _+_, _*_, _≤_, _<_}
+use native.Mathlib.Decide.{ℕ-discrete}
+use native.Mathlib.Omega.{arith}
+use lib.Dec.{T, ltb}
+use lib.ListN.{length, getD, set, length-set}
+use lib.Seq.{getD-set-same, getD-set-other}
+use borrow.Author.Tests.{lt-ltb}
+use Rattle.spec.specs.Lists.{elem, reach}
+use Rattle.spec.specs.Record.{references}
+use Rattle.spec.specs.Sheet.{Group, total, group, groupReferences}
+use Rattle.spec.specs.Rules.{dependencies}
+use Rattle.spec.specs.Refusals.{formRefusal}
+use Rattle.theory.proofs.Bools.{true-t}
+use Rattle.theory.proofs.All.{at-member, of-members}
+use Rattle.theory.proofs.Members.{gather-mem, mem-gather, keep-mem, mem-keep}
+use Rattle.theory.proofs.Accept.{form-fits}
+use Rattle.theory.proofs.Reach.{Steps, here, onward}
+use Rattle.theory.proofs.Complete.{reach-sound, reach-complete}
+use Rattle.groups.specs.Groups.{Indexed}
+use Rattle.named.specs.Named.{firstNamed, secondNamed, namedBy}
+use Rattle.named.proofs.Meaning.{below, named-below}
+use Rattle.lanes.specs.Lanes.{Draws, own, via, entryAt, Other, SeedsFit, Least}
+use Rattle.lanes.proofs.Chains.{least-steps}
+use Rattle.reach.specs.Reach.{namedIn, stepsOf, outerOf, Emptied, Dependents}
+
+-- ---- emptying
+
+-- the first k of 256 entries are empty
+pub record Upto (before after : List ℕ) (k : ℕ) : Type 0 where
+  pub emptied : Emptied k before after
+  pub few : k ≤ 256
+
+pub empty-start : (row : List ℕ) → Upto row row 0
+empty-start row = record { emptied = record { long = refl; none = λ i h. absurd (omega arith); kept = λ i h. refl }; few = omega arith }
+
+pub empty-next : {before after : List ℕ} {k : ℕ} → Upto before after k → k < 256 → 256 ≤ length before → Upto before (set after k 255) (k + 1)
+empty-next {before} {after} {k} f h long =
+    record {
+      emptied = record {
+        long = length-set after k 255 ∙ f .emptied .long;
+        none = low;
+        kept = λ i l. getD-set-other after k i 255 255 (λ e. omega arith) ∙ f .emptied .kept i (omega arith);
+      };
+      few = omega arith;
+    }
+  where
+    low : (i : ℕ) → i < k + 1 → getD (set after k 255) i 255 ≡ 255
+    low i l = go (ℕ-discrete i k)
+      where
+        go : Dec (i ≡ k) → getD (set after k 255) i 255 ≡ 255
+        go (yes e) = rw e (getD-set-same after k 255 255 (omega (arith, f .emptied .long)))
+        go (no n) = getD-set-other after k i 255 255 n ∙ f .emptied .none i (omega arith)
+
+pub empty-end : {before after : List ℕ} {k : ℕ} → Upto before after k → 256 ≤ k → Emptied 256 before after
+empty-end {before} {after} {k} f h = let e : k ≡ 256 = omega (arith, f .few) in subst (λ (j : ℕ). Emptied j before after) e (f .emptied)
+
+-- ---- the seeds: 0 at d, none elsewhere
+
+module _ {before row : List ℕ} {d : ℕ} (f : Emptied 256 before row) (h : d < 256) (long : 256 ≤ length before) where
+  seed-at : (m : ℕ) → m < 256 → (getD (set row d 0) m 255 < 255 → m ≡ d) × (getD (set row d 0) m 255 ≤ 255)
+  seed-at m l = go (ℕ-discrete m d)
+    where
+      go : Dec (m ≡ d) → (getD (set row d 0) m 255 < 255 → m ≡ d) × (getD (set row d 0) m 255 ≤ 255)
+      go (yes e) = (λ _. e, omega (arith, ap (λ (i : ℕ). getD (set row d 0) i 255) e ∙ getD-set-same row d 0 255 (omega (arith, f .long))))
+      go (no n) = let v : getD (set row d 0) m 255 ≡ 255 = getD-set-other row d m 0 255 n ∙ f .none m l in (λ u. absurd (omega (arith, v)), omega (arith, v))
+
+  seed-zero : getD (set row d 0) d 255 ≡ 0
+  seed-zero = getD-set-same row d 0 255 (omega (arith, f .long))
+
+  pub seeds-fit : (outer : ℕ → ℕ) (n : ℕ) → n ≤ 256 → SeedsFit outer n 1 (set row d 0)
+  unfolding SeedsFit
+  seeds-fit outer n few k m hk hm v =
+      let e : k * 256 + m ≡ m = omega arith in
+      let q : getD (set row d 0) m 255 < 255 = subst (λ (i : ℕ). getD (set row d 0) i 255 < 255) e v in
+      inl (ap (λ (i : ℕ). getD (set row d 0) i 255) (e ∙ seed-at m (omega arith) .0 q) ∙ seed-zero)
+
+-- ---- the steps are the references
+
+module _ (g : ℕ → Group) (n : ℕ) (few : n ≤ 65535) where
+  steps-in : (m t : ℕ) → t < n → List·Memᴰ t (stepsOf g false m) → List·Memᴰ t (groupReferences (g m))
+  unfolding namedIn groupReferences below namedBy
+  steps-in m t h e =
+      let a = gather-mem (λ r. firstNamed false r ∷ secondNamed false r ∷ []) (g m) t e in
+      let p : T (ltb t n) = true-t (lt-ltb t n h) in
+      let k = subst (List·Memᴰ t) (sym (named-below n few (a .source) false)) (mem-keep (λ x. ltb x n) (a .part) p) in
+      mem-gather references (a .member) (keep-mem (λ x. ltb x n) (references (a .source)) t k .0)
+
+  in-steps : (m t : ℕ) → t < n → List·Memᴰ t (groupReferences (g m)) → List·Memᴰ t (stepsOf g false m)
+  unfolding namedIn groupReferences below namedBy
+  in-steps m t h e =
+      let a = gather-mem references (g m) t e in
+      let p : T (ltb t n) = true-t (lt-ltb t n h) in
+      let k = subst (List·Memᴰ t) (named-below n few (a .source) false) (mem-keep (λ x. ltb x n) (a .part) p) in
+      mem-gather (λ r. firstNamed false r ∷ secondNamed false r ∷ []) (a .member) (keep-mem (λ x. ltb x n) (firstNamed false (a .source) ∷ secondNamed false (a .source) ∷ []) t k .0)
+
+-- ---- chains
+
+prepend : {step : ℕ → List ℕ} {c t d : ℕ} → List·Memᴰ t (step c) → Steps step t d → Steps step c d
+prepend e here = onward here e
+prepend e (onward p m) = onward (prepend e p) m
+
+module _ {step : ℕ → List ℕ} {outer seed : ℕ → ℕ} {n d : ℕ} where
+  chain-of : {y m : ℕ} → m < n → y < 255 → ((k : ℕ) → k < n → seed k < 255 → k ≡ d) → Draws step outer n seed y m → Steps step m d
+  chain-of {y} {m} h l only (own e f) = subst (Steps step m) (only m h (omega (arith, e))) here
+  chain-of h l only (via f e b c) = prepend e (chain-of b l only c)
+
+of-chain : {step : ℕ → List ℕ} {outer seed : ℕ → ℕ} {n c m : ℕ} → ((a t : ℕ) → List·Memᴰ t (step a) → t < n) → Steps step c m → Draws step outer n seed 0 m → Draws step outer n seed 0 c
+of-chain bound here w = w
+of-chain bound (onward {d = a} {e = t} p e) w = of-chain bound p (via (inl refl) e (bound a t e) w)
+
+at-zero : (m : ℕ) → 0 * 256 + m ≡ m
+at-zero m = omega arith
+
+-- ---- the result
+
+abbrev stepsIn : List ℕ → List ℕ → ℕ → List ℕ
+stepsIn library user m = groupReferences (group library user m)
+
+module _ (library user : List ℕ) (ok : formRefusal library user ≡ none) (few : total library user ≤ 256) where
+  bound : (a t : ℕ) → List·Memᴰ t ((stepsIn library user) a) → t < total library user
+  unfolding groupReferences
+  bound a t e =
+      let s = gather-mem references (group library user a) t e in
+      at-member (λ x. x < total library user) (references (s .source)) (at-member _ (group library user a) (form-fits library user ok a) (s .member) .there) (s .part)
+
+  module _ {before row s : List ℕ} {d : ℕ} (f : Emptied 256 before row) (h : d < total library user) (long : 256 ≤ length before)
+      (l : Least (stepsOf (group library user) false) (outerOf (group library user)) (total library user) 1 (set row d 0) s) where
+    -- over the references themselves
+    least : Least (stepsIn library user) (outerOf (group library user)) (total library user) 1 (set row d 0) s
+    least = least-steps (steps-in (group library user) (total library user) (omega arith)) (in-steps (group library user) (total library user) (omega arith)) l
+
+    marked : (c : ℕ) → c < total library user → getD s c 255 ≡ elim (elem d (dependencies (group library user) c)) as (λ (b : Bool). ℕ) [ true ↦ 0 | false ↦ 255 ]
+    unfolding dependencies
+    marked c hc = go (elem d (reach (stepsIn library user) c)) refl
+      where
+        seed : ℕ → ℕ
+        seed = entryAt (set row d 0) 0
+
+        only : (k : ℕ) → k < total library user → seed k < 255 → k ≡ d
+        only k hk v = seed-at {d = d} f (omega arith) long k (omega arith) .0 (subst (λ (i : ℕ). getD (set row d 0) i 255 < 255) (at-zero k) v)
+
+        go : (b : Bool) → elem d (reach (stepsIn library user) c) ≡ b → getD s c 255 ≡ elim b as (λ (b : Bool). ℕ) [ true ↦ 0 | false ↦ 255 ]
+        go true e =
+            let z : seed d ≡ 0 = ap (λ (i : ℕ). getD (set row d 0) i 255) (at-zero d) ∙ seed-zero {d = d} f (omega arith) long in
+            let w = of-chain bound (reach-sound (stepsIn library user) c d (true-t e)) (own z (inl refl)) in
+            let q = least .least 0 c 0 (omega arith) hc w in
+            omega (arith, q, ap (λ (i : ℕ). getD s i 255) (at-zero c))
+        go false e =
+            let q = least .down c in
+            let u = seed-at {d = d} f (omega arith) long c (omega arith) .1 in
+            let v : getD s c 255 < 255 → ⊥ =
+            λ k. subst T e (reach-complete (stepsIn library user) (λ a. of-members (λ x. x < 256) ((stepsIn library user) a) (λ x m. omega (arith, bound a x m)))
+            (chain-of hc (subst (λ (i : ℕ). getD s i 255 < 255) (sym (at-zero c)) k) only (least .sound 0 c (omega arith) hc (subst (λ (i : ℕ). getD s i 255 < 255) (sym (at-zero c)) k)))) in
+            omega (arith, q, u, v)
+
+    pub depending : Dependents (group library user) (total library user) d before s
+    unfolding Other
+    depending = record {
+      marked = marked;
+      kept = λ i b. least .kept i (other i b) ∙ getD-set-other row d i 0 255 (λ e. omega arith) ∙ f .kept i b;
+    }
+      where
+        other : (i : ℕ) → 256 ≤ i → Other (total library user) 1 i
+        other i b k m hk hm e = omega arith
+
+pub found : {library user : List ℕ} {nlib n : ℕ} {starts : List ℕ} → Indexed library user nlib n starts → formRefusal library user ≡ none → {before row s : List ℕ} {d : ℕ} → Emptied 256 before row → d < n → 256 ≤ length before
+    → Least (stepsOf (group library user) false) (outerOf (group library user)) n 1 (set row d 0) s → Dependents (group library user) n d before s
+found {library} {user} {n = n} x ok {before} {row} {s} {d} f h long l =
+    rw (x .n-is)
+    (depending library user ok (omega (arith, x .few, x .n-is)) f (omega (arith, x .n-is)) long
+    (subst (λ (k : ℕ). Least (stepsOf (group library user) false) (outerOf (group library user)) k 1 (set row d 0) s) (x .n-is) l))

@@ -1,0 +1,2 @@
+pub mod Depending
+pub mod Scanning

@@ -1,0 +1,34 @@
+-- The steps of the search over two sheets, and the enclosers that it asks.
+-- Assumes nothing.
+use mathlib.Core.Path.{_≡_}
+use mathlib.Core.Bool.{Bool, true, false}
+use mathlib.Core.List.{List, [], _∷_}
+use Prim.Native.Nat.{ℕ, _≤_, _<_}
+use lib.ListN.{length, getD}
+use Rattle.spec.specs.Lists.{gather, elem}
+use Rattle.spec.specs.Record.{encloser}
+use Rattle.spec.specs.Sheet.{Group, classRecord}
+use Rattle.spec.specs.Rules.{dependencies}
+use Rattle.named.specs.Named.{firstNamed, secondNamed}
+
+-- the classes that a group names, 65535 where a record names fewer than two: along BUILDS or along every record
+unfoldable pub namedIn : Bool → Group → List ℕ
+namedIn builds g = gather (λ r. firstNamed builds r ∷ secondNamed builds r ∷ []) g
+
+abbrev pub stepsOf : (ℕ → Group) → Bool → ℕ → List ℕ
+stepsOf g builds m = namedIn builds (g m)
+
+-- the encloser of a class; a number that is not lower is none
+unfoldable pub outerOf : (ℕ → Group) → ℕ → ℕ
+outerOf g m = encloser (classRecord (g m))
+
+-- the first 256 entries of a row are none, the others are kept
+pub record Emptied (k : ℕ) (before after : List ℕ) : Type 0 where
+  pub long : length after ≡ length before
+  pub none : (i : ℕ) → i < k → getD after i 255 ≡ 255
+  pub kept : (i : ℕ) → k ≤ i → getD after i 255 ≡ getD before i 255
+
+-- 0 at each class that depends on d, 255 at the others
+pub record Dependents (g : ℕ → Group) (n d : ℕ) (before after : List ℕ) : Type 0 where
+  pub marked : (c : ℕ) → c < n → getD after c 255 ≡ elim (elem d (dependencies g c)) as (λ (b : Bool). ℕ) [ true ↦ 0 | false ↦ 255 ]
+  pub kept : (i : ℕ) → 256 ≤ i → getD after i 255 ≡ getD before i 255
