@@ -47,7 +47,7 @@ fn say_name<'a>(library: &'a [u8], user: &'a [u8], used: usize, class: usize) {
 }
 
 // Class `class` of the library sheet and the first `used` bytes of the user buffer.
-pub fn case<'a>(what: &[u8], library: &'a [u8], user: &'a [u8], used: usize, class: usize) {
+pub(crate) fn case<'a>(what: &[u8], library: &'a [u8], user: &'a [u8], used: usize, class: usize) {
     io::write_all(1, what);
     say_marks(library, user, used, class);
     say_place(library, user, used, class);
@@ -55,7 +55,7 @@ pub fn case<'a>(what: &[u8], library: &'a [u8], user: &'a [u8], used: usize, cla
 }
 
 // The same where the library sheet is the start of a buffer.
-pub fn case_of<'a>(
+pub(crate) fn case_of<'a>(
     what: &[u8],
     library: &'a [u8],
     size: usize,

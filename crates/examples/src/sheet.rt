@@ -1,5 +1,5 @@
 // Sheets too long to be written out, built record by record. Each function writes at `at` and answers the byte after what it wrote; what finds no room is left out.
-pub fn put(sheet: &mut [u8], at: usize, byte: u8) -> usize {
+pub(crate) fn put(sheet: &mut [u8], at: usize, byte: u8) -> usize {
     if at < sheet.len() {
         sheet[at] = byte;
         return at + 1;
@@ -7,13 +7,13 @@ pub fn put(sheet: &mut [u8], at: usize, byte: u8) -> usize {
     at
 }
 
-pub fn word(sheet: &mut [u8], at: usize, x: u16) -> usize {
+pub(crate) fn word(sheet: &mut [u8], at: usize, x: u16) -> usize {
     let high = put(sheet, at, (x % 256) as u8);
     put(sheet, high, (x / 256) as u8)
 }
 
 // A name of `size` bytes that ends in the two digits of k to the base 16, as letters.
-pub fn name(sheet: &mut [u8], at: usize, size: u16, k: u8) -> usize {
+pub(crate) fn name(sheet: &mut [u8], at: usize, size: u16, k: u8) -> usize {
     let mut to = at;
     let mut left = size;
     while 2 < left {
@@ -25,7 +25,7 @@ pub fn name(sheet: &mut [u8], at: usize, size: u16, k: u8) -> usize {
 }
 
 // A class without encloser.
-pub fn class(
+pub(crate) fn class(
     sheet: &mut [u8],
     at: usize,
     flags: u16,
@@ -43,14 +43,14 @@ pub fn class(
     name(sheet, to, size, k)
 }
 
-pub fn implements(sheet: &mut [u8], at: usize, c: u16) -> usize {
+pub(crate) fn implements(sheet: &mut [u8], at: usize, c: u16) -> usize {
     let mut to = word(sheet, at, 6);
     to = word(sheet, to, 2);
     word(sheet, to, c)
 }
 
 // A final field of type int.
-pub fn field(sheet: &mut [u8], at: usize, size: u16) -> usize {
+pub(crate) fn field(sheet: &mut [u8], at: usize, size: u16) -> usize {
     let mut to = word(sheet, at, 10 + size % 256);
     to = word(sheet, to, 3);
     to = word(sheet, to, 1);
@@ -60,7 +60,7 @@ pub fn field(sheet: &mut [u8], at: usize, size: u16) -> usize {
 }
 
 // `count` classes, each below class 0, with the names of the numbers from `count` down to 1.
-pub fn classes(sheet: &mut [u8], at: usize, count: u16) -> usize {
+pub(crate) fn classes(sheet: &mut [u8], at: usize, count: u16) -> usize {
     let mut to = at;
     let mut left = count;
     while 0 < left {
@@ -71,7 +71,7 @@ pub fn classes(sheet: &mut [u8], at: usize, count: u16) -> usize {
 }
 
 // `count` fields with names of `size` bytes.
-pub fn fields(sheet: &mut [u8], at: usize, count: u16, size: u16) -> usize {
+pub(crate) fn fields(sheet: &mut [u8], at: usize, count: u16, size: u16) -> usize {
     let mut to = at;
     let mut left = count;
     while 0 < left {
@@ -82,7 +82,7 @@ pub fn fields(sheet: &mut [u8], at: usize, count: u16, size: u16) -> usize {
 }
 
 // IMPLEMENTS of each class from `from` up to and without `upto`.
-pub fn implements_all(sheet: &mut [u8], at: usize, from: u16, upto: u16) -> usize {
+pub(crate) fn implements_all(sheet: &mut [u8], at: usize, from: u16, upto: u16) -> usize {
     let mut to = at;
     let mut c = from;
     while c < upto {
@@ -93,7 +93,7 @@ pub fn implements_all(sheet: &mut [u8], at: usize, from: u16, upto: u16) -> usiz
 }
 
 // Interfaces 1 to `count`, each of which extends all lower ones. The first is Equatable.
-pub fn diamond(sheet: &mut [u8], at: usize, count: u16) -> usize {
+pub(crate) fn diamond(sheet: &mut [u8], at: usize, count: u16) -> usize {
     let mut to = class(sheet, at, 1, 8, 65535, 2, 0);
     let mut c = 1;
     while c < count {
@@ -105,7 +105,7 @@ pub fn diamond(sheet: &mut [u8], at: usize, count: u16) -> usize {
 }
 
 // Two classes of 32,768 bytes: 255 records in the first, 45 in the second.
-pub fn full(sheet: &mut [u8]) -> usize {
+pub(crate) fn full(sheet: &mut [u8]) -> usize {
     let mut to = class(sheet, 0, 0, 1, 0, 2, 0);
     to = fields(sheet, to, 254, 100);
     to = class(sheet, to, 0, 1, 0, 2, 1);

@@ -149,9 +149,13 @@ pub fine-none : (o : Option Refusal) {k m a b : ℕ} → Fine k m ≡ checkedOf 
 fine-none none e = (refl, (cc, cc))
 fine-none (some r) e = absurd (let z : _≡_ {A = ℕ} 0 1 = cc in omega arith)
 
-refused-some : (o : Option Refusal) (a b : ℕ) {number sheet byte : ℕ} → Refused number sheet byte ≡ checkedOf o a b → (r : Refusal) × (o ≡ some r)
-refused-some none a b e = absurd (let z : _≡_ {A = ℕ} 0 1 = cc in omega arith)
-refused-some (some r) a b e = (r, refl)
+pub refused-is : (o : Option Refusal) (a b : ℕ) {number sheet byte : ℕ} → Refused number sheet byte ≡ checkedOf o a b → o ≡ some (record { number = number; sheet = sheet; byte = byte })
+refused-is none a b e = absurd (let z : _≡_ {A = ℕ} 0 1 = cc in omega arith)
+refused-is (some r) a b {number} {sheet} {byte} e =
+    let n : number ≡ r .number = cc in
+    let s : sheet ≡ r .sheet = cc in
+    let t : byte ≡ r .byte = cc in
+    rw (n, s, t)
 
 module _ {library user row : List ℕ} {p : Checked} (e : (p ≡ checkedOf (passesRefusal library user) (classCount library) (total library user)) × Starts library user row) where
   module _ {k m : ℕ} (f : p ≡ Fine k m) where
@@ -172,9 +176,9 @@ module _ {library user row : List ℕ} {p : Checked} (e : (p ≡ checkedOf (pass
   pub check-passed : {number sheet byte : ℕ} (memo : List ℕ) → p ≡ Refused number sheet byte
       → (p ≡ checkedOf (sheetRefusal library user) (classCount library) (total library user)) × Ready library user row memo
   check-passed memo f =
-      let q = refused-some (passesRefusal library user) (classCount library) (total library user) (sym f ∙ e .0) in
-      let o = sheet-parts library user ∙ first-some _ (q .1) in (
-        e .0 ∙ rw (q .1, o),
+      let q = refused-is (passesRefusal library user) (classCount library) (total library user) (sym f ∙ e .0) in
+      let o = sheet-parts library user ∙ first-some _ q in (
+        e .0 ∙ rw (q, o),
         record { long = e .1 .long; indexed = λ n. absurd (some≢none _ (sym o ∙ n)); right = λ n. absurd (some≢none _ (sym o ∙ n)) },
       )
 

@@ -97,7 +97,7 @@ fn both_passes(library: &[u8], user: &[u8], group: &[u8], cut: Cut, starts: &mut
     }
 }
 
-// The second pass of both sheets and the deemed markers: 9, 8, 10, 11. 0 is none.
+// The second pass of both sheets and the deemed markers: 9, 8, 10, 11.
 fn later(
     library: &[u8],
     user: &[u8],

@@ -15,45 +15,28 @@ use Rattle.spec.specs.Markers.{union, unionAll}
 use Rattle.spec.specs.Classes.{targets}
 use Rattle.theory.specs.Claims.{sheetOf}
 use Rattle.theory.proofs.Bools.{true-t}
-use Rattle.theory.proofs.All.{All, keep-yes, keep-no}
+use Rattle.theory.proofs.All.{keep-yes, keep-no}
 use Rattle.theory.proofs.Parts.{part-length, part-word, part-kind}
 use Rattle.theory.proofs.References.{by-kind}
-use Rattle.groups.specs.Groups.{sheetNumber, startOf, endOf, between, Tiled, Indexed}
-use Rattle.groups.proofs.Between.{tiled-step, tiled-end}
-use Rattle.groups.proofs.Classes.{group-tiled, group-between, group-lengths, end-small}
+use Rattle.groups.specs.Groups.{sheetNumber, startOf, endOf, between, Indexed}
+use Rattle.groups.proofs.Between.{tiled-end}
+use Rattle.groups.proofs.Walks.{AtRecord, walk-start, walk-on, walk-here, size-here, walk-next}
 use Rattle.overlay.specs.Memo.{lowerRaw, withInterfaces, Right}
 use Rattle.overlay.proofs.Unions.{union-assoc, union-zero}
 
--- at a byte of the group: the set so far, joined with what the interfaces from here on give, is the whole
+-- at a record of the group: the set so far, joined with what the interfaces from here on give, is the whole
 pub record Walking (g : ℕ → Group) (c mine : ℕ) (s memo : List ℕ) (end at m : ℕ) : Type 0 where
-  pub tiled : Tiled s at end
-  pub small : end ≤ 32768
-  pub sizes : All (λ r. T (lengthFits r)) (between s at end)
+  pub place : AtRecord s end at
   pub rest : union m (unionAll (map (lowerRaw g c) (targets IMPLEMENTS (between s at end)))) ≡ withInterfaces g c mine
   pub right : Right g memo
 
-pub walk-start : {library user : List ℕ} {nlib n : ℕ} {row : List ℕ} → Indexed library user nlib n row → {c : ℕ} → c < n → (mine : ℕ) {memo : List ℕ} → Right (group library user) memo
-    → Walking (group library user) c mine (sheetOf library user (sheetNumber nlib c)) memo (endOf library user c) (startOf library user c) mine
-unfolding withInterfaces
-walk-start {library} {user} {nlib} {n} x {c} h mine r =
-    let e = group-between x h in
-    record {
-      tiled = group-tiled x h;
-      small = end-small x h;
-      sizes = subst (All (λ r. T (lengthFits r))) (sym e) (group-lengths x c);
-      rest = ap (λ (rs : List (List ℕ)). union mine (unionAll (map (lowerRaw (group library user) c) (targets IMPLEMENTS rs)))) e;
-      right = r;
-    }
-
--- the same, with the numbers that the code read
 pub walk-begin : {library user : List ℕ} {nlib n : ℕ} {row : List ℕ} → Indexed library user nlib n row → {c : ℕ} → c < n → (mine : ℕ) {memo : List ℕ} {sheet end at : ℕ}
     → sheet ≡ sheetNumber nlib c → end ≡ endOf library user c → at ≡ startOf library user c → Right (group library user) memo
     → Walking (group library user) c mine (sheetOf library user sheet) memo end at mine
-walk-begin x h mine es ee ea r = rw (es, ee, ea) (walk-start x h mine r)
-
--- where the next record begins
-pub walk-on : {g : ℕ → Group} {c mine : ℕ} {s memo : List ℕ} {end at m : ℕ} → Walking g c mine s memo end at m → at < end → (4 ≤ u16 s at) × (at + u16 s at ≤ end)
-walk-on w h = (tiled-step (w .tiled) h .0, tiled-step (w .tiled) h .1)
+unfolding withInterfaces
+walk-begin {library} {user} x {c} h mine es ee ea r =
+    let w = walk-start x h es ee ea in
+    record { place = w .0; rest = ap (λ (rs : List (List ℕ)). union mine (unionAll (map (lowerRaw (group library user) c) (targets IMPLEMENTS rs)))) (w .1); right = r }
 
 pub walk-end : {g : ℕ → Group} {c mine : ℕ} {s memo : List ℕ} {end at m : ℕ} → Walking g c mine s memo end at m → end ≤ at → m ≡ withInterfaces g c mine
 unfolding targets ofKind keep unionAll
@@ -78,13 +61,10 @@ module _ {g : ℕ → Group} {c mine : ℕ} {s memo : List ℕ} {end at m : ℕ}
   record-here = take (u16 s at) (drop at s)
 
   kind-here : kind record-here ≡ u16 s (at + 2)
-  kind-here = part-kind s at (u16 s at) (tiled-step (w .tiled) h .0)
-
-  sizes-here : All (λ r. T (lengthFits r)) (record-here ∷ between s (at + u16 s at) end)
-  sizes-here = subst (All (λ r. T (lengthFits r))) (tiled-step (w .tiled) h .2) (w .sizes)
+  kind-here = part-kind s at (u16 s at) (walk-on (w .place) h .0)
 
   rest-here : union m (unionAll (map (lowerRaw g c) (targets IMPLEMENTS (record-here ∷ between s (at + u16 s at) end)))) ≡ withInterfaces g c mine
-  rest-here = sym (ap (λ (rs : List (List ℕ)). union m (unionAll (map (lowerRaw g c) (targets IMPLEMENTS rs)))) (tiled-step (w .tiled) h .2)) ∙ w .rest
+  rest-here = sym (ap (λ (rs : List (List ℕ)). union m (unionAll (map (lowerRaw g c) (targets IMPLEMENTS rs)))) (walk-here (w .place) h)) ∙ w .rest
 
   -- an IMPLEMENTS record, whose class is asked
   pub walk-asks : {l k i got m′ : ℕ} {memo′ memo″ : List ℕ} → l ≡ u16 s at → k ≡ u16 s (at + 2) → k ≡ 2 → i ≡ u16 s (at + 4) → got ≡ lowerRaw g c i → Right g memo′
@@ -92,15 +72,13 @@ module _ {g : ℕ → Group} {c mine : ℕ} {s memo : List ℕ} {end at m : ℕ}
   unfolding unionAll union target
   walk-asks {l} {k} {i} {got} {m′} {memo′} el ek e ei eg r er em =
       let t : isKind IMPLEMENTS record-here ≡ true = eq-eqb _ _ (kind-here ∙ sym ek ∙ e) in
-      let long : length record-here ≡ 6 = six record-here (true-t t) (sizes-here .0) in
-      let n : u16 s at ≡ 6 = sym (part-length s at (u16 s at) (omega (arith, tiled-step (w .tiled) h .1, w .tiled .within))) ∙ long in
+      let long : length record-here ≡ 6 = six record-here (true-t t) (size-here (w .place) h) in
+      let n : u16 s at ≡ 6 = sym (part-length s at (u16 s at) (omega (arith, walk-on (w .place) h, w .place .tiled .within))) ∙ long in
       let named : i ≡ target record-here = ei ∙ sym (part-word s at (u16 s at) 4 (omega arith)) in
       let rs : List (List ℕ) = between s (at + u16 s at) end in
       rw (el, er, em)
       (record {
-        tiled = tiled-step (w .tiled) h .3;
-        small = w .small;
-        sizes = sizes-here .1;
+        place = walk-next (w .place) h;
         rest = union-assoc m got (unionAll (map (lowerRaw g c) (targets IMPLEMENTS rs)))
             ∙ ap (λ (x : ℕ). union m (union x (unionAll (map (lowerRaw g c) (targets IMPLEMENTS rs))))) (eg ∙ ap (lowerRaw g c) named)
             ∙ sym (ap (λ (ts : List ℕ). union m (unionAll (map (lowerRaw g c) ts))) (targets-implements record-here rs t)) ∙ rest-here;
@@ -114,9 +92,7 @@ module _ {g : ℕ → Group} {c mine : ℕ} {s memo : List ℕ} {end at m : ℕ}
       let rs : List (List ℕ) = between s (at + u16 s at) end in
       rw (el, em, er)
       (record {
-        tiled = tiled-step (w .tiled) h .3;
-        small = w .small;
-        sizes = sizes-here .1;
+        place = walk-next (w .place) h;
         rest = sym (ap (λ (ts : List ℕ). union m (unionAll (map (lowerRaw g c) ts))) (targets-other record-here rs f)) ∙ rest-here;
         right = w .right;
       })

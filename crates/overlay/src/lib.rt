@@ -53,7 +53,7 @@ fn lower(
 }
 
 // The own markers of class c and of all its supertypes, unless the memo has them.
-pub fn gathered(
+fn gathered(
     library: &[u8],
     user: &[u8],
     group: &[u8],

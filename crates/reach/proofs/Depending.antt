@@ -1,26 +1,28 @@
 -- The search along every record, from a single 0: it finds the classes that depend on one.
 -- Assumes nothing.
 use mathlib.Core.Path.{_≡_, refl, sym, ap, _∙_, subst}
-use mathlib.Core.Bool.{Bool, true, false}
-use mathlib.Core.List.{List, [], _∷_, List·Memᴰ}
+use mathlib.Core.Bool.{Bool, true, false, _&&_}
+use mathlib.Core.List.{List, [], _∷_, _++_, map, List·Memᴰ}
 use mathlib.Core.Logic.{inl}
 use mathlib.Core.Option.{none}
-use Prim.Native.Nat.{ℕ, _+_, _*_, _≤_, _<_}
+use Prim.Native.Nat.{ℕ, _+_, _*_, _-_, _≤_, _<_}
 use native.Mathlib.Decide.{ℕ-discrete}
 use native.Mathlib.Omega.{arith}
 use lib.Dec.{T, ltb}
-use lib.ListN.{length, getD, set, length-set}
-use lib.Seq.{getD-set-same, getD-set-other}
-use borrow.Author.Tests.{lt-ltb}
-use Rattle.spec.specs.Lists.{elem, reach}
+use lib.ListN.{length, getD, set, drop, length-set, length-append, length-drop, List·getD-append}
+use lib.Seq.{getD-set-same, getD-set-other, getD-append-add, getD-drop, ext-getD}
+use borrow.Author.Tests.{lt-ltb, ltb-true, ltb-false}
+use Rattle.spec.specs.Lists.{elem, span, reach}
 use Rattle.spec.specs.Record.{references}
 use Rattle.spec.specs.Sheet.{Group, total, group, groupReferences}
 use Rattle.spec.specs.Rules.{dependencies}
+use Rattle.spec.specs.Verdicts.{dependsOn}
 use Rattle.spec.specs.Refusals.{formRefusal}
 use Rattle.theory.proofs.Bools.{true-t}
 use Rattle.theory.proofs.All.{at-member, of-members}
 use Rattle.theory.proofs.Members.{gather-mem, mem-gather, keep-mem, mem-keep}
 use Rattle.theory.proofs.Accept.{form-fits}
+use Rattle.theory.proofs.Rows.{length-values, getD-values}
 use Rattle.theory.proofs.Reach.{Steps, here, onward}
 use Rattle.theory.proofs.Complete.{reach-sound, reach-complete}
 use Rattle.groups.specs.Groups.{Indexed}
@@ -28,7 +30,7 @@ use Rattle.named.specs.Named.{firstNamed, secondNamed, namedBy}
 use Rattle.named.proofs.Meaning.{below, named-below}
 use Rattle.lanes.specs.Lanes.{Draws, own, via, entryAt, Other, SeedsFit, Least}
 use Rattle.lanes.proofs.Chains.{least-steps}
-use Rattle.reach.specs.Reach.{namedIn, stepsOf, outerOf, Emptied, Dependents}
+use Rattle.reach.specs.Reach.{namedIn, stepsOf, outerOf, Emptied, dependentRow}
 
 -- ---- emptying
 
@@ -160,19 +162,44 @@ module _ (library user : List ℕ) (ok : formRefusal library user ≡ none) (few
             (chain-of hc (subst (λ (i : ℕ). getD s i 255 < 255) (sym (at-zero c)) k) only (least .sound 0 c (omega arith) hc (subst (λ (i : ℕ). getD s i 255 < 255) (sym (at-zero c)) k)))) in
             omega (arith, q, u, v)
 
-    pub depending : Dependents (group library user) (total library user) d before s
+    -- entries that are no class's, and those past the lane
+    unclassed : (i : ℕ) → total library user ≤ i → getD s i 255 ≡ getD (set row d 0) i 255
     unfolding Other
-    depending = record {
-      marked = marked;
-      kept = λ i b. least .kept i (other i b) ∙ getD-set-other row d i 0 255 (λ e. omega arith) ∙ f .kept i b;
-    }
+    unclassed i b = least .kept i (λ k m hk hm e. omega arith)
+
+    entry-is : (c : ℕ) → c < 256 → getD s c 255 ≡ elim (dependsOn library user d c) as (λ (b : Bool). ℕ) [ true ↦ 0 | false ↦ 255 ]
+    unfolding dependsOn
+    entry-is c b = go (ltb c (total library user)) refl
       where
-        other : (i : ℕ) → 256 ≤ i → Other (total library user) 1 i
-        other i b k m hk hm e = omega arith
+        go : (x : Bool) → ltb c (total library user) ≡ x → getD s c 255 ≡ elim (x && elem d (dependencies (group library user) c)) as (λ (b : Bool). ℕ) [ true ↦ 0 | false ↦ 255 ]
+        go true e = marked c (ltb-true c (total library user) e)
+        go false e =
+            let l = ltb-false c (total library user) e in
+            unclassed c l ∙ getD-set-other row d c 0 255 (λ q. omega arith) ∙ f .none c b
+
+    pub depending : length s ≡ length before → s ≡ dependentRow library user d before
+    unfolding dependentRow
+    depending e =
+        ext-getD 255 s _ (e ∙ sym (length-append (map mark (span 0 256)) (drop 256 before) ∙ omega (arith, length-values mark 256, length-drop 256 before)))
+        (λ i h. go i (ltb i 256) refl)
+      where
+        mark : ℕ → ℕ
+        mark c = elim (dependsOn library user d c) as (λ (b : Bool). ℕ) [ true ↦ 0 | false ↦ 255 ]
+
+        go : (i : ℕ) (x : Bool) → ltb i 256 ≡ x → getD s i 255 ≡ getD (map mark (span 0 256) ++ drop 256 before) i 255
+        go i true q =
+            let l = ltb-true i 256 q in
+            entry-is i l ∙ sym (List·getD-append (map mark (span 0 256)) (drop 256 before) 255 i (omega (arith, length-values mark 256)) ∙ getD-values mark 256 255 i l)
+        go i false q =
+            let l = ltb-false i 256 q in
+            let k : 256 + (i - 256) ≡ i = omega arith in
+            let j : length (map mark (span 0 256)) + (i - 256) ≡ i = omega (arith, length-values mark 256) in
+            unclassed i (omega arith) ∙ getD-set-other row d i 0 255 (λ z. omega arith) ∙ f .kept i l
+            ∙ sym (ap (λ (m : ℕ). getD (map mark (span 0 256) ++ drop 256 before) m 255) (sym j) ∙ getD-append-add (map mark (span 0 256)) (drop 256 before) (i - 256) 255 ∙ getD-drop 256 before (i - 256) 255 ∙ ap (λ (m : ℕ). getD before m 255) k)
 
 pub found : {library user : List ℕ} {nlib n : ℕ} {starts : List ℕ} → Indexed library user nlib n starts → formRefusal library user ≡ none → {before row s : List ℕ} {d : ℕ} → Emptied 256 before row → d < n → 256 ≤ length before
-    → Least (stepsOf (group library user) false) (outerOf (group library user)) n 1 (set row d 0) s → Dependents (group library user) n d before s
-found {library} {user} {n = n} x ok {before} {row} {s} {d} f h long l =
-    rw (x .n-is)
-    (depending library user ok (omega (arith, x .few, x .n-is)) f (omega (arith, x .n-is)) long
-    (subst (λ (k : ℕ). Least (stepsOf (group library user) false) (outerOf (group library user)) k 1 (set row d 0) s) (x .n-is) l))
+    → Least (stepsOf (group library user) false) (outerOf (group library user)) n 1 (set row d 0) s → length s ≡ length before → s ≡ dependentRow library user d before
+found {library} {user} {n = n} x ok {before} {row} {s} {d} f h long l e =
+    depending library user ok (omega (arith, x .few, x .n-is)) f (omega (arith, x .n-is)) long
+    (subst (λ (k : ℕ). Least (stepsOf (group library user) false) (outerOf (group library user)) k 1 (set row d 0) s) (x .n-is) l)
+    e

@@ -2,13 +2,13 @@
 -- Assumes nothing.
 use mathlib.Core.Path.{_≡_}
 use mathlib.Core.Bool.{Bool, true, false}
-use mathlib.Core.List.{List, [], _∷_}
+use mathlib.Core.List.{List, [], _∷_, _++_, map}
 use Prim.Native.Nat.{ℕ, _≤_, _<_}
-use lib.ListN.{length, getD}
-use Rattle.spec.specs.Lists.{gather, elem}
+use lib.ListN.{length, getD, drop}
+use Rattle.spec.specs.Lists.{gather, span}
 use Rattle.spec.specs.Record.{encloser}
 use Rattle.spec.specs.Sheet.{Group, classRecord}
-use Rattle.spec.specs.Rules.{dependencies}
+use Rattle.spec.specs.Verdicts.{dependsOn}
 use Rattle.named.specs.Named.{firstNamed, secondNamed}
 
 -- the classes that a group names, 65535 where a record names fewer than two: along BUILDS or along every record
@@ -28,7 +28,6 @@ pub record Emptied (k : ℕ) (before after : List ℕ) : Type 0 where
   pub none : (i : ℕ) → i < k → getD after i 255 ≡ 255
   pub kept : (i : ℕ) → k ≤ i → getD after i 255 ≡ getD before i 255
 
--- 0 at each class that depends on d, 255 at the others
-pub record Dependents (g : ℕ → Group) (n d : ℕ) (before after : List ℕ) : Type 0 where
-  pub marked : (c : ℕ) → c < n → getD after c 255 ≡ elim (elem d (dependencies g c)) as (λ (b : Bool). ℕ) [ true ↦ 0 | false ↦ 255 ]
-  pub kept : (i : ℕ) → 256 ≤ i → getD after i 255 ≡ getD before i 255
+-- 0 at each class that depends on d, 255 at the others; past 256 entries the row is kept
+unfoldable pub dependentRow : List ℕ → List ℕ → ℕ → List ℕ → List ℕ
+dependentRow library user d row = map (λ c. elim (dependsOn library user d c) as (λ (b : Bool). ℕ) [ true ↦ 0 | false ↦ 255 ]) (span 0 256) ++ drop 256 row

@@ -19,7 +19,7 @@ ghost use Rattle.spec.specs.Refusals.{formRefusal};
 ghost use Rattle.view.specs.View.{Fits, spliced};
 ghost use Rattle.groups.specs.Groups.{Indexed};
 ghost use Rattle.lanes.specs.Lanes.{Enclosers, Run, SettledAt, AllSettled, SeedsFit, Least};
-ghost use Rattle.reach.specs.Reach.{stepsOf, outerOf, Emptied, Dependents};
+ghost use Rattle.reach.specs.Reach.{stepsOf, outerOf, Emptied, dependentRow};
 
 fn wide(x: u16) -> usize
     ensures { λ r. ⌜ (r ≡ x) × (r < 65536) ⌝ }
@@ -199,7 +199,7 @@ pub fn dependents(
     requires { ⌜ Indexed (now library) (spliced (now user) (now group) cut) nlib n (now starts) ⌝ }
     requires { ⌜ formRefusal (now library) (spliced (now user) (now group) cut) ≡ none ⌝ }
     requires { ⌜ (d < n) × (256 ≤ length (now row)) ⌝ }
-    ensures { λ r. ⌜ Dependents (groupOf (now (library .entry)) (spliced (now (user .entry)) (now (group .entry)) cut)) n d (now (row .entry)) (now (row .exit)) ⌝ }
+    ensures { λ r. ⌜ now (row .exit) ≡ dependentRow (now (library .entry)) (spliced (now (user .entry)) (now (group .entry)) cut) d (now (row .entry)) ⌝ }
 {
     empty(row);
     row[d] = 0;

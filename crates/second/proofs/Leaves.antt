@@ -9,9 +9,7 @@ use lib.Dec.{eqb, leb}
 use lib.ListN.{getD}
 use borrow.Author.Tests.{ne-eqb}
 use Rattle.spec.specs.Record.{u8, u16, bit, tyAt}
-use Rattle.spec.specs.Sheet.{group, isInterface}
-use Rattle.theory.specs.Claims.{sheetOf}
-use Rattle.groups.specs.Groups.{Indexed}
+use Rattle.spec.specs.Sheet.{Group, isInterface}
 use Rattle.second.specs.Second.{nineUnless, eightUnless, typeThere, fieldNumber}
 use Rattle.second.proofs.ByKind.{past-last}
 
@@ -21,32 +19,31 @@ odd-bit f = ap (λ (x : ℕ). eqb (x % 2) 1) (sym (div-one f))
 
 -- ---- the type at i of a sheet, by its code
 
-module _ {library user : List ℕ} {nlib n : ℕ} {row : List ℕ} (x : Indexed library user nlib n row) (sheet i : ℕ) where
-  pub class-absent : {code word class : ℕ} → code ≡ getD (sheetOf library user sheet) (i + 1) 0 → code ≡ 0 → word ≡ u16 (sheetOf library user sheet) (i + 2) → class ≡ word
-      → leb n class ≡ not (typeThere n (tyAt (sheetOf library user sheet) i))
+module _ (s : List ℕ) (n i : ℕ) where
+  pub class-absent : {code word class : ℕ} → code ≡ getD s (i + 1) 0 → code ≡ 0 → word ≡ u16 s (i + 2) → class ≡ word → leb n class ≡ not (typeThere n (tyAt s i))
   unfolding typeThere tyAt u8
   class-absent {word = word} e z ew ec = rw (← e, z, ← ew, ec) (past-last n word)
 
-  pub type-plain : {code : ℕ} → code ≡ getD (sheetOf library user sheet) (i + 1) 0 → (code ≡ 0 → ⊥) → false ≡ not (typeThere n (tyAt (sheetOf library user sheet) i))
+  pub type-plain : {code : ℕ} → code ≡ getD s (i + 1) 0 → (code ≡ 0 → ⊥) → false ≡ not (typeThere n (tyAt s i))
   unfolding typeThere tyAt u8
   type-plain e z = rw (← e, ne-eqb _ _ z)
 
 -- ---- a FIELD at `at`, by whether its type's class is absent, its flags and its class
 
-module _ {library user : List ℕ} {nlib n : ℕ} {row : List ℕ} (x : Indexed library user nlib n row) (sheet at c : ℕ) {absent : Bool} (e : absent ≡ not (typeThere n (tyAt (sheetOf library user sheet) (at + 6)))) where
-  its-type : typeThere n (tyAt (sheetOf library user sheet) (at + 6)) ≡ not absent
-  its-type = sym (Bool·not-not (typeThere n (tyAt (sheetOf library user sheet) (at + 6)))) ∙ ap not (sym e)
+module _ (g : ℕ → Group) (s : List ℕ) (n at c : ℕ) {absent : Bool} (e : absent ≡ not (typeThere n (tyAt s (at + 6)))) where
+  its-type : typeThere n (tyAt s (at + 6)) ≡ not absent
+  its-type = sym (Bool·not-not (typeThere n (tyAt s (at + 6)))) ∙ ap not (sym e)
 
-  pub field-absent : absent ≡ true → 9 ≡ fieldNumber (group library user) n c (bit 2 (u16 (sheetOf library user sheet) (at + 4))) (tyAt (sheetOf library user sheet) (at + 6))
+  pub field-absent : absent ≡ true → 9 ≡ fieldNumber g n c (bit 2 (u16 s (at + 4))) (tyAt s (at + 6))
   unfolding fieldNumber nineUnless
   field-absent h = rw (its-type, h, nineUnless)
 
-  module _ (h : absent ≡ false) {word : ℕ} (ew : word ≡ u16 (sheetOf library user sheet) (at + 4)) where
-    pub field-static : word / 4 % 2 ≡ 1 → 0 ≡ fieldNumber (group library user) n c (bit 2 (u16 (sheetOf library user sheet) (at + 4))) (tyAt (sheetOf library user sheet) (at + 6))
+  module _ (h : absent ≡ false) {word : ℕ} (ew : word ≡ u16 s (at + 4)) where
+    pub field-static : word / 4 % 2 ≡ 1 → 0 ≡ fieldNumber g n c (bit 2 (u16 s (at + 4))) (tyAt s (at + 6))
     unfolding fieldNumber nineUnless eightUnless bit
     field-static f = rw (its-type, h, ← ew, f, nineUnless)
 
-    pub field-own : (word / 4 % 2 ≡ 1 → ⊥) → {face : Bool} → face ≡ isInterface (group library user c) → (b : Bool) → face ≡ b
-        → eightUnless (not b) 0 ≡ fieldNumber (group library user) n c (bit 2 (u16 (sheetOf library user sheet) (at + 4))) (tyAt (sheetOf library user sheet) (at + 6))
+    pub field-own : (word / 4 % 2 ≡ 1 → ⊥) → {face : Bool} → face ≡ isInterface (g c) → (b : Bool) → face ≡ b
+        → eightUnless (not b) 0 ≡ fieldNumber g n c (bit 2 (u16 s (at + 4))) (tyAt s (at + 6))
     unfolding fieldNumber nineUnless bit
     field-own f ei b eb = rw (its-type, h, ← ew, ne-eqb _ _ f, ← ei, eb, nineUnless)

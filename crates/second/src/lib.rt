@@ -56,14 +56,11 @@ fn type_absent(
     user: &[u8],
     group: &[u8],
     cut: Cut,
-    starts: &[u16],
-    nlib: usize,
     n: usize,
     sheet: u8,
     i: usize,
 ) -> bool
     requires { ⌜ Fits cut (now user) ⌝ }
-    requires { ⌜ Indexed (now library) (spliced (now user) (now group) cut) nlib n (now starts) ⌝ }
     requires { ⌜ i < 65000 ⌝ }
     ensures { λ r. ⌜ r ≡ not (typeThere n (tyAt (sheetOf (now (library .entry)) (spliced (now (user .entry)) (now (group .entry)) cut) sheet) i)) ⌝ }
 {
@@ -367,7 +364,7 @@ fn field_number(
     requires { ⌜ (c < n) × (at < 32768) ⌝ }
     ensures { λ r. ⌜ r ≡ fieldNumber (groupOf (now (library .entry)) (spliced (now (user .entry)) (now (group .entry)) cut)) n c (bit 2 (u16 (sheetOf (now (library .entry)) (spliced (now (user .entry)) (now (group .entry)) cut) sheet) (at + 4))) (tyAt (sheetOf (now (library .entry)) (spliced (now (user .entry)) (now (group .entry)) cut) sheet) (at + 6)) ⌝ }
 {
-    if type_absent(library, user, group, cut, starts, nlib, n, sheet, at + 6) {
+    if type_absent(library, user, group, cut, n, sheet, at + 6) {
         return 9;
     }
     if word_of(library, user, group, cut, sheet, at + 4) / 4 % 2 == 1 {
@@ -474,7 +471,7 @@ fn form_number(
         return field_number(library, user, group, cut, starts, nlib, n, c, sheet, at);
     }
     if kind == 4 {
-        if type_absent(library, user, group, cut, starts, nlib, n, sheet, at + 4) {
+        if type_absent(library, user, group, cut, n, sheet, at + 4) {
             return 9;
         }
         return 0;
@@ -520,18 +517,8 @@ fn form_number(
 }
 
 // The length of a sheet.
-fn sheet_len(
-    library: &[u8],
-    user: &[u8],
-    group: &[u8],
-    cut: Cut,
-    starts: &[u16],
-    nlib: usize,
-    n: usize,
-    sheet: u8,
-) -> usize
+fn sheet_len(library: &[u8], user: &[u8], group: &[u8], cut: Cut, sheet: u8) -> usize
     requires { ⌜ Fits cut (now user) ⌝ }
-    requires { ⌜ Indexed (now library) (spliced (now user) (now group) cut) nlib n (now starts) ⌝ }
     ensures { λ r. ⌜ r ≡ length (sheetOf (now (library .entry)) (spliced (now (user .entry)) (now (group .entry)) cut) sheet) ⌝ }
 {
     if sheet == 0 {
@@ -577,7 +564,7 @@ pub fn second_pass(
     requires { ⌜ sheet < 2 ⌝ }
     ensures { λ r. ⌜ r ≡ passOf (formIn (groupOf (now (library .entry)) (spliced (now (user .entry)) (now (group .entry)) cut)) nlib n sheet (firstClass nlib sheet) (sheetOf (now (library .entry)) (spliced (now (user .entry)) (now (group .entry)) cut) sheet)) (firstClass nlib sheet + classCount (sheetOf (now (library .entry)) (spliced (now (user .entry)) (now (group .entry)) cut) sheet)) ⌝ }
 {
-    let end = sheet_len(library, user, group, cut, starts, nlib, n, sheet);
+    let end = sheet_len(library, user, group, cut, sheet);
     let mut at = 0;
     let mut c = first_class(nlib, sheet);
     while at < end {

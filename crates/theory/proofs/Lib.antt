@@ -22,3 +22,4 @@ pub mod Demand2
 pub mod Faults
 pub mod New
 pub mod Refused
+pub mod Rows

@@ -4,28 +4,27 @@ use mathlib.Core.Path.{_≡_, refl, sym, ap, _∙_, subst}
 use mathlib.Core.Bool.{Bool, true, false, not, _||_}
 use mathlib.Core.List.{List, map}
 use mathlib.Core.Option.{Option, none, some}
-use Prim.Native.Nat.{ℕ, zero, suc, _+_, _≤_, _<_}
-use native.Mathlib.Nat.{zero-add}
+use Prim.Native.Nat.{ℕ, _≤_}
 use native.Mathlib.Omega.{arith}
 use native.Mathlib.Decide.{ℕ-discrete}
 use lib.Dec.{T, eqb, leb, ltb, nltb→le}
-use lib.ListN.{length, take, getD, length-map, length-take}
+use lib.ListN.{length, take, length-take}
 use borrow.Author.Tests.{eq-eqb, le-leb, lt-leb}
 use Rattle.spec.specs.Lists.{span}
 use Rattle.spec.specs.Sheet.{classCount, total, group}
 use Rattle.spec.specs.Refusals.{Refusal, refuseIf, refusePlain, sizeRefusal, sheetRefusal, presentRefusal, unusedRefusal, queryRefusal}
 use Rattle.spec.specs.Promises.{refused, accepted, answerOf}
 use Rattle.theory.proofs.Bools.{not-or-l, not-or-r}
+use Rattle.theory.proofs.Rows.{length-values, getD-values}
 use Rattle.theory.proofs.Answers.{first-none, first-past, first-some, if-none}
 use Rattle.theory.proofs.Accept.{sound}
 use Rattle.theory.proofs.Falls.{Falls, falls}
 use Rattle.view.specs.View.{Fits}
 use Rattle.groups.specs.Groups.{Indexed, startOf}
 use Rattle.overlay.specs.Memo.{Right}
-use Rattle.form.specs.Form.{checkedOf}
 use Rattle.form.specs.declared.Checked.{Checked}
 use Rattle.form.specs.declared.Checked.the-variants.{Fine, Refused}
-use Rattle.form.proofs.Accepting.{Presents, fine-none}
+use Rattle.form.proofs.Accepting.{Presents, fine-none, refused-is}
 
 -- ---- answers
 
@@ -49,27 +48,7 @@ unfolding answerOf
 told-refused none a e = absurd (let z : _≡_ {A = ℕ} 0 1 = cc in omega arith)
 told-refused (some r) a e = cc
 
-refused-is : (o : Option Refusal) (a b : ℕ) {number sheet byte : ℕ} → Refused number sheet byte ≡ checkedOf o a b → o ≡ some (record { number = number; sheet = sheet; byte = byte })
-refused-is none a b e = absurd (let z : _≡_ {A = ℕ} 0 1 = cc in omega arith)
-refused-is (some r) a b {number} {sheet} {byte} e =
-    let n : number ≡ r .number = cc in
-    let s : sheet ≡ r .sheet = cc in
-    let t : byte ≡ r .byte = cc in
-    rw (n, s, t)
-
 -- ---- the sheets alone
-
--- a row of the values of a function
-getD-values : (f : ℕ → ℕ) (i n k : ℕ) → k < n → getD (map f (span i n)) k 0 ≡ f (i + k)
-unfolding span
-getD-values f i zero k h = absurd (omega arith)
-getD-values f i (suc n) zero h = ap f (let e : i ≡ i + 0 = omega arith in e)
-getD-values f i (suc n) (suc k) h = getD-values f (suc i) n k (omega arith) ∙ ap f (let e : suc i + k ≡ i + suc k = omega arith in e)
-
-length-span : (i n : ℕ) → length (span i n) ≡ n
-unfolding span
-length-span i zero = refl
-length-span i (suc n) = ap suc (length-span (suc i) n)
 
 some-class : (k : ℕ) → T (not (eqb k 0)) → 1 ≤ k
 some-class k t = go (ℕ-discrete k 0)
@@ -112,8 +91,8 @@ module _ (library user : List ℕ) (used : ℕ) (e : presentRefusal library user
         n-is = refl;
         some = some-class (classCount library) (s .some);
         few = s .few;
-        long = length-map (span 0 256) (startOf library (take used user)) ∙ length-span 0 256;
-        starts = λ c h. getD-values (startOf library (take used user)) 0 256 c (omega (arith, s .few)) ∙ ap (startOf library (take used user)) (zero-add c);
+        long = length-values (startOf library (take used user)) 256;
+        starts = λ c h. getD-values (startOf library (take used user)) 256 0 c (omega (arith, s .few));
       }
 
 -- ---- a class of accepted sheets

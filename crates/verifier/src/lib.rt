@@ -22,6 +22,7 @@ pub enum Placed {
     Refused(u8, u8, usize),
 }
 
+// The overlay markers of a class of either sheet; `used` bytes of the user buffer are its sheet.
 pub fn marks(library: &[u8], user: &[u8], used: usize, class: usize) -> Marked
     ensures { λ r. ⌜ Marks (now (library .entry)) (now (user .entry)) used class (markedAnswer r) ⌝ }
 {
@@ -55,6 +56,7 @@ pub fn marks(library: &[u8], user: &[u8], used: usize, class: usize) -> Marked
     }
 }
 
+// Where a class's name stands: for a caller that wants the refusal, or cannot be handed a part of a slice.
 pub fn name_place(library: &[u8], user: &[u8], used: usize, class: usize) -> Placed
     ensures { λ r. ⌜ Places (now (library .entry)) (now (user .entry)) used class (placedAnswer r) ⌝ }
 {
@@ -81,6 +83,7 @@ pub fn name_place(library: &[u8], user: &[u8], used: usize, class: usize) -> Pla
     }
 }
 
+// The name as the part of the sheet that holds it; an empty part of the library sheet where `name_place` refuses.
 pub fn name<'a>(library: &'a [u8], user: &'a [u8], used: usize, class: usize) -> &'a [u8]
     ensures { λ r. ⌜ Names (now (library .entry)) (now (user .entry)) used class (now r) ⌝ }
 {

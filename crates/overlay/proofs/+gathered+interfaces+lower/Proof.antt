@@ -7,7 +7,8 @@ use Rattle.theory.specs.Claims.{sheetOf}
 use Rattle.theory.proofs.Form.{group-one-class}
 use Rattle.view.specs.View.{spliced}
 use Rattle.overlay.proofs.Recursion.{lower-none, lower-is, memo-known, memo-set, raw-is}
-use Rattle.overlay.proofs.Walking.{Walking, walk-begin, walk-on, walk-asks, walk-passes, walk-end}
+use Rattle.groups.proofs.Walks.{walk-on}
+use Rattle.overlay.proofs.Walking.{Walking, walk-begin, walk-asks, walk-passes, walk-end}
 use Prim.Native.Nat.{ℕ, _<_, _+_, _*_, _-_}
 use native.Mathlib.Omega.{arith}
 use borrow.Fn.Kinds.{In}
@@ -138,16 +139,16 @@ interfaces-loop-holds : (t : ℕ) → interfaces-lts.Need-loop-holds (claims-int
 interfaces-loop-holds t c = walk-begin (c .before .before .before .before .before .before .before .before .pre .1 .1 .0) (c .before .before .before .before .before .before .before .before .pre .1 .1 .1 .1 .0) _ (c .before .before .sheet-of .ensures) (c .before .group-end .ensures) (c .group-start .ensures) (c .before .before .before .before .before .before .before .before .pre .1 .1 .1 .1 .1)
 
 interfaces-add-word-of : (t : ℕ) → interfaces-lts.Need-add-word-of (claims-interfaces t) (interfaces-at t) interfaces.Post interfaces-Inv-loop interfaces-μ-loop
-interfaces-add-word-of t c = omega (arith, c .before .loop .inv .small)
+interfaces-add-word-of t c = omega (arith, c .before .loop .inv .place .small)
 
 interfaces-word-of-requires : (t : ℕ) → interfaces-lts.Need-word-of-requires (claims-interfaces t) (interfaces-at t) interfaces.Post interfaces-Inv-loop interfaces-μ-loop
-interfaces-word-of-requires t c κs = ((c .before .before .before .before .before .before .before .before .before .before .pre .1 .0), omega (arith, c .before .loop .inv .small))
+interfaces-word-of-requires t c κs = ((c .before .before .before .before .before .before .before .before .before .before .pre .1 .0), omega (arith, c .before .loop .inv .place .small))
 
 interfaces-add-word-of-2 : (t : ℕ) → interfaces-lts.Need-add-word-of-2 (claims-interfaces t) (interfaces-at t) interfaces.Post interfaces-Inv-loop interfaces-μ-loop
-interfaces-add-word-of-2 t c = omega (arith, c .before .before .before .loop .inv .small)
+interfaces-add-word-of-2 t c = omega (arith, c .before .before .before .loop .inv .place .small)
 
 interfaces-word-of-requires-2 : (t : ℕ) → interfaces-lts.Need-word-of-requires-2 (claims-interfaces t) (interfaces-at t) interfaces.Post interfaces-Inv-loop interfaces-μ-loop
-interfaces-word-of-requires-2 t c κs = ((c .before .before .before .before .before .before .before .before .before .before .before .before .pre .1 .0), omega (arith, c .before .before .before .loop .inv .small))
+interfaces-word-of-requires-2 t c κs = ((c .before .before .before .before .before .before .before .before .before .before .before .before .pre .1 .0), omega (arith, c .before .before .before .loop .inv .place .small))
 
 interfaces-wide-requires : (t : ℕ) → interfaces-lts.Need-wide-requires (claims-interfaces t) (interfaces-at t) interfaces.Post interfaces-Inv-loop interfaces-μ-loop
 interfaces-wide-requires t c κs = search needs
@@ -159,16 +160,16 @@ interfaces-union-requires : (t : ℕ) → interfaces-lts.Need-union-requires (cl
 interfaces-union-requires t c κs = search needs
 
 interfaces-word-of-requires-3 : (t : ℕ) → interfaces-lts.Need-word-of-requires-3 (claims-interfaces t) (interfaces-at t) interfaces.Post interfaces-Inv-loop interfaces-μ-loop
-interfaces-word-of-requires-3 t c κs = ((c .before .before .before .before .before .before .before .before .before .before .before .before .pre .1 .0), omega (arith, c .before .before .before .loop .inv .small))
+interfaces-word-of-requires-3 t c κs = ((c .before .before .before .before .before .before .before .before .before .before .before .before .pre .1 .0), omega (arith, c .before .before .before .loop .inv .place .small))
 
 interfaces-wide-requires-2 : (t : ℕ) → interfaces-lts.Need-wide-requires-2 (claims-interfaces t) (interfaces-at t) interfaces.Post interfaces-Inv-loop interfaces-μ-loop
 interfaces-wide-requires-2 t c κs = search needs
 
 interfaces-add-at : (t : ℕ) → interfaces-lts.Need-add-at (claims-interfaces t) (interfaces-at t) interfaces.Post interfaces-Inv-loop interfaces-μ-loop
-interfaces-add-at t c = omega (arith, c .before .before .before .before .before .loop .inv .small, c .wide2 .ensures .1)
+interfaces-add-at t c = omega (arith, c .before .before .before .before .before .loop .inv .place .small, c .wide2 .ensures .1)
 
 interfaces-loop-less : (t : ℕ) → interfaces-lts.Need-loop-less (claims-interfaces t) (interfaces-at t) interfaces.Post interfaces-Inv-loop interfaces-μ-loop
-interfaces-loop-less t c = omega (arith, walk-on (c .before .before .before .before .before .loop .inv) (omega arith), c .wide2 .ensures .0, c .before .word-of3 .ensures)
+interfaces-loop-less t c = omega (arith, walk-on (c .before .before .before .before .before .loop .inv .place) (omega arith), c .wide2 .ensures .0, c .before .word-of3 .ensures)
 
 interfaces-loop-again : (t : ℕ) → interfaces-lts.Need-loop-again (claims-interfaces t) (interfaces-at t) interfaces.Post interfaces-Inv-loop interfaces-μ-loop
 interfaces-loop-again t c =

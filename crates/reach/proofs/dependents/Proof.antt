@@ -36,6 +36,7 @@ returns : tie.Need-returns
 returns c =
     let p = c .before .before .before .before .before .before .before .before .before .before .before .before .before .pre in
     found (p .1 .0) (p .1 .1 .0) (c .before .before .before .before .before .before .empty .ensures) (p .1 .1 .1 .0) (p .1 .1 .1 .1) (c .before .before .close .ensures)
+    (c .before .before .close .kept .1 .1 .1 .1 .1 .1 .1 .1 .1 .0 ∙ simp length-set (c .before .before .before .before .before .before .empty .ensures .long))
 
 pub dependents-spec : {M : Type 1} → statement M
 dependents-spec =

@@ -7,8 +7,9 @@ use borrow.Author.Needs.{needs}
 use Rattle.spec.specs.Sheet.{group as groupOf}
 use Rattle.theory.specs.Claims.{sheetOf}
 use Rattle.view.specs.View.{spliced}
+use Rattle.groups.proofs.Walks.{walk-on}
 use Rattle.lanes.proofs.Rows.{zeros}
-use Rattle.reach.proofs.Scanning.{ScanAt, scan-start, scan-on, scan-sized, scan-next, scan-end}
+use Rattle.reach.proofs.Scanning.{ScanAt, scan-start, scan-sized, scan-next, scan-end}
 use Rattle.reach.proofs.visit.Statement.{statement}
 use Rattle.reach.proofs.visit.Tie as tie
 use Rattle.reach.proofs.visit.Reads as reads
@@ -61,7 +62,7 @@ loop-holds c =
 first-named-requires : tie.Need-first-named-requires Inv-loop μ-loop
 first-named-requires c κs =
     let p = c .before .before .before .before .before .before .before .before .before .before .before .before .before .pre in
-    (p .0, (scan-sized (c .before .loop .inv) (omega arith), omega (arith, c .before .loop .inv .small)))
+    (p .0, (scan-sized (c .before .loop .inv) (omega arith), omega (arith, c .before .loop .inv .place .small)))
 
 -- src/lib.rt:81:30
 slice-aggregate-draw-lanes : tie.Need-slice-aggregate-draw-lanes Inv-loop μ-loop
@@ -82,7 +83,7 @@ either-requires c κs = search needs
 second-named-requires : tie.Need-second-named-requires Inv-loop μ-loop
 second-named-requires c κs =
     let p = c .before .before .before .before .before .before .before .before .before .before .before .before .before .before .before .before .before .before .before .before .pre in
-    (p .0, (scan-sized (c .before .before .before .before .before .before .before .before .loop .inv) (omega arith), omega (arith, c .before .before .before .before .before .before .before .before .loop .inv .small)))
+    (p .0, (scan-sized (c .before .before .before .before .before .before .before .before .loop .inv) (omega arith), omega (arith, c .before .before .before .before .before .before .before .before .loop .inv .place .small)))
 
 -- src/lib.rt:84:31
 slice-aggregate-draw-lanes-2 : tie.Need-slice-aggregate-draw-lanes-2 Inv-loop μ-loop
@@ -101,7 +102,7 @@ either-requires-2 c κs = search needs
 
 -- src/lib.rt:86:20
 word-of-requires : tie.Need-word-of-requires Inv-loop μ-loop
-word-of-requires c κs = (c .before .before .before .before .before .before .before .before .before .before .before .before .before .before .before .before .before .before .before .before .before .before .before .before .before .before .before .pre .0, omega (arith, c .before .before .before .before .before .before .before .before .before .before .before .before .before .before .before .loop .inv .small))
+word-of-requires c κs = (c .before .before .before .before .before .before .before .before .before .before .before .before .before .before .before .before .before .before .before .before .before .before .before .before .before .before .before .pre .0, omega (arith, c .before .before .before .before .before .before .before .before .before .before .before .before .before .before .before .loop .inv .place .small))
 
 -- src/lib.rt:86:15
 wide-requires : tie.Need-wide-requires Inv-loop μ-loop
@@ -109,11 +110,11 @@ wide-requires c κs = search needs
 
 -- src/lib.rt:86:9
 add-at : tie.Need-add-at Inv-loop μ-loop
-add-at c = omega (arith, c .before .before .before .before .before .before .before .before .before .before .before .before .before .before .before .before .before .loop .inv .small, c .wide .ensures .1)
+add-at c = omega (arith, c .before .before .before .before .before .before .before .before .before .before .before .before .before .before .before .before .before .loop .inv .place .small, c .wide .ensures .1)
 
 -- src/lib.rt:79:5
 loop-less : tie.Need-loop-less Inv-loop μ-loop
-loop-less c = omega (arith, scan-on (c .before .before .before .before .before .before .before .before .before .before .before .before .before .before .before .before .before .loop .inv) (omega arith), c .wide .ensures .0, c .before .word-of .ensures)
+loop-less c = omega (arith, walk-on (c .before .before .before .before .before .before .before .before .before .before .before .before .before .before .before .before .before .loop .inv .place) (omega arith), c .wide .ensures .0, c .before .word-of .ensures)
 
 -- src/lib.rt:79:5
 loop-again : tie.Need-loop-again Inv-loop μ-loop

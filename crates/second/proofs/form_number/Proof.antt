@@ -59,7 +59,7 @@ add-type-absent c = let p = c .before .before .before .before .before .before .b
 
 -- src/lib.rt:477:12
 type-absent-requires : tie.Need-type-absent-requires
-type-absent-requires c κs = let p = c .before .before .before .before .before .before .before .before .pre .1 in (c .before .before .before .before .before .before .before .before .pre .0, (p .0, omega (arith, at-low (p .0) (c .before .before .before .before .before .before .before .before .args .sheet) (p .1 .1))))
+type-absent-requires c κs = let p = c .before .before .before .before .before .before .before .before .pre .1 in (c .before .before .before .before .before .before .before .before .pre .0, omega (arith, at-low (p .0) (c .before .before .before .before .before .before .before .before .args .sheet) (p .1 .1)))
 
 -- src/lib.rt:478:13
 returns-3 : tie.Need-returns-3

@@ -29,7 +29,7 @@ abbrev μ-loop : tie.MeasureT-loop
 
 -- src/lib.rt:580:9
 sheet-len-requires : tie.Need-sheet-len-requires Inv-loop μ-loop
-sheet-len-requires c κs = (c .before .before .before .before .pre .0, c .before .before .before .before .pre .1 .0)
+sheet-len-requires c κs = c .before .before .before .before .pre .0
 
 -- src/lib.rt:582:9
 first-class-requires : tie.Need-first-class-requires Inv-loop μ-loop

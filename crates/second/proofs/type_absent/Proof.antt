@@ -32,11 +32,11 @@ wide-requires c κs = search needs
 
 -- src/lib.rt:71:9
 returns : tie.Need-returns
-returns c = let s = c .before .before .before .before .before .before .before .before in class-absent (s .pre .1 .0) (s .args .sheet) (s .args .i) (c .before .before .before .byte-of .ensures) (c .before .before .if1 .taken) (c .before .word-of .ensures) (c .wide .ensures .0)
+returns c = let s = c .before .before .before .before .before .before .before in class-absent _ (s .args .n) (s .args .i) (c .before .before .before .byte-of .ensures) (c .before .before .if1 .taken) (c .before .word-of .ensures) (c .wide .ensures .0)
 
 -- src/lib.rt:54:1
 returns-2 : tie.Need-returns-2
-returns-2 c = let s = c .before .before .before .before .before .before in type-plain (s .pre .1 .0) (s .args .sheet) (s .args .i) (c .before .byte-of .ensures) (c .if1 .left)
+returns-2 c = let s = c .before .before .before .before .before in type-plain _ (s .args .n) (s .args .i) (c .before .byte-of .ensures) (c .if1 .left)
 
 pub type-absent-spec : {M : Type 1} → statement M
 type-absent-spec =
