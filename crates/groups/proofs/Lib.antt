@@ -1,3 +1,5 @@
 pub mod Between
 pub mod Classes
 pub mod Walks
+pub mod Nth
+pub mod Few

@@ -2,12 +2,13 @@
 -- Assumes nothing.
 use mathlib.Core.Path.{_≡_}
 use mathlib.Core.Bool.{true, false}
-use mathlib.Core.List.{List}
+use mathlib.Core.List.{List, [], _∷_}
 use Prim.Native.Nat.{ℕ, _+_, _-_, _≤_, _<_}
-use lib.Dec.{ltb}
+use lib.Dec.{eqb, ltb}
 use lib.ListN.{length, getD, take, drop}
 use Rattle.spec.specs.Lists.{concat}
-use Rattle.spec.specs.Sheet.{recordsOf, wholeEnd, classCount, total, group, groupStart}
+use Rattle.spec.specs.Record.{isKind}
+use Rattle.spec.specs.Sheet.{Group, recordsOf, wholeEnd, classCount, total, group, groupStart}
 use Rattle.theory.proofs.Accept.{Clear}
 
 -- the sheet that holds class c: 0 library, 1 user
@@ -43,3 +44,11 @@ pub record Indexed (library user : List ℕ) (nlib n : ℕ) (row : List ℕ) : T
   pub few : n ≤ 256
   pub long : length row ≡ 256
   pub starts : (c : ℕ) → c < n → getD row c 0 ≡ startOf library user c
+
+-- the byte where number i of a kind begins among records of which the first begins at `at`; the byte after the last one if there is none
+unfoldable pub nthByte : ℕ → ℕ → ℕ → Group → ℕ
+nthByte kind i at [] = at
+nthByte kind i at (r ∷ rs) = elim (isKind kind r) [
+  | true ↦ elim (eqb i 0) [ true ↦ at | false ↦ nthByte kind (i - 1) (at + length r) rs ]
+  | false ↦ nthByte kind i (at + length r) rs
+]

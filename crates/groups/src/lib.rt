@@ -9,7 +9,7 @@ ghost use Rattle.spec.specs.Record.{u16, ownMarkers as ownMarkersOf};
 ghost use Rattle.spec.specs.Sheet.{group as groupOf, ofKind, classRecord};
 ghost use Rattle.theory.specs.Claims.{sheetOf};
 ghost use Rattle.view.specs.View.{Fits, spliced};
-ghost use Rattle.groups.specs.Groups.{sheetNumber, startOf, endOf, Indexed};
+ghost use Rattle.groups.specs.Groups.{sheetNumber, startOf, endOf, nthByte, Indexed};
 
 fn wide(x: u16) -> usize
     ensures { λ r. ⌜ (r ≡ x) × (r < 65536) ⌝ }
@@ -163,4 +163,38 @@ pub fn own_markers(
 {
     let at = group_start(library, user, group, cut, starts, nlib, n, c);
     byte_of(library, user, group, cut, sheet_of(nlib, c), at + 6)
+}
+
+// The byte where number i of a kind begins in the group of class c; the group's end if there is none.
+pub fn nth_of(
+    library: &[u8],
+    user: &[u8],
+    group: &[u8],
+    cut: Cut,
+    starts: &[u16],
+    nlib: usize,
+    n: usize,
+    c: usize,
+    kind: u16,
+    i: usize,
+) -> usize
+    requires { ⌜ Fits cut (now user) ⌝ }
+    requires { ⌜ Indexed (now library) (spliced (now user) (now group) cut) nlib n (now starts) ⌝ }
+    requires { ⌜ c < n ⌝ }
+    ensures { λ r. ⌜ r ≡ nthByte kind i (startOf (now (library .entry)) (spliced (now (user .entry)) (now (group .entry)) cut) c) (groupOf (now (library .entry)) (spliced (now (user .entry)) (now (group .entry)) cut) c) ⌝ }
+{
+    let sheet = sheet_of(nlib, c);
+    let end = group_end(library, user, group, cut, starts, nlib, n, c);
+    let mut at = group_start(library, user, group, cut, starts, nlib, n, c);
+    let mut left = i;
+    while at < end {
+        if word_of(library, user, group, cut, sheet, at + 2) == kind {
+            if left == 0 {
+                return at;
+            }
+            left -= 1;
+        }
+        at += wide(word_of(library, user, group, cut, sheet, at));
+    }
+    at
 }

@@ -1,5 +1,7 @@
 // Sets of markers: the closure as a table, unions, and which sets clash.
 ghost use mathlib.Core.Path.{_≡_};
+ghost use Prim.Native.Nat.{_/_, _%_, _<_};
+ghost use lib.Dec.{eqb};
 ghost use Rattle.spec.specs.Markers.{closure as closureOf, union as unionOf, clash as clashOf};
 
 // For each set the least closed set that holds it.
@@ -284,4 +286,12 @@ pub fn clash(m: u8) -> bool
         return true;
     }
     m / 4 % 2 + m / 8 % 2 == 2
+}
+
+// Whether a set holds a marker, given as the set of that marker alone.
+pub fn has(set: u8, marker: u8) -> bool
+    requires { ⌜ 0 < marker ⌝ }
+    ensures { λ r. ⌜ r ≡ eqb (set / marker % 2) 1 ⌝ }
+{
+    set / marker % 2 == 1
 }

@@ -1,3 +1,4 @@
 pub mod Unions
 pub mod Recursion
 pub mod Walking
+pub mod Types

@@ -12,7 +12,7 @@ use lib.Dec.{T, ltb}
 use lib.ListN.{length, getD, set, drop, length-set, length-append, length-drop, List·getD-append}
 use lib.Seq.{getD-set-same, getD-set-other, getD-append-add, getD-drop, ext-getD}
 use borrow.Author.Tests.{lt-ltb, ltb-true, ltb-false}
-use Rattle.spec.specs.Lists.{elem, span, reach}
+use Rattle.spec.specs.Lists.{gather, elem, span, reach}
 use Rattle.spec.specs.Record.{references}
 use Rattle.spec.specs.Sheet.{Group, total, group, groupReferences}
 use Rattle.spec.specs.Rules.{dependencies}
@@ -34,34 +34,34 @@ use Rattle.reach.specs.Reach.{namedIn, stepsOf, outerOf, Emptied, depend
 
 -- ---- emptying
 
--- the first k of 256 entries are empty
-pub record Upto (before after : List ℕ) (k : ℕ) : Type 0 where
-  pub emptied : Emptied k before after
-  pub few : k ≤ 256
+-- of the first k entries, i are empty
+pub record Upto (k : ℕ) (before after : List ℕ) (i : ℕ) : Type 0 where
+  pub emptied : Emptied i before after
+  pub few : i ≤ k
 
-pub empty-start : (row : List ℕ) → Upto row row 0
-empty-start row = record { emptied = record { long = refl; none = λ i h. absurd (omega arith); kept = λ i h. refl }; few = omega arith }
+pub empty-start : (k : ℕ) (row : List ℕ) → Upto k row row 0
+empty-start k row = record { emptied = record { long = refl; none = λ j h. absurd (omega arith); kept = λ j h. refl }; few = omega arith }
 
-pub empty-next : {before after : List ℕ} {k : ℕ} → Upto before after k → k < 256 → 256 ≤ length before → Upto before (set after k 255) (k + 1)
-empty-next {before} {after} {k} f h long =
+pub empty-next : {k : ℕ} {before after : List ℕ} {i : ℕ} → Upto k before after i → i < k → k ≤ length before → Upto k before (set after i 255) (i + 1)
+empty-next {k} {before} {after} {i} f h long =
     record {
       emptied = record {
-        long = length-set after k 255 ∙ f .emptied .long;
+        long = length-set after i 255 ∙ f .emptied .long;
         none = low;
-        kept = λ i l. getD-set-other after k i 255 255 (λ e. omega arith) ∙ f .emptied .kept i (omega arith);
+        kept = λ j l. getD-set-other after i j 255 255 (λ e. omega arith) ∙ f .emptied .kept j (omega arith);
       };
       few = omega arith;
     }
   where
-    low : (i : ℕ) → i < k + 1 → getD (set after k 255) i 255 ≡ 255
-    low i l = go (ℕ-discrete i k)
+    low : (j : ℕ) → j < i + 1 → getD (set after i 255) j 255 ≡ 255
+    low j l = go (ℕ-discrete j i)
       where
-        go : Dec (i ≡ k) → getD (set after k 255) i 255 ≡ 255
-        go (yes e) = rw e (getD-set-same after k 255 255 (omega (arith, f .emptied .long)))
-        go (no n) = getD-set-other after k i 255 255 n ∙ f .emptied .none i (omega arith)
+        go : Dec (j ≡ i) → getD (set after i 255) j 255 ≡ 255
+        go (yes e) = rw e (getD-set-same after i 255 255 (omega (arith, f .emptied .long)))
+        go (no n) = getD-set-other after i j 255 255 n ∙ f .emptied .none j (omega arith)
 
-pub empty-end : {before after : List ℕ} {k : ℕ} → Upto before after k → 256 ≤ k → Emptied 256 before after
-empty-end {before} {after} {k} f h = let e : k ≡ 256 = omega (arith, f .few) in subst (λ (j : ℕ). Emptied j before after) e (f .emptied)
+pub empty-end : {k : ℕ} {before after : List ℕ} {i : ℕ} → Upto k before after i → k ≤ i → Emptied k before after
+empty-end {k} {before} {after} {i} f h = let e : i ≡ k = omega (arith, f .few) in subst (λ (j : ℕ). Emptied j before after) e (f .emptied)
 
 -- ---- the seeds: 0 at d, none elsewhere
 
@@ -83,24 +83,25 @@ module _ {before row : List ℕ} {d : ℕ} (f : Emptied 256 before row) (h : d <
       let q : getD (set row d 0) m 255 < 255 = subst (λ (i : ℕ). getD (set row d 0) i 255 < 255) e v in
       inl (ap (λ (i : ℕ). getD (set row d 0) i 255) (e ∙ seed-at m (omega arith) .0 q) ∙ seed-zero)
 
--- ---- the steps are the references
+-- ---- the steps to classes are what the records name
 
-module _ (g : ℕ → Group) (n : ℕ) (few : n ≤ 65535) where
-  steps-in : (m t : ℕ) → t < n → List·Memᴰ t (stepsOf g false m) → List·Memᴰ t (groupReferences (g m))
-  unfolding namedIn groupReferences below namedBy
+module _ (g : ℕ → Group) (n : ℕ) (few : n ≤ 65535) (builds : Bool) where
+  pub steps-in : (m t : ℕ) → t < n → List·Memᴰ t (stepsOf g builds m) → List·Memᴰ t (gather (namedBy builds) (g m))
+  unfolding namedIn below
   steps-in m t h e =
-      let a = gather-mem (λ r. firstNamed false r ∷ secondNamed false r ∷ []) (g m) t e in
+      let a = gather-mem (λ r. firstNamed builds r ∷ secondNamed builds r ∷ []) (g m) t e in
       let p : T (ltb t n) = true-t (lt-ltb t n h) in
-      let k = subst (List·Memᴰ t) (sym (named-below n few (a .source) false)) (mem-keep (λ x. ltb x n) (a .part) p) in
-      mem-gather references (a .member) (keep-mem (λ x. ltb x n) (references (a .source)) t k .0)
+      let k = subst (List·Memᴰ t) (sym (named-below n few (a .source) builds)) (mem-keep (λ x. ltb x n) (a .part) p) in
+      mem-gather (namedBy builds) (a .member) (keep-mem (λ x. ltb x n) (namedBy builds (a .source)) t k .0)
 
-  in-steps : (m t : ℕ) → t < n → List·Memᴰ t (groupReferences (g m)) → List·Memᴰ t (stepsOf g false m)
-  unfolding namedIn groupReferences below namedBy
+  pub in-steps : (m t : ℕ) → t < n → List·Memᴰ t (gather (namedBy builds) (g m)) → List·Memᴰ t (stepsOf g builds m)
+  unfolding namedIn below
   in-steps m t h e =
-      let a = gather-mem references (g m) t e in
+      let a = gather-mem (namedBy builds) (g m) t e in
       let p : T (ltb t n) = true-t (lt-ltb t n h) in
-      let k = subst (List·Memᴰ t) (named-below n few (a .source) false) (mem-keep (λ x. ltb x n) (a .part) p) in
-      mem-gather (λ r. firstNamed false r ∷ secondNamed false r ∷ []) (a .member) (keep-mem (λ x. ltb x n) (firstNamed false (a .source) ∷ secondNamed false (a .source) ∷ []) t k .0)
+      let k = subst (List·Memᴰ t) (named-below n few (a .source) builds) (mem-keep (λ x. ltb x n) (a .part) p) in
+      mem-gather (λ r. firstNamed builds r ∷ secondNamed builds r ∷ []) (a .member)
+      (keep-mem (λ x. ltb x n) (firstNamed builds (a .source) ∷ secondNamed builds (a .source) ∷ []) t k .0)
 
 -- ---- chains
 
@@ -136,7 +137,8 @@ module _ (library user : List ℕ) (ok : formRefusal library user ≡ none) (few
       (l : Least (stepsOf (group library user) false) (outerOf (group library user)) (total library user) 1 (set row d 0) s) where
     -- over the references themselves
     least : Least (stepsIn library user) (outerOf (group library user)) (total library user) 1 (set row d 0) s
-    least = least-steps (steps-in (group library user) (total library user) (omega arith)) (in-steps (group library user) (total library user) (omega arith)) l
+    unfolding groupReferences namedBy
+    least = least-steps (steps-in (group library user) (total library user) (omega arith) false) (in-steps (group library user) (total library user) (omega arith) false) l
 
     marked : (c : ℕ) → c < total library user → getD s c 255 ≡ elim (elem d (dependencies (group library user) c)) as (λ (b : Bool). ℕ) [ true ↦ 0 | false ↦ 255 ]
     unfolding dependencies

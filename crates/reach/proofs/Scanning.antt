@@ -30,6 +30,14 @@ outer-is g m a b = a ∙ b
 
 -- ---- the records of a group
 
+-- a walk stands at a record whose length is one of its kind
+pub walk-sized : {s : List ℕ} {end at : ℕ} → AtRecord s end at → at < end → Sized s at
+unfolding recordAt
+walk-sized {s} {end} {at} p h =
+    let o = walk-on p h in
+    let w : Whole s at = record { left = omega (arith, o, p .tiled .within); four = o .0; ends = omega (arith, o, p .tiled .within) } in
+    record { whole = at-whole w; size = t-true _ (size-here p h) }
+
 named-cons : (builds : Bool) (r : List ℕ) (rs : Group) → namedIn builds (r ∷ rs) ≡ firstNamed builds r ∷ secondNamed builds r ∷ namedIn builds rs
 unfolding namedIn gather
 named-cons builds r rs = refl
@@ -50,13 +58,6 @@ scan-start {library} {user} {nlib} {n} x {m} h builds lanes {marks} row w g es e
     record { place = p .0; visit = visit-start (stepsOf (group library user) builds) (outerOf (group library user)) n lanes m marks row w g _ (ap (namedIn builds) (p .1)) }
 
 module _ {g : ℕ → Group} {builds : Bool} {n lanes m : ℕ} {marks row₀ row s : List ℕ} {end a at : ℕ} (f : ScanAt g builds n lanes m marks row₀ row s end a at) where
-  pub scan-sized : at < end → Sized s at
-  unfolding recordAt
-  scan-sized h =
-      let o = walk-on (f .place) h in
-      let w : Whole s at = record { left = omega (arith, o, f .place .tiled .within); four = o .0; ends = omega (arith, o, f .place .tiled .within) } in
-      record { whole = at-whole w; size = t-true _ (size-here (f .place) h) }
-
   pub scan-next : {row₁ row₂ : List ℕ} {t u l b c x y : ℕ} → at < end → t ≡ firstNamed builds (recordAt s at) → Offered marks n lanes m t (λ j. j < lanes) row row₁ b → Joint a b x
       → length row₁ ≡ length row → u ≡ secondNamed builds (recordAt s at) → Offered marks n lanes m u (λ j. j < lanes) row₁ row₂ c → Joint x c y → length row₂ ≡ length row₁ → l ≡ u16 s at
       → ScanAt g builds n lanes m marks row₀ row₂ s end y (at + l)

@@ -22,7 +22,7 @@ stepsOf g builds m = namedIn builds (g m)
 unfoldable pub outerOf : (ℕ → Group) → ℕ → ℕ
 outerOf g m = encloser (classRecord (g m))
 
--- the first 256 entries of a row are none, the others are kept
+-- the first k entries of a row are none, the others are kept
 pub record Emptied (k : ℕ) (before after : List ℕ) : Type 0 where
   pub long : length after ≡ length before
   pub none : (i : ℕ) → i < k → getD after i 255 ≡ 255

@@ -171,13 +171,13 @@ pub fn close(
     }
 }
 
-// Empties the first 256 entries.
-fn empty(row: &mut [u8])
-    requires { ⌜ 256 ≤ length (now row) ⌝ }
-    ensures { λ r. ⌜ Emptied 256 (now (row .entry)) (now (row .exit)) ⌝ }
+// Empties the first k entries.
+pub fn empty(row: &mut [u8], k: usize)
+    requires { ⌜ k ≤ length (now row) ⌝ }
+    ensures { λ r. ⌜ Emptied k (now (row .entry)) (now (row .exit)) ⌝ }
 {
     let mut i = 0;
-    while i < 256 {
+    while i < k {
         row[i] = 255;
         i += 1;
     }
@@ -201,7 +201,7 @@ pub fn dependents(
     requires { ⌜ (d < n) × (256 ≤ length (now row)) ⌝ }
     ensures { λ r. ⌜ now (row .exit) ≡ dependentRow (now (library .entry)) (spliced (now (user .entry)) (now (group .entry)) cut) d (now (row .entry)) ⌝ }
 {
-    empty(row);
+    empty(row, 256);
     row[d] = 0;
     close(library, user, group, cut, starts, nlib, n, false, 1, row);
 }

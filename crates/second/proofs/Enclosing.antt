@@ -2,18 +2,18 @@
 -- Assumes nothing.
 use mathlib.Core.Path.{_≡_, refl, sym, ap, _∙_}
 use mathlib.Core.Bool.{Bool, true, false}
-use mathlib.Core.List.{List, [], _∷_, _++_, append-nil}
+use mathlib.Core.List.{List, [], _∷_, append-nil}
 use Prim.Native.Nat.{ℕ, zero, suc, _+_, _-_, _≤_, _<_}
 use native.Mathlib.Omega.{arith}
 use lib.Dec.{eqb}
-use lib.ListN.{length-append, List·getD-eq-default}
 use borrow.Author.Tests.{eqb-false, eq-eqb, ne-eqb}
 use Rattle.spec.specs.Lists.{any, keep, gather, elem}
 use Rattle.spec.specs.Record.{u16, encloser, unlessNone}
-use Rattle.spec.specs.Sheet.{groupsOf, classCount, total, group, classRecord, ofKind}
+use Rattle.spec.specs.Sheet.{total, group, classRecord, ofKind}
 use Rattle.spec.specs.Classes.{enclosing, enclosersIn, enclosers}
 use Rattle.theory.proofs.Form.{one-record, group-one-class}
 use Rattle.groups.specs.Groups.{Indexed}
+use Rattle.groups.proofs.Few.{group-past}
 
 -- the walk from c is at class e and may go up `left` times
 pub record Rising (library user : List ℕ) (n c t e left : ℕ) : Type 0 where
@@ -30,15 +30,10 @@ unfolding enclosersIn elem any
 rising-end {library} {user} {t = t} {e} {left} r h = let z : left ≡ 0 = omega arith in sym (ap (λ (k : ℕ). elem t (enclosersIn (group library user) k e)) z) ∙ r .same
 
 -- a class past the last has no group, so no encloser
-past-group : (library user : List ℕ) (d : ℕ) → total library user ≤ d → group library user d ≡ []
-unfolding group total classCount
-past-group library user d h =
-    List·getD-eq-default (groupsOf library ++ groupsOf user) [] {n = d} (omega (arith, length-append (groupsOf library) (groupsOf user)))
-
 past-none : (library user : List ℕ) (d left : ℕ) → total library user ≤ d → enclosersIn (group library user) left d ≡ []
 unfolding enclosersIn enclosing ofKind keep gather
 past-none library user d zero h = refl
-past-none library user d (suc left) h = rw (past-group library user d h)
+past-none library user d (suc left) h = rw (group-past library user d h)
 
 module _ {library user : List ℕ} {nlib n : ℕ} {row : List ℕ} (x : Indexed library user nlib n row) where
   -- one level: the encloser, and its own

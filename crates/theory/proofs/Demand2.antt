@@ -24,7 +24,7 @@ use Rattle.theory.proofs.Falls.{Falls}
 use Rattle.theory.proofs.Slots.{member-is, satisfies-is, Shows, slots-sound, slots-complete}
 use Rattle.theory.proofs.Lowest.{Told, right}
 use Rattle.theory.proofs.Form.{accepted-sound, sound-falls, relations-hold}
-use Rattle.theory.proofs.Faults.{Stands, stands-is, stands-append, stands-only, stands-if, stands-gather, stands-at}
+use Rattle.theory.proofs.Faults.{Stands, stands-is, stands-append, stands-only, stands-if, stands-gather, stands-at, Failing, failing-is}
 
 -- ---- tests and their opposites
 
@@ -183,22 +183,11 @@ module _ (nlib : ℕ) (g : ℕ → Group) (f : Falls g) (rel : Relations nlib g)
       let b = both (not (bit 0 (flags (classRecord (g c))))) (hasMarker g m c) (not-fails (bit 0 (flags (classRecord (g c)))) (own-flag 0)) (has m c h) in
       ((λ t. let q = b .0 t in record { class = q .0; marked = q .1 }), (λ k. b .1 (k .class, k .marked)))
 
-  -- a slot fails a test, and its fault stands at k
-  record Fails (ok : Slot → Bool) (k : ℕ) : Type 0 where
-    slot : Slot
-    member : List·Memᴰ slot (slots nlib g c)
-    fails : T (not (ok slot))
-    place : placeIn c (slotFault slot) ≡ k
+  abbrev Fails : (Slot → Bool) → ℕ → Type 0
+  Fails ok k = Failing nlib g c ok k
 
   fails-is : (ok : Slot → Bool) (k : ℕ) → Stands c (slotFaults nlib g ok c) k ↔ Fails ok k
-  unfolding slotFaults
-  fails-is ok k = (
-    (λ h.
-        let a = Memᴰ·of-map slotFault (keep (λ s. not (ok s)) (slots nlib g c)) (h .member) in
-        let q = keep-mem (λ s. not (ok s)) (slots nlib g c) (a .0) (a .1) in
-        record { slot = a .0; member = q .0; fails = q .1; place = ap (placeIn c) (a .2) ∙ h .place }),
-    (λ h. record { fault = slotFault (h .slot); member = Memᴰ·map slotFault (mem-keep (λ s. not (ok s)) (h .member) (h .fails)); place = h .place }),
-  )
+  fails-is = failing-is nlib g c
 
   -- what a failing slot shows, where the test is one of its shape
   shape-is : (ok : Slot → Bool) (Ok : SlotShape → Type 0) → ((s : Slot) (x : SlotShape) → Shows s x → T (ok s) ↔ Ok x) → (k : ℕ)

@@ -2,14 +2,15 @@
 -- Assumes nothing.
 use mathlib.Core.Path.{_≡_, refl, sym, ap, _∙_, subst}
 use mathlib.Core.Logic.{_⊎_, inl, inr, _↔_}
-use mathlib.Core.Bool.{Bool}
+use mathlib.Core.Bool.{Bool, not}
 use mathlib.Core.List.{List, [], _∷_, _++_, map, List·Memᴰ, List·Memᴰ·head, List·Memᴰ·append-cases, Memᴰ·append-left, Memᴰ·append-right, Memᴰ·map, Memᴰ·of-map, List·Memᴰ·eq-of-singleton}
 use Prim.Native.Nat.{ℕ}
 use native.Mathlib.Nat.{zero-add}
 use lib.Dec.{T}
 use Rattle.spec.specs.Lists.{keep, gather, numbered, onlyIf}
 use Rattle.spec.specs.Sheet.{Group}
-use Rattle.spec.specs.Rules.{Fault, faultIf, faultsAt, placeIn}
+use Rattle.spec.specs.Classes.{Slot, slots}
+use Rattle.spec.specs.Rules.{Fault, slotFault, faultIf, faultsAt, slotFaults, placeIn}
 use Rattle.spec.specs.Relations.{At}
 use Rattle.theory.proofs.Members.{gather-mem, mem-gather, keep-mem, mem-keep, only-mem, mem-only, numbered-at, at-numbered}
 use Rattle.theory.proofs.Slots.{place-own, place-zero}
@@ -89,4 +90,21 @@ stands-at g c bad k = (
         (mem-keep (λ (n : ℕ × List ℕ). bad (n .1)) (subst (λ (n : ℕ). List·Memᴰ (n, h .bytes) (numbered 0 (g c))) (zero-add k) (at-numbered (h .at) 0)) (h .is));
     place = place-own c k;
   }),
+)
+
+-- a slot fails a test, and its fault stands at k
+pub record Failing (nlib : ℕ) (g : ℕ → Group) (c : ℕ) (ok : Slot → Bool) (k : ℕ) : Type 0 where
+  pub slot : Slot
+  pub member : List·Memᴰ slot (slots nlib g c)
+  pub fails : T (not (ok slot))
+  pub place : placeIn c (slotFault slot) ≡ k
+
+pub failing-is : (nlib : ℕ) (g : ℕ → Group) (c : ℕ) (ok : Slot → Bool) (k : ℕ) → Stands c (slotFaults nlib g ok c) k ↔ Failing nlib g c ok k
+unfolding slotFaults
+failing-is nlib g c ok k = (
+  (λ h.
+      let a = Memᴰ·of-map slotFault (keep (λ s. not (ok s)) (slots nlib g c)) (h .member) in
+      let q = keep-mem (λ s. not (ok s)) (slots nlib g c) (a .0) (a .1) in
+      record { slot = a .0; member = q .0; fails = q .1; place = ap (placeIn c) (a .2) ∙ h .place }),
+  (λ h. record { fault = slotFault (h .slot); member = Memᴰ·map slotFault (mem-keep (λ s. not (ok s)) (h .member) (h .fails)); place = h .place }),
 )

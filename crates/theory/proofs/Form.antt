@@ -120,13 +120,13 @@ super-one h o l =
 
 -- ---- a class that is no interface
 
-module _ (nlib n : ℕ) (g : ℕ → Group) (few : n ≤ 256) (some : T (not (eqb nlib 0))) (fits : (c : ℕ) → All (Fits nlib n g c) (g c)) (one : (c : ℕ) → c < n → T (oneClass (g c))) where
-  -- its one superclass is lower and no interface either
-  record Super (c : ℕ) : Type 0 where
-    only : superclasses (g c) ≡ superclass (classRecord (g c)) ∷ []
-    lower : superclass (classRecord (g c)) < c
-    concrete : T (not (isInterface (g (superclass (classRecord (g c))))))
+-- its one superclass is lower and no interface either
+pub record Super (g : ℕ → Group) (c : ℕ) : Type 0 where
+  pub only : superclasses (g c) ≡ superclass (classRecord (g c)) ∷ []
+  pub lower : superclass (classRecord (g c)) < c
+  pub concrete : T (not (isInterface (g (superclass (classRecord (g c))))))
 
+module _ (nlib n : ℕ) (g : ℕ → Group) (few : n ≤ 256) (some : T (not (eqb nlib 0))) (fits : (c : ℕ) → All (Fits nlib n g c) (g c)) (one : (c : ℕ) → c < n → T (oneClass (g c))) where
   based : (c : ℕ) (r : List ℕ) → T (not (eqb c 0 || bit 0 (flags r))) → T (superclassFits g c r) → (superclass r < c) × T (not (isInterface (g (superclass r))))
   unfolding superclassFits
   based c r u t = go (eqb c 0 || bit 0 (flags r)) u t
@@ -144,7 +144,7 @@ module _ (nlib n : ℕ) (g : ℕ → Group) (few : n ≤ 256) (some : T (not (eq
       go (inr t) = t
       go (inl t) = let z : c ≡ 0 = eqb→eq c 0 t in let y : nlib ≡ 0 = omega arith in absurd (T-not (eqb nlib 0) some (eq→eqb y))
 
-  has-super : (c : ℕ) → nlib ≤ c → c < n → T (not (isInterface (g c))) → Super c
+  has-super : (c : ℕ) → nlib ≤ c → c < n → T (not (isInterface (g c))) → Super g c
   unfolding isInterface
   has-super c hl hn hi =
       let o = one c hn in
@@ -158,7 +158,7 @@ module _ (nlib n : ℕ) (g : ℕ → Group) (few : n ≤ 256) (some : T (not (eq
     only : rootIn nlib g m c ≡ found ∷ []
 
   module _ (f : Falls g) where
-    up-one : (m c : ℕ) → nlib ≤ c → (u : Super c) → rootIn nlib g (suc m) c ≡ rootIn nlib g m (superclass (classRecord (g c)))
+    up-one : (m c : ℕ) → nlib ≤ c → (u : Super g c) → rootIn nlib g (suc m) c ≡ rootIn nlib g m (superclass (classRecord (g c)))
     unfolding gather
     up-one m c h u =
         root-more nlib g f m c h ∙ ap (gather (rootIn nlib g m)) (u .only) ∙ append-nil (rootIn nlib g m (superclass (classRecord (g c))))
@@ -242,6 +242,9 @@ module _ (library user : List ℕ) (s : Sound library user) where
       at-member (Fits (classCount library) (total library user) (group library user) c) (group library user c) (s .fits c) (h .member) .local (h .ofKind) in
       subst (λ (k : ℕ). i < k) (sym (locals-length 0 (group library user d)))
       (subst (λ (e : ℕ). i < length (ofKind LOCAL (group library user e))) (h .owner) (subst (λ (j : ℕ). j < length (ofKind LOCAL (group library user (target (h .bytes))))) (h .variable) q))
+
+  pub sound-super : (c : ℕ) → classCount library ≤ c → c < total library user → T (not (isInterface (group library user c))) → Super (group library user) c
+  sound-super = has-super (classCount library) (total library user) (group library user) (s .few) (s .some) (s .fits) (group-one-class library user)
 
   pub sound-form : Form (classCount library) (total library user) (group library user)
   sound-form =

@@ -23,3 +23,5 @@ pub mod Faults
 pub mod New
 pub mod Refused
 pub mod Rows
+pub mod FlatRow
+pub mod Counts

@@ -58,7 +58,7 @@ module _ (nlib : ℕ) (g : ℕ → Group) (f : Falls g) where
   -- ---- superclasses and root
 
   -- one step more at the lower end of a line of superclasses
-  lineage-prepend : {c s t : ℕ} → Superclass (g c) s → nlib ≤ s → Lineage nlib g s t → Lineage nlib g c t
+  pub lineage-prepend : {c s t : ℕ} → Superclass (g c) s → nlib ≤ s → Lineage nlib g s t → Lineage nlib g c t
   lineage-prepend h l self = up self h l
   lineage-prepend h l (up p q k) = up (lineage-prepend h l p) q k
 
@@ -99,7 +99,7 @@ module _ (nlib : ℕ) (g : ℕ → Group) (f : Falls g) where
   -- a walk up the superclasses that ends at the library, as the lineage and the root are found
   module _ (F : ℕ → ℕ → List ℕ) (stop start : ℕ → List ℕ) (at-library : (n c : ℕ) → c < nlib → F (suc n) c ≡ stop c)
       (at-user : (n c : ℕ) → nlib ≤ c → F (suc n) c ≡ start c ++ gather (F n) (superclasses (g c))) where
-    walk-enough : (n m c : ℕ) → c < n → c < m → F n c ≡ F m c
+    pub walk-enough : (n m c : ℕ) → c < n → c < m → F n c ≡ F m c
     walk-enough zero m c h k = absurd (not-suc-le-zero h)
     walk-enough (suc n) zero c h k = absurd (not-suc-le-zero k)
     walk-enough (suc n) (suc m) c h k = go (decide (ltb c nlib)) (λ e q. walk-enough n m e (omega arith) (omega arith))
@@ -121,12 +121,12 @@ module _ (nlib : ℕ) (g : ℕ → Group) (f : Falls g) where
     walk-down x h self m = m
     walk-down x h (up {s} {t} p q k) m = walk-down x h p (walk-step s t x (lineage-user h p) q m)
 
-  lineage-library : (n c : ℕ) → c < nlib → lineageIn nlib g (suc n) c ≡ []
+  pub lineage-library : (n c : ℕ) → c < nlib → lineageIn nlib g (suc n) c ≡ []
   unfolding lineageIn
   lineage-library n c h =
       ap (λ (b : Bool). elim b as (λ (x : Bool). List ℕ) [ true ↦ [] | false ↦ c ∷ gather (lineageIn nlib g n) (superclasses (g c)) ]) (t-true (ltb c nlib) (lt→ltb c nlib h))
 
-  lineage-more : (n c : ℕ) → nlib ≤ c → lineageIn nlib g (suc n) c ≡ c ∷ gather (lineageIn nlib g n) (superclasses (g c))
+  pub lineage-more : (n c : ℕ) → nlib ≤ c → lineageIn nlib g (suc n) c ≡ c ∷ gather (lineageIn nlib g n) (superclasses (g c))
   unfolding lineageIn
   lineage-more n c h =
       ap (λ (b : Bool). elim b as (λ (x : Bool). List ℕ) [ true ↦ [] | false ↦ c ∷ gather (lineageIn nlib g n) (superclasses (g c)) ]) (t-false (ltb c nlib) (nltb c nlib h))

@@ -9,14 +9,14 @@ use Rattle.reach.proofs.empty.Reads as reads
 use Rattle.reach.proofs.empty.Lts as lts
 
 abbrev Inv-loop : tie.InvT-loop
-Inv-loop row₀ i₀ row i = Upto row₀ row i
+Inv-loop row₀ k i₀ row i = Upto k row₀ row i
 
 abbrev μ-loop : tie.MeasureT-loop
-μ-loop row₀ i₀ row i = 256 - i
+μ-loop row₀ k i₀ row i = k - i
 
 -- src/lib.rt:180:5
 loop-holds : tie.Need-loop-holds Inv-loop μ-loop
-loop-holds c = empty-start _
+loop-holds c = empty-start _ _
 
 -- src/lib.rt:181:9
 slice-write-row : tie.Need-slice-write-row Inv-loop μ-loop

@@ -9,7 +9,7 @@ use Rattle.theory.specs.Claims.{sheetOf}
 use Rattle.view.specs.View.{spliced}
 use Rattle.groups.proofs.Walks.{walk-on}
 use Rattle.lanes.proofs.Rows.{zeros}
-use Rattle.reach.proofs.Scanning.{ScanAt, scan-start, scan-sized, scan-next, scan-end}
+use Rattle.reach.proofs.Scanning.{ScanAt, walk-sized, scan-start, scan-next, scan-end}
 use Rattle.reach.proofs.visit.Statement.{statement}
 use Rattle.reach.proofs.visit.Tie as tie
 use Rattle.reach.proofs.visit.Reads as reads
@@ -62,7 +62,7 @@ loop-holds c =
 first-named-requires : tie.Need-first-named-requires Inv-loop μ-loop
 first-named-requires c κs =
     let p = c .before .before .before .before .before .before .before .before .before .before .before .before .before .pre in
-    (p .0, (scan-sized (c .before .loop .inv) (omega arith), omega (arith, c .before .loop .inv .place .small)))
+    (p .0, (walk-sized (c .before .loop .inv .place) (omega arith), omega (arith, c .before .loop .inv .place .small)))
 
 -- src/lib.rt:81:30
 slice-aggregate-draw-lanes : tie.Need-slice-aggregate-draw-lanes Inv-loop μ-loop
@@ -83,7 +83,7 @@ either-requires c κs = search needs
 second-named-requires : tie.Need-second-named-requires Inv-loop μ-loop
 second-named-requires c κs =
     let p = c .before .before .before .before .before .before .before .before .before .before .before .before .before .before .before .before .before .before .before .before .pre in
-    (p .0, (scan-sized (c .before .before .before .before .before .before .before .before .loop .inv) (omega arith), omega (arith, c .before .before .before .before .before .before .before .before .loop .inv .place .small)))
+    (p .0, (walk-sized (c .before .before .before .before .before .before .before .before .loop .inv .place) (omega arith), omega (arith, c .before .before .before .before .before .before .before .before .loop .inv .place .small)))
 
 -- src/lib.rt:84:31
 slice-aggregate-draw-lanes-2 : tie.Need-slice-aggregate-draw-lanes-2 Inv-loop μ-loop

@@ -1,0 +1,40 @@
+-- A class has few records, and past the last class there are none.
+-- Assumes nothing.
+use mathlib.Core.Path.{_≡_, refl}
+use mathlib.Core.Bool.{Bool, true, false}
+use mathlib.Core.List.{List, [], _∷_, _++_}
+use Prim.Native.Nat.{ℕ, suc, _+_, _≤_}
+use native.Mathlib.Omega.{arith}
+use lib.ListN.{length, length-append, List·getD-eq-default}
+use Rattle.spec.specs.Record.{kind, isClass}
+use Rattle.spec.specs.Sheet.{Group, Split, recordsOf, splitGroups, groupsOf, classCount, total, group, locate, locatedIn}
+use Rattle.theory.proofs.All.{All, all-append, all-get}
+use Rattle.theory.proofs.Cut.{split-class, split-other}
+use Rattle.theory.proofs.Accept.{Passed, locateIf}
+use Rattle.groups.specs.Groups.{Indexed}
+
+-- after k records of the open group
+record Few (k : ℕ) (t : Split) : Type 0 where
+  loose : k + length (t .loose) ≤ 255
+  groups : All (λ g. length g ≤ 255) (t .groups)
+
+few : (s at n k p : ℕ) (rs : List (List ℕ)) → k ≤ 255 → All Passed (locate s at n k p rs) → Few k (splitGroups rs)
+unfolding locate locateIf
+few s at n k p [] b h = unfold splitGroups in record { loose = omega arith; groups = tt }
+few s at n k p (r ∷ rs) b h = go (isClass r) refl h (few s (at + length r) (suc n) 1 (kind r) rs (omega arith)) (few s (at + length r) n (suc k) (kind r) rs)
+  where
+    go : (b : Bool) → isClass r ≡ b → All Passed (locateIf s at n k p r rs b) → (All Passed (locate s (at + length r) (suc n) 1 (kind r) rs) → Few 1 (splitGroups rs))
+        → (suc k ≤ 255 → All Passed (locate s (at + length r) n (suc k) (kind r) rs) → Few (suc k) (splitGroups rs)) → Few k (splitGroups (r ∷ rs))
+    go true e h f f′ = let t = f (h .1) in rw (split-class r rs e) (record { loose = omega arith; groups = (omega (arith, t .loose), t .groups) })
+    go false e h f f′ = let t = f′ (omega (arith, h .0 .recordNumber)) (h .1) in rw (split-other r rs e) (record { loose = omega (arith, t .loose); groups = t .groups })
+
+pub group-few : {library user : List ℕ} {nlib n : ℕ} {row : List ℕ} → Indexed library user nlib n row → (c : ℕ) → length (group library user c) ≤ 255
+unfolding group groupsOf locatedIn
+group-few {library} {user} x c =
+    let a = few 0 0 0 0 0 (recordsOf library) (omega arith) (x .library-clear .passed) in
+    let b = few 1 0 (classCount library) 0 0 (recordsOf user) (omega arith) (x .user-clear .passed) in
+    all-get {A = Group} (λ g. length g ≤ 255) [] (groupsOf library ++ groupsOf user) (all-append (λ g. length g ≤ 255) (groupsOf library) (groupsOf user) (a .groups) (b .groups)) (omega arith) c
+
+pub group-past : (library user : List ℕ) (c : ℕ) → total library user ≤ c → group library user c ≡ []
+unfolding group total classCount
+group-past library user c h = List·getD-eq-default (groupsOf library ++ groupsOf user) [] (omega (arith, length-append (groupsOf library) (groupsOf user)))

@@ -1,0 +1,101 @@
+-- A class that is not there has no markers; the row of all overlay sets as it is filled; and the markers of a type.
+-- Assumes nothing.
+use mathlib.Core.Path.{_≡_, refl, sym, ap, _∙_, subst}
+use mathlib.Core.Logic.{_⊎_, inl, inr}
+use mathlib.Core.Bool.{Bool, true, false, not, _&&_}
+use mathlib.Core.List.{List, [], _∷_, map}
+use Prim.Native.Nat.{ℕ, _+_, _≤_, _<_}
+use native.Mathlib.Nat.{zero-add}
+use native.Mathlib.Decide.{ℕ-discrete}
+use native.Mathlib.Omega.{arith}
+use lib.Dec.{T, eqb, ltb, ltb→lt, nltb→le}
+use lib.ListN.{length, getD, set, length-set, List·getD-eq-default}
+use lib.Seq.{getD-set-same, getD-set-other}
+use borrow.Author.Tests.{eq-eqb, ne-eqb}
+use Rattle.spec.specs.Lists.{all, keep, gather, span}
+use Rattle.spec.specs.Record.{u8, u16, bit, ownMarkers, Ty, tyAt, tyReferences}
+use Rattle.spec.specs.Sheet.{Group, group, classRecord, ofKind}
+use Rattle.spec.specs.Markers.{union, unionAll, closures, closure}
+use Rattle.spec.specs.Classes.{superclasses, targets, supertypes, gathered, overlay, hasMarker, satisfies}
+use Rattle.theory.proofs.Bools.{decide, t-true, t-false}
+use Rattle.theory.proofs.All.{all-span}
+use Rattle.theory.proofs.Closure.{bit-zero}
+use Rattle.groups.specs.Groups.{Indexed}
+use Rattle.groups.proofs.Few.{group-past}
+use Rattle.overlay.specs.Memo.{Right}
+use Rattle.overlay.specs.Types.{Known, typeMarkers}
+use Rattle.overlay.proofs.Unions.{union-zero}
+
+-- ---- a class that is not there
+
+pub empty-overlay : (g : ℕ → Group) (c : ℕ) → g c ≡ [] → overlay g c ≡ 0
+unfolding overlay gathered ownMarkers u8 classRecord supertypes superclasses targets ofKind keep gather unionAll closure closures
+empty-overlay g c e =
+    ap (λ (h : Group). closure (union (ownMarkers (classRecord h)) (unionAll (map (gathered g c) (supertypes h))))) e ∙ ap closure (union-zero 0)
+
+pub overlay-past : {library user : List ℕ} {nlib n : ℕ} {row : List ℕ} → Indexed library user nlib n row → (c : ℕ) → n ≤ c → overlay (group library user) c ≡ 0
+overlay-past {library} {user} x c h = empty-overlay (group library user) c (group-past library user c (omega (arith, x .n-is)))
+
+-- ---- the row of overlay sets
+
+-- the entries below c are right, and the memo is
+pub record Filling (g : ℕ → Group) (memo row : List ℕ) (c : ℕ) : Type 0 where
+  pub long : length row ≡ 256
+  pub is : (i : ℕ) → i < c → getD row i 0 ≡ overlay g i
+  pub right : Right g memo
+
+pub fill-start : {g : ℕ → Group} {memo row : List ℕ} → Right g memo → length row ≡ 256 → Filling g memo row 0
+fill-start r l = record { long = l; is = λ i h. absurd (omega arith); right = r }
+
+pub fill-next : {g : ℕ → Group} {memo row : List ℕ} {c : ℕ} → Filling g memo row c → c < 256 → {v : ℕ} → v ≡ overlay g c → {memo′ : List ℕ} → Right g memo′ → Filling g memo′ (set row c v) (c + 1)
+fill-next {g} {row = row} {c} f h {v} e r = record { long = length-set row c v ∙ f .long; is = λ i k. go i k (ℕ-discrete i c); right = r }
+  where
+    go : (i : ℕ) → i < c + 1 → Dec (i ≡ c) → getD (set row c v) i 0 ≡ overlay g i
+    go i k (yes q) = subst (λ (j : ℕ). getD (set row c v) j 0 ≡ overlay g j) (sym q) (getD-set-same row c v 0 (omega (arith, f .long)) ∙ e)
+    go i k (no n) = getD-set-other row c i v 0 n ∙ f .is i (omega arith)
+
+-- past the row there is no class
+pub fill-end : {library user : List ℕ} {nlib n : ℕ} {starts : List ℕ} → Indexed library user nlib n starts → {memo row : List ℕ} {c : ℕ} → Filling (group library user) memo row c → 256 ≤ c
+    → Known (group library user) row
+fill-end {library} {user} x {row = row} {c} f h = record { long = f .long; is = λ i. go i (decide (ltb i c)) }
+  where
+    go : (i : ℕ) → T (ltb i c) ⊎ T (not (ltb i c)) → getD row i 0 ≡ overlay (group library user) i
+    go i (inl t) = f .is i (ltb→lt i c t)
+    go i (inr t) =
+        let k : c ≤ i = nltb→le i c t in
+        List·getD-eq-default row 0 (omega (arith, f .long)) ∙ sym (overlay-past x i (omega (arith, x .few)))
+
+-- ---- the markers of a type
+
+module _ (g : ℕ → Group) (s : List ℕ) (i : ℕ) where
+  pub type-array : {d : ℕ} → d ≡ getD s i 0 → (d ≡ 0 → ⊥) → 0 ≡ typeMarkers g (tyAt s i)
+  unfolding typeMarkers tyAt u8
+  type-array ed n = rw (ne-eqb (getD s i 0) 0 (λ q. n (ed ∙ q)), typeMarkers)
+
+  pub type-primitive : {d p : ℕ} → d ≡ getD s i 0 → d ≡ 0 → p ≡ getD s (i + 1) 0 → (p ≡ 0 → ⊥) → 255 ≡ typeMarkers g (tyAt s i)
+  unfolding typeMarkers tyAt u8
+  type-primitive ed z ep n = rw (eq-eqb (getD s i 0) 0 (sym ed ∙ z), ne-eqb (getD s (i + 1) 0) 0 (λ q. n (ep ∙ q)), typeMarkers)
+
+  pub type-class : {d p : ℕ} → d ≡ getD s i 0 → d ≡ 0 → p ≡ getD s (i + 1) 0 → p ≡ 0 → {row : List ℕ} → Known g row → {c m : ℕ} → c ≡ u16 s (i + 2) → m ≡ getD row c 0 → m ≡ typeMarkers g (tyAt s i)
+  unfolding typeMarkers tyAt u8
+  type-class ed z ep y k {c} ec em = rw (eq-eqb (getD s i 0) 0 (sym ed ∙ z), eq-eqb (getD s (i + 1) 0) 0 (sym ep ∙ y), typeMarkers) (em ∙ k .is c ∙ ap (overlay g) ec)
+
+-- ---- a type satisfies the markers that it has
+
+bit-all : (k : ℕ) → k < 8 → bit k 255 ≡ true
+unfolding all span bit
+bit-all k h = subst (λ (i : ℕ). bit i 255 ≡ true) (zero-add k) (t-true (bit (0 + k) 255) (all-span (λ i. bit i 255) 0 8 tt k h))
+
+and-true : (b : Bool) → (b && true) ≡ b
+and-true true = refl
+and-true false = refl
+
+pub satisfies-bit : (g : ℕ → Group) (k : ℕ) (t : Ty) → k < 8 → satisfies g k t ≡ bit k (typeMarkers g t)
+unfolding satisfies typeMarkers tyReferences all hasMarker
+satisfies-bit g k t h = go (eqb (t .dims) 0) (eqb (t .code) 0)
+  where
+    go : (a b : Bool) → (a && all (hasMarker g k) (elim b as (λ (y : Bool). List ℕ) [ true ↦ t .class ∷ [] | false ↦ [] ]))
+        ≡ bit k (elim a as (λ (y : Bool). ℕ) [ true ↦ elim b as (λ (y : Bool). ℕ) [ true ↦ overlay g (t .class) | false ↦ 255 ] | false ↦ 0 ])
+    go true true = and-true (bit k (overlay g (t .class)))
+    go true false = sym (bit-all k h)
+    go false b = sym (t-false (bit k 0) (bit-zero k))

@@ -1,0 +1,23 @@
+-- A class that is not there has an empty group, and so no markers.
+-- Assumes nothing.
+use mathlib.Core.Path.{sym}
+use native.Mathlib.Omega.{arith}
+use Rattle.overlay.proofs.Types.{overlay-past}
+use borrow.Author.Needs.{needs}
+use Rattle.overlay.proofs.overlay_or_none.Statement.{statement}
+use Rattle.overlay.proofs.overlay_or_none.Tie as tie
+
+returns : tie.Need-returns
+returns c = let p = c .before .before .before .before .before .before .pre .1 in (sym (overlay-past (p .0) _ (c .if1 .taken)), p .1 .1)
+
+overlay-requires : tie.Need-overlay-requires
+overlay-requires c κs = let p = c .before .before .before .before .before .before .before .pre in (p .0, (p .1 .0, (p .1 .1 .0, (omega arith, p .1 .1 .1))))
+
+same-length : tie.Need-same-length
+same-length c = search needs
+
+returns-2 : tie.Need-returns-2
+returns-2 c = search needs
+
+pub overlay-or-none-spec : {M : Type 1} → statement M
+overlay-or-none-spec = tie.close (tie.spec returns overlay-requires same-length returns-2)
