@@ -24,6 +24,7 @@ use Rattle.theory.proofs.Groups.{builds-reference}
 use Rattle.theory.proofs.Accept.{Fits, Sound, form-fits}
 use Rattle.theory.proofs.Form.{one-record, group-one-class, sound-falls, sound-there, sound-bound, sound-variables}
 use Rattle.theory.proofs.Capture.{captured-is}
+use Rattle.groups.proofs.Few.{indexed-sound}
 use Rattle.groups.specs.Groups.{Indexed}
 use Rattle.named.specs.Named.{namedBy}
 use Rattle.lanes.specs.Lanes.{Inside, direct, deeper, Draws, own, via, entryAt, SeedsFit, Least}
@@ -92,14 +93,7 @@ module _ {library user : List ℕ} {nlib n : ℕ} {starts : List ℕ} (x : Index
 
   -- both sheets are accepted
   accepted : Sound library user
-  accepted =
-      record {
-        librarySheet = x .library-clear;
-        userSheet = x .user-clear;
-        some = not-T (eqb (classCount library) 0) (λ t. let e = eqb→eq (classCount library) 0 t in omega (arith, x .some, x .nlib-is));
-        fits = form-fits library user ok;
-        few = omega (arith, x .few, x .n-is);
-      }
+  accepted = indexed-sound x ok
 
   abbrev fit-of : {c : ℕ} {r : List ℕ} → List·Memᴰ r (g c) → Fits (classCount library) (total library user) g c r
   fit-of {c} m = at-member (Fits (classCount library) (total library user) g c) (g c) (accepted .fits c) m

@@ -30,10 +30,9 @@ use Rattle.groups.proofs.Nth.{Stands, nth-record}
 use Rattle.overlay.specs.Types.{typeMarkers}
 use Rattle.overlay.proofs.Types.{satisfies-bit}
 use Rattle.second.specs.Second.{Sized}
-use Rattle.second.proofs.Positions.{whole, target-at, index-at, local-type-at, at-low}
+use Rattle.second.proofs.Positions.{whole, target-at, index-at, local-type-at, at-low, walk-sized}
 use Rattle.lanes.specs.Lanes.{Inside, Enclosers, entryAt, Other, SeedsFit, Least}
 use Rattle.reach.specs.Reach.{stepsOf, outerOf, Emptied}
-use Rattle.reach.proofs.Scanning.{walk-sized}
 use Rattle.captured.specs.Captured.{laneMarker, Captured}
 use Rattle.captured.specs.Seeds.{Lowering, InLane, InLanes, OfRecord, Wanted, ByRecords, ByClasses}
 use Rattle.captured.proofs.Meaning.{seeds-fit, shown}

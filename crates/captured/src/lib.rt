@@ -5,10 +5,10 @@ use groups::nth_of;
 use groups::sheet_of;
 use groups::word_of;
 use lanes::entry;
+use lanes::fill;
 use markers::has;
 use overlay::type_markers;
 use reach::close;
-use reach::empty;
 use reach::enclosers;
 use view::Cut;
 ghost use mathlib.Core.Path.{_≡_};
@@ -224,7 +224,7 @@ pub fn captures(
     requires { ⌜ 768 ≤ length (now row) ⌝ }
     ensures { λ r. ⌜ Captured (groupOf (now (library .entry)) (spliced (now (user .entry)) (now (group .entry)) cut)) n (now (row .entry)) (now (row .exit)) ⌝ }
 {
-    empty(row, 768);
+    fill(row, 768, 255);
     seed(library, user, group, cut, starts, nlib, n, markers, row);
     close(library, user, group, cut, starts, nlib, n, true, 3, row);
 }

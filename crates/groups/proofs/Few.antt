@@ -1,16 +1,20 @@
--- A class has few records, and past the last class there are none.
+-- A class has few records, past the last class there are none; and what the second pass adds.
 -- Assumes nothing.
 use mathlib.Core.Path.{_≡_, refl}
 use mathlib.Core.Bool.{Bool, true, false}
 use mathlib.Core.List.{List, [], _∷_, _++_}
+use mathlib.Core.Option.{none}
 use Prim.Native.Nat.{ℕ, suc, _+_, _≤_}
 use native.Mathlib.Omega.{arith}
 use lib.ListN.{length, length-append, List·getD-eq-default}
+use borrow.Author.Tests.{ne-eqb}
 use Rattle.spec.specs.Record.{kind, isClass}
 use Rattle.spec.specs.Sheet.{Group, Split, recordsOf, splitGroups, groupsOf, classCount, total, group, locate, locatedIn}
+use Rattle.spec.specs.Refusals.{formRefusal}
+use Rattle.theory.proofs.Bools.{false-t}
 use Rattle.theory.proofs.All.{All, all-append, all-get}
 use Rattle.theory.proofs.Cut.{split-class, split-other}
-use Rattle.theory.proofs.Accept.{Passed, locateIf}
+use Rattle.theory.proofs.Accept.{Passed, locateIf, Sound, form-fits}
 use Rattle.groups.specs.Groups.{Indexed}
 
 -- after k records of the open group
@@ -38,3 +42,18 @@ group-few {library} {user} x c =
 pub group-past : (library user : List ℕ) (c : ℕ) → total library user ≤ c → group library user c ≡ []
 unfolding group total classCount
 group-past library user c h = List·getD-eq-default (groupsOf library ++ groupsOf user) [] (omega (arith, length-append (groupsOf library) (groupsOf user)))
+
+-- the library's classes come first
+pub classes-ordered : {library user : List ℕ} {nlib n : ℕ} {row : List ℕ} → Indexed library user nlib n row → nlib ≤ n
+unfolding total
+classes-ordered x = omega (arith, x .nlib-is, x .n-is)
+
+-- both sheets passed both passes
+pub indexed-sound : {library user : List ℕ} {nlib n : ℕ} {row : List ℕ} → Indexed library user nlib n row → formRefusal library user ≡ none → Sound library user
+indexed-sound {library} {user} x e = record {
+  librarySheet = x .library-clear;
+  userSheet = x .user-clear;
+  some = false-t (ne-eqb (classCount library) 0 (λ z. omega (arith, x .some, x .nlib-is)));
+  fits = form-fits library user e;
+  few = omega (arith, x .n-is, x .few);
+}

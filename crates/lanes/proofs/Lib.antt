@@ -7,3 +7,4 @@ pub mod Drawing
 pub mod Visiting
 pub mod Sweeping
 pub mod Closing
+pub mod Filling

@@ -1,13 +1,26 @@
 // Rows of owners, 256 entries a lane, and how a class draws an owner from one other class. Dependents and captured variables are both found so.
 ghost use mathlib.Core.Path.{_≡_};
 ghost use Prim.Native.Nat.{_*_, _≤_, _<_};
-ghost use lib.ListN.{length, getD};
+ghost use mathlib.Core.List.{_++_};
+ghost use lib.ListN.{length, getD, drop, replicate};
 ghost use Rattle.lanes.specs.Lanes.{Joint, fitsRow, Offered, placeOf};
 
 fn wide(x: u8) -> usize
     ensures { λ r. ⌜ (r ≡ x) × (r < 256) ⌝ }
 {
     x as usize
+}
+
+// Fills the first k entries.
+pub fn fill(row: &mut [u8], k: usize, x: u8)
+    requires { ⌜ k ≤ length (now row) ⌝ }
+    ensures { λ r. ⌜ now (row .exit) ≡ replicate k x ++ drop k (now (row .entry)) ⌝ }
+{
+    let mut i = 0;
+    while i < k {
+        row[i] = x;
+        i += 1;
+    }
 }
 
 // The entry at i; past the end there is no owner.

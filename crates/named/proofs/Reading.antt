@@ -8,14 +8,13 @@ use native.Mathlib.Decide.{ℕ-discrete}
 use native.Mathlib.Omega.{arith}
 use lib.ListN.{getD}
 use borrow.Author.Tests.{eq-eqb, ne-eqb}
-use Rattle.spec.specs.Record.{u8, u16, kind, isKind, none16, CLASS, IMPLEMENTS, FIELD, LOCAL, USES, BUILDS, MEMBER, REFERS, target, tyAt}
+use Rattle.spec.specs.Record.{u8, u16, kind, none16, CLASS, IMPLEMENTS, FIELD, LOCAL, USES, BUILDS, MEMBER, REFERS, target, tyAt}
 use Rattle.theory.proofs.Bools.{eq→eqb}
 use Rattle.theory.proofs.References.{by-kind}
 use Rattle.pass.specs.Pass.{recordAt}
 use Rattle.pass.proofs.Tables.{shortest}
-use Rattle.pass.proofs.Whole.{kind-here}
 use Rattle.second.specs.Second.{Sized}
-use Rattle.second.proofs.Positions.{whole, last-kind, superclass-at, encloser-at, target-at, field-type-at, local-type-at}
+use Rattle.second.proofs.Positions.{kind-is, kind-not, last-kind, superclass-at, encloser-at, target-at, field-type-at, local-type-at}
 use Rattle.named.specs.Named.{typeNamed, firstOfAll, firstNamed, secondNamed}
 
 -- ---- a type
@@ -32,35 +31,29 @@ module _ (s : List ℕ) (i : ℕ) where
 -- ---- a record
 
 module _ {s : List ℕ} {at : ℕ} (z : Sized s at) {k : ℕ} (ek : k ≡ u16 s (at + 2)) where
-  is-kind : (m : ℕ) → k ≡ m → kind (recordAt s at) ≡ m
-  is-kind m e = kind-here (whole z) ∙ sym ek ∙ e
-
-  is-not : (m : ℕ) → (k ≡ m → ⊥) → isKind m (recordAt s at) ≡ false
-  is-not m n = ne-eqb _ _ (λ q. n (ek ∙ sym (kind-here (whole z)) ∙ q))
-
   pub builds-class : k ≡ BUILDS → {x : ℕ} → x ≡ u16 s (at + 4) → x ≡ firstNamed true (recordAt s at)
   unfolding firstNamed
-  builds-class e ex = rw (eq-eqb (kind (recordAt s at)) BUILDS (is-kind BUILDS e), firstNamed) (ex ∙ sym (target-at z BUILDS (is-kind BUILDS e) (omega arith)))
+  builds-class e ex = rw (eq-eqb (kind (recordAt s at)) BUILDS (kind-is z ek e), firstNamed) (ex ∙ sym (target-at z BUILDS (kind-is z ek e) (omega arith)))
 
   pub builds-none : (k ≡ BUILDS → ⊥) → 65535 ≡ firstNamed true (recordAt s at)
   unfolding firstNamed
-  builds-none n = rw (is-not BUILDS n, firstNamed)
+  builds-none n = rw (kind-not z ek BUILDS n, firstNamed)
 
   pub first-class : k ≡ CLASS → {x : ℕ} → x ≡ u16 s (at + 8) → x ≡ firstNamed false (recordAt s at)
   unfolding firstNamed firstOfAll
-  first-class e ex = ex ∙ sym (superclass-at z (is-kind CLASS e)) ∙ sym (by-kind (recordAt s at) none16 _ CLASS (eq→eqb (is-kind CLASS e)))
+  first-class e ex = ex ∙ sym (superclass-at z (kind-is z ek e)) ∙ sym (by-kind (recordAt s at) none16 _ CLASS (eq→eqb (kind-is z ek e)))
 
   pub first-field : k ≡ FIELD → {x : ℕ} → x ≡ typeNamed (tyAt s (at + 6)) → x ≡ firstNamed false (recordAt s at)
   unfolding firstNamed firstOfAll
-  first-field e ex = ex ∙ ap typeNamed (sym (field-type-at z (is-kind FIELD e))) ∙ sym (by-kind (recordAt s at) none16 _ FIELD (eq→eqb (is-kind FIELD e)))
+  first-field e ex = ex ∙ ap typeNamed (sym (field-type-at z (kind-is z ek e))) ∙ sym (by-kind (recordAt s at) none16 _ FIELD (eq→eqb (kind-is z ek e)))
 
   pub first-local : k ≡ LOCAL → {x : ℕ} → x ≡ typeNamed (tyAt s (at + 4)) → x ≡ firstNamed false (recordAt s at)
   unfolding firstNamed firstOfAll
-  first-local e ex = ex ∙ ap typeNamed (sym (local-type-at z (is-kind LOCAL e))) ∙ sym (by-kind (recordAt s at) none16 _ LOCAL (eq→eqb (is-kind LOCAL e)))
+  first-local e ex = ex ∙ ap typeNamed (sym (local-type-at z (kind-is z ek e))) ∙ sym (by-kind (recordAt s at) none16 _ LOCAL (eq→eqb (kind-is z ek e)))
 
   pub first-member : k ≡ MEMBER → 65535 ≡ firstNamed false (recordAt s at)
   unfolding firstNamed firstOfAll
-  first-member e = sym (by-kind (recordAt s at) none16 _ MEMBER (eq→eqb (is-kind MEMBER e)))
+  first-member e = sym (by-kind (recordAt s at) none16 _ MEMBER (eq→eqb (kind-is z ek e)))
 
   -- the four kinds that name one class after their kind
   pub first-target : (k ≡ CLASS → ⊥) → (k ≡ FIELD → ⊥) → (k ≡ LOCAL → ⊥) → (k ≡ MEMBER → ⊥) → {x : ℕ} → x ≡ u16 s (at + 4) → x ≡ firstNamed false (recordAt s at)
@@ -71,16 +64,16 @@ module _ {s : List ℕ} {at : ℕ} (z : Sized s at) {k : ℕ} (ek : k ≡ u16 s 
       named m e h q = ex ∙ sym (target-at z m e h) ∙ q
 
       go : Dec (k ≡ IMPLEMENTS) → Dec (k ≡ USES) → Dec (k ≡ REFERS) → x ≡ firstOfAll (recordAt s at)
-      go (yes e) u r = named IMPLEMENTS (is-kind IMPLEMENTS e) (omega arith) (sym (by-kind (recordAt s at) none16 _ IMPLEMENTS (eq→eqb (is-kind IMPLEMENTS e))))
-      go (no n2) (yes e) r = named USES (is-kind USES e) (omega arith) (sym (by-kind (recordAt s at) none16 _ USES (eq→eqb (is-kind USES e))))
-      go (no n2) (no n5) (yes e) = named REFERS (is-kind REFERS e) (omega arith) (sym (by-kind (recordAt s at) none16 _ REFERS (eq→eqb (is-kind REFERS e))))
+      go (yes e) u r = named IMPLEMENTS (kind-is z ek e) (omega arith) (sym (by-kind (recordAt s at) none16 _ IMPLEMENTS (eq→eqb (kind-is z ek e))))
+      go (no n2) (yes e) r = named USES (kind-is z ek e) (omega arith) (sym (by-kind (recordAt s at) none16 _ USES (eq→eqb (kind-is z ek e))))
+      go (no n2) (no n5) (yes e) = named REFERS (kind-is z ek e) (omega arith) (sym (by-kind (recordAt s at) none16 _ REFERS (eq→eqb (kind-is z ek e))))
       go (no n2) (no n5) (no n8) =
           let b = last-kind z ek n1 n2 n3 n4 n5 n7 n8 in named BUILDS b (omega arith) (sym (by-kind (recordAt s at) none16 _ BUILDS (eq→eqb b)))
 
   pub second-class : k ≡ CLASS → {x : ℕ} → x ≡ u16 s (at + 10) → x ≡ secondNamed false (recordAt s at)
   unfolding secondNamed
-  second-class e ex = rw (eq-eqb (kind (recordAt s at)) CLASS (is-kind CLASS e), secondNamed) (ex ∙ sym (encloser-at z (is-kind CLASS e)))
+  second-class e ex = rw (eq-eqb (kind (recordAt s at)) CLASS (kind-is z ek e), secondNamed) (ex ∙ sym (encloser-at z (kind-is z ek e)))
 
   pub second-none : (k ≡ CLASS → ⊥) → 65535 ≡ secondNamed false (recordAt s at)
   unfolding secondNamed
-  second-none n = rw (is-not CLASS n, secondNamed)
+  second-none n = rw (kind-not z ek CLASS n, secondNamed)

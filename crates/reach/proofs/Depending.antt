@@ -9,7 +9,7 @@ use Prim.Native.Nat.{ℕ, _+_, _*_, _-_, _≤_, _<_}
 use native.Mathlib.Decide.{ℕ-discrete}
 use native.Mathlib.Omega.{arith}
 use lib.Dec.{T, ltb}
-use lib.ListN.{length, getD, set, drop, length-set, length-append, length-drop, List·getD-append}
+use lib.ListN.{length, getD, set, drop, replicate, length-set, length-append, length-drop, List·getD-append}
 use lib.Seq.{getD-set-same, getD-set-other, getD-append-add, getD-drop, ext-getD}
 use borrow.Author.Tests.{lt-ltb, ltb-true, ltb-false}
 use Rattle.spec.specs.Lists.{gather, elem, span, reach}
@@ -30,38 +30,13 @@ use Rattle.named.specs.Named.{firstNamed, secondNamed, namedBy}
 use Rattle.named.proofs.Meaning.{below, named-below}
 use Rattle.lanes.specs.Lanes.{Draws, own, via, entryAt, Other, SeedsFit, Least}
 use Rattle.lanes.proofs.Chains.{least-steps}
+use Rattle.lanes.proofs.Filling.{filled-long, filled-new, filled-kept}
 use Rattle.reach.specs.Reach.{namedIn, stepsOf, outerOf, Emptied, dependentRow}
 
 -- ---- emptying
 
--- of the first k entries, i are empty
-pub record Upto (k : ℕ) (before after : List ℕ) (i : ℕ) : Type 0 where
-  pub emptied : Emptied i before after
-  pub few : i ≤ k
-
-pub empty-start : (k : ℕ) (row : List ℕ) → Upto k row row 0
-empty-start k row = record { emptied = record { long = refl; none = λ j h. absurd (omega arith); kept = λ j h. refl }; few = omega arith }
-
-pub empty-next : {k : ℕ} {before after : List ℕ} {i : ℕ} → Upto k before after i → i < k → k ≤ length before → Upto k before (set after i 255) (i + 1)
-empty-next {k} {before} {after} {i} f h long =
-    record {
-      emptied = record {
-        long = length-set after i 255 ∙ f .emptied .long;
-        none = low;
-        kept = λ j l. getD-set-other after i j 255 255 (λ e. omega arith) ∙ f .emptied .kept j (omega arith);
-      };
-      few = omega arith;
-    }
-  where
-    low : (j : ℕ) → j < i + 1 → getD (set after i 255) j 255 ≡ 255
-    low j l = go (ℕ-discrete j i)
-      where
-        go : Dec (j ≡ i) → getD (set after i 255) j 255 ≡ 255
-        go (yes e) = rw e (getD-set-same after i 255 255 (omega (arith, f .emptied .long)))
-        go (no n) = getD-set-other after i j 255 255 n ∙ f .emptied .none j (omega arith)
-
-pub empty-end : {k : ℕ} {before after : List ℕ} {i : ℕ} → Upto k before after i → k ≤ i → Emptied k before after
-empty-end {k} {before} {after} {i} f h = let e : i ≡ k = omega (arith, f .few) in subst (λ (j : ℕ). Emptied j before after) e (f .emptied)
+pub emptied : {k : ℕ} (before : List ℕ) {row : List ℕ} → k ≤ length before → row ≡ replicate k 255 ++ drop k before → Emptied k before row
+emptied {k} before h e = rw e (record { long = filled-long k 255 before h; none = filled-new k 255 before h 255; kept = filled-kept k 255 before h 255 })
 
 -- ---- the seeds: 0 at d, none elsewhere
 

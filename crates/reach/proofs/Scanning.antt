@@ -4,18 +4,15 @@ use mathlib.Core.Path.{_≡_, refl, ap, _∙_}
 use mathlib.Core.Bool.{Bool}
 use mathlib.Core.List.{List, [], _∷_}
 use Prim.Native.Nat.{ℕ, _+_, _≤_, _<_}
-use native.Mathlib.Omega.{arith}
 use lib.ListN.{length}
 use Rattle.spec.specs.Lists.{gather}
 use Rattle.spec.specs.Record.{u16, encloser}
 use Rattle.spec.specs.Sheet.{Group, group, classRecord}
 use Rattle.theory.specs.Claims.{sheetOf}
-use Rattle.theory.proofs.Bools.{t-true}
 use Rattle.pass.specs.Pass.{recordAt}
-use Rattle.pass.proofs.Whole.{Whole, at-whole}
 use Rattle.groups.specs.Groups.{sheetNumber, startOf, endOf, between, Indexed}
 use Rattle.groups.proofs.Between.{tiled-end}
-use Rattle.groups.proofs.Walks.{AtRecord, walk-start, walk-on, walk-here, size-here, walk-next}
+use Rattle.groups.proofs.Walks.{AtRecord, walk-start, walk-here, walk-next}
 use Rattle.second.specs.Second.{Sized}
 use Rattle.named.specs.Named.{firstNamed, secondNamed}
 use Rattle.lanes.specs.Lanes.{Run, SettledAt, Enclosers, Joint, Offered}
@@ -29,14 +26,6 @@ unfolding outerOf encloser
 outer-is g m a b = a ∙ b
 
 -- ---- the records of a group
-
--- a walk stands at a record whose length is one of its kind
-pub walk-sized : {s : List ℕ} {end at : ℕ} → AtRecord s end at → at < end → Sized s at
-unfolding recordAt
-walk-sized {s} {end} {at} p h =
-    let o = walk-on p h in
-    let w : Whole s at = record { left = omega (arith, o, p .tiled .within); four = o .0; ends = omega (arith, o, p .tiled .within) } in
-    record { whole = at-whole w; size = t-true _ (size-here p h) }
 
 named-cons : (builds : Bool) (r : List ℕ) (rs : Group) → namedIn builds (r ∷ rs) ≡ firstNamed builds r ∷ secondNamed builds r ∷ namedIn builds rs
 unfolding namedIn gather

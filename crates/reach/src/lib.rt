@@ -6,6 +6,7 @@ use groups::sheet_of;
 use groups::word_of;
 use lanes::draw_lanes;
 use lanes::either;
+use lanes::fill;
 use lanes::place;
 use named::first_named;
 use named::second_named;
@@ -19,7 +20,7 @@ ghost use Rattle.spec.specs.Refusals.{formRefusal};
 ghost use Rattle.view.specs.View.{Fits, spliced};
 ghost use Rattle.groups.specs.Groups.{Indexed};
 ghost use Rattle.lanes.specs.Lanes.{Enclosers, Run, SettledAt, AllSettled, SeedsFit, Least};
-ghost use Rattle.reach.specs.Reach.{stepsOf, outerOf, Emptied, dependentRow};
+ghost use Rattle.reach.specs.Reach.{stepsOf, outerOf, dependentRow};
 
 fn wide(x: u16) -> usize
     ensures { λ r. ⌜ (r ≡ x) × (r < 65536) ⌝ }
@@ -171,18 +172,6 @@ pub fn close(
     }
 }
 
-// Empties the first k entries.
-pub fn empty(row: &mut [u8], k: usize)
-    requires { ⌜ k ≤ length (now row) ⌝ }
-    ensures { λ r. ⌜ Emptied k (now (row .entry)) (now (row .exit)) ⌝ }
-{
-    let mut i = 0;
-    while i < k {
-        row[i] = 255;
-        i += 1;
-    }
-}
-
 // Writes 0 at each class that depends on d, 255 at the others.
 pub fn dependents(
     library: &[u8],
@@ -201,7 +190,7 @@ pub fn dependents(
     requires { ⌜ (d < n) × (256 ≤ length (now row)) ⌝ }
     ensures { λ r. ⌜ now (row .exit) ≡ dependentRow (now (library .entry)) (spliced (now (user .entry)) (now (group .entry)) cut) d (now (row .entry)) ⌝ }
 {
-    empty(row, 256);
+    fill(row, 256, 255);
     row[d] = 0;
     close(library, user, group, cut, starts, nlib, n, false, 1, row);
 }

@@ -6,19 +6,14 @@ use mathlib.Core.List.{List}
 use Prim.Native.Nat.{ℕ, _+_}
 use native.Mathlib.Omega.{arith}
 use lib.Dec.{leb, ltb}
-use Rattle.spec.specs.Record.{u16, bit, kind, CLASS, IMPLEMENTS, FIELD, LOCAL, USES, BUILDS, MEMBER, REFERS, Ty, tyAt}
+use Rattle.spec.specs.Record.{u16, bit, CLASS, IMPLEMENTS, FIELD, LOCAL, USES, BUILDS, MEMBER, REFERS, Ty, tyAt}
 use Rattle.spec.specs.Sheet.{Group}
 use Rattle.pass.specs.Pass.{recordAt}
-use Rattle.pass.proofs.Whole.{kind-here}
 use Rattle.second.specs.Second.{Sized, formNumber, nineUnless, typeThere, classNumber, implementsNumber, fieldNumber, usesNumber, refersNumber}
 use Rattle.second.proofs.ByKind.{refusing, nine, index-there, class-is, implements-is, field-is, local-is, uses-is, builds-is, member-is, refers-is}
-use Rattle.second.proofs.Positions.{whole, last-kind, target-at, index-at, static-at, field-type-at, local-type-at}
+use Rattle.second.proofs.Positions.{kind-is, last-kind, target-at, index-at, static-at, field-type-at, local-type-at}
 
 -- `k` is the kind that stands there
-module _ {s : List ℕ} {at : ℕ} (z : Sized s at) {k : ℕ} (ek : k ≡ u16 s (at + 2)) where
-  kind-is : {j : ℕ} → k ≡ j → kind (recordAt s at) ≡ j
-  kind-is e = kind-here (whole z) ∙ sym ek ∙ e
-
 module _ (g : ℕ → Group) (nlib n c : ℕ) {s : List ℕ} {at : ℕ} (z : Sized s at) {k : ℕ} (ek : k ≡ u16 s (at + 2)) where
   pub class-at : k ≡ CLASS → {m : ℕ} → m ≡ classNumber g nlib n c (recordAt s at) → m ≡ formNumber g nlib n c (recordAt s at)
   class-at e em = em ∙ sym (class-is g nlib n c (recordAt s at) (kind-is z ek e))

@@ -4,6 +4,7 @@ use mathlib.Core.Path.{_≡_, refl, sym, _∙_}
 use mathlib.Core.Bool.{Bool, true, false, not, _&&_}
 use mathlib.Core.List.{List, [], _∷_}
 use Prim.Native.Nat.{ℕ, _+_}
+use native.Mathlib.Omega.{arith}
 use lib.Dec.{eqb, eqb→eq}
 use Rattle.spec.specs.Record.{u16, bit, kind, isClass, CLASS, flags, superclass, encloser}
 use Rattle.spec.specs.Sheet.{Group}
@@ -68,5 +69,5 @@ module _ (g : ℕ → Group) (nlib n c : ℕ) {s : List ℕ} {at : ℕ} (z : Siz
       let k : kind (recordAt s at) ≡ CLASS = eqb→eq (kind (recordAt s at)) CLASS (true-t h) in
       let p : up ≡ superclass (recordAt s at) = eu ∙ ew ∙ sym (superclass-at z k) in
       let q : outer ≡ encloser (recordAt s at) = eo ∙ ev ∙ sym (encloser-at z k) in
-      let r : f ≡ flags (recordAt s at) = ef ∙ sym (flags-at z k) in
+      let r : f ≡ flags (recordAt s at) = ef ∙ sym (flags-at z CLASS k (omega arith)) in
       record { is = rw (p, q, r) of-fields }

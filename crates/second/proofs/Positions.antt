@@ -1,22 +1,33 @@
 -- What stands in the record that begins at a byte of a sheet, read at its place in the sheet.
 -- Assumes nothing.
 use mathlib.Core.Path.{_≡_, sym, ap, _∙_}
-use mathlib.Core.Bool.{true}
+use mathlib.Core.Bool.{true, false}
 use mathlib.Core.List.{List}
 use Prim.Native.Nat.{ℕ, _+_, _≤_, _<_}
 use native.Mathlib.Omega.{arith}
 use lib.ListN.{length, getD}
-use Rattle.spec.specs.Record.{u16, bit, kind, CLASS, IMPLEMENTS, FIELD, LOCAL, USES, BUILDS, MEMBER, REFERS, flags, superclass, encloser, target, index, tyAt, fieldTy, localTy, isStatic}
+use borrow.Author.Tests.{ne-eqb}
+use Rattle.spec.specs.Record.{u8, u16, bit, kind, isKind, CLASS, IMPLEMENTS, FIELD, LOCAL, USES, BUILDS, MEMBER, REFERS, flags, ownMarkers, superclass, encloser, target, index, tyAt, fieldTy, localTy, isStatic}
 use Rattle.theory.specs.Claims.{sheetOf}
-use Rattle.theory.proofs.Bools.{true-t}
-use Rattle.theory.proofs.Parts.{part-word, part-type}
+use Rattle.theory.proofs.Bools.{t-true, true-t}
+use Rattle.theory.proofs.Parts.{part-byte, part-word, part-type}
 use Rattle.pass.specs.Pass.{recordAt, sizeFits}
 use Rattle.pass.proofs.Tables.{shortest, size-known, at-least}
 use Rattle.pass.proofs.Bodies.{length-fits}
-use Rattle.pass.proofs.Whole.{Whole, whole-at, length-here, kind-here}
+use Rattle.pass.proofs.Whole.{Whole, whole-at, at-whole, length-here, kind-here}
 use Rattle.groups.specs.Groups.{Indexed}
 use Rattle.groups.proofs.Classes.{sheet-low}
+use Rattle.groups.proofs.Walks.{AtRecord, walk-on, size-here}
 use Rattle.second.specs.Second.{Sized}
+
+-- ---- a record that a walk stands at
+
+pub walk-sized : {s : List ℕ} {end at : ℕ} → AtRecord s end at → at < end → Sized s at
+unfolding recordAt
+walk-sized {s} {end} {at} w h =
+    let o = walk-on w h in
+    let a : Whole s at = record { left = omega (arith, o, w .tiled .within); four = o .0; ends = omega (arith, o, w .tiled .within) } in
+    record { whole = at-whole a; size = t-true _ (size-here w h) }
 
 -- ---- a known kind that is none of the other seven is BUILDS
 
@@ -35,6 +46,13 @@ module _ {s : List ℕ} {at : ℕ} (z : Sized s at) where
 
   pub whole : Whole s at
   whole = whole-at s at (z .whole)
+
+  -- `k` is what stands at the place of the kind
+  pub kind-is : {k : ℕ} → k ≡ u16 s (at + 2) → {j : ℕ} → k ≡ j → kind (recordAt s at) ≡ j
+  kind-is ek e = kind-here whole ∙ sym ek ∙ e
+
+  pub kind-not : {k : ℕ} → k ≡ u16 s (at + 2) → (j : ℕ) → (k ≡ j → ⊥) → isKind j (recordAt s at) ≡ false
+  kind-not ek j n = ne-eqb _ _ (λ q. n (ek ∙ sym (kind-here whole) ∙ q))
 
   pub ends-within : at + length (recordAt s at) ≤ length s
   ends-within = omega (arith, length-here whole, whole)
@@ -63,9 +81,9 @@ module _ {s : List ℕ} {at : ℕ} (z : Sized s at) where
   unfolding recordAt
   type-at k i e h = part-type s at (u16 s at) i (omega (arith, long-enough k e))
 
-  pub flags-at : kind (recordAt s at) ≡ CLASS → flags (recordAt s at) ≡ u16 s (at + 4)
-  unfolding flags
-  flags-at e = word-at CLASS 4 e (omega arith)
+  pub own-markers-at : kind (recordAt s at) ≡ CLASS → ownMarkers (recordAt s at) ≡ getD s (at + 6) 0
+  unfolding recordAt ownMarkers u8
+  own-markers-at e = part-byte s at (u16 s at) 6 (omega (arith, long-enough CLASS e))
 
   pub superclass-at : kind (recordAt s at) ≡ CLASS → superclass (recordAt s at) ≡ u16 s (at + 8)
   unfolding superclass
@@ -76,6 +94,10 @@ module _ {s : List ℕ} {at : ℕ} (z : Sized s at) where
   encloser-at e = word-at CLASS 10 e (omega arith)
 
   -- a record of a kind that has 6 bytes, or 8
+  pub flags-at : (k : ℕ) → kind (recordAt s at) ≡ k → 6 ≤ getD shortest k 0 → flags (recordAt s at) ≡ u16 s (at + 4)
+  unfolding flags
+  flags-at k e h = word-at k 4 e (omega arith)
+
   pub target-at : (k : ℕ) → kind (recordAt s at) ≡ k → 6 ≤ getD shortest k 0 → target (recordAt s at) ≡ u16 s (at + 4)
   unfolding target
   target-at k e h = word-at k 4 e (omega arith)
@@ -85,8 +107,8 @@ module _ {s : List ℕ} {at : ℕ} (z : Sized s at) where
   index-at k e h = word-at k 6 e (omega arith)
 
   pub static-at : kind (recordAt s at) ≡ FIELD → isStatic (recordAt s at) ≡ bit 2 (u16 s (at + 4))
-  unfolding isStatic flags
-  static-at e = ap (bit 2) (word-at FIELD 4 e (omega arith))
+  unfolding isStatic
+  static-at e = ap (bit 2) (flags-at FIELD e (omega arith))
 
   pub field-type-at : kind (recordAt s at) ≡ FIELD → fieldTy (recordAt s at) ≡ tyAt s (at + 6)
   unfolding fieldTy

@@ -12,7 +12,7 @@ use lib.ListN.{length, take, length-take}
 use borrow.Author.Tests.{eq-eqb, le-leb, lt-leb}
 use Rattle.spec.specs.Lists.{span}
 use Rattle.spec.specs.Sheet.{classCount, total, group}
-use Rattle.spec.specs.Refusals.{Refusal, refuseIf, refusePlain, sizeRefusal, sheetRefusal, presentRefusal, unusedRefusal, queryRefusal}
+use Rattle.spec.specs.Refusals.{Refusal, refuseIf, refusePlain, sizeRefusal, formRefusal, sheetRefusal, presentRefusal, unusedRefusal, queryRefusal}
 use Rattle.spec.specs.Promises.{refused, accepted, answerOf}
 use Rattle.theory.proofs.Bools.{not-or-l, not-or-r}
 use Rattle.theory.proofs.Rows.{length-values, getD-values}
@@ -95,29 +95,15 @@ module _ (library user : List ℕ) (used : ℕ) (e : presentRefusal library user
         starts = λ c h. getD-values (startOf library (take used user)) 256 0 c (omega (arith, s .few));
       }
 
--- ---- a class of accepted sheets
+-- ---- accepted sheets, as the program holds them
 
-module _ (library user : List ℕ) (used c : ℕ) {p : Checked} {row memo : List ℕ} (a : Presents library user used p row memo) where
-  -- the sheets are refused
-  pub sheets-refused : {number sheet byte : ℕ} → p ≡ Refused number sheet byte → queryRefusal library user used c ≡ some (record { number = number; sheet = sheet; byte = byte })
-  unfolding queryRefusal
-  sheets-refused f = first-some _ (refused-is (presentRefusal library user used) _ _ (sym f ∙ a .0))
+module _ (library user : List ℕ) (used : ℕ) {p : Checked} {row memo : List ℕ} (a : Presents library user used p row memo) where
+  pub present-refused : {number sheet byte : ℕ} → p ≡ Refused number sheet byte → presentRefusal library user used ≡ some (record { number = number; sheet = sheet; byte = byte })
+  present-refused f = refused-is (presentRefusal library user used) _ _ (sym f ∙ a .0)
 
   module _ {nlib n : ℕ} (f : p ≡ Fine nlib n) where
-    told : (presentRefusal library user used ≡ none) × ((nlib ≡ classCount library) × (n ≡ total library (take used user)))
+    pub told : (presentRefusal library user used ≡ none) × ((nlib ≡ classCount library) × (n ≡ total library (take used user)))
     told = fine-none (presentRefusal library user used) (sym f ∙ a .0)
-
-    unused : (b : Bool) → leb (total library (take used user)) c ≡ b → queryRefusal library user used c ≡ refusePlain b 13
-    unfolding queryRefusal unusedRefusal
-    unused b e = first-past _ _ (told .0) ∙ ap (λ (x : Bool). refusePlain x 13) e
-
-    pub class-unused : n ≤ c → queryRefusal library user used c ≡ some (record { number = 13; sheet = 0; byte = 0 })
-    unfolding refusePlain refuseIf
-    class-unused h = unused true (le-leb (total library (take used user)) c (omega (arith, told .1 .1)))
-
-    pub class-used : (n ≤ c → ⊥) → queryRefusal library user used c ≡ none
-    unfolding refusePlain refuseIf
-    class-used h = unused false (lt-leb (total library (take used user)) c (omega (arith, told .1 .1)))
 
     pub fits : Fits (record { from = used; to = used; used = used }) user
     fits = record { ordered = omega arith; within = omega arith; there = used-there library user used (told .0) }
@@ -129,6 +115,31 @@ module _ (library user : List ℕ) (used c : ℕ) {p : Checked} {row memo : List
       pub right : Right (group library s) memo
       right = rw q (a .1 (told .0) .right (sheet-fine library user used (told .0)))
 
+      pub form-fine : formRefusal library s ≡ none
+      unfolding sheetRefusal
+      form-fine = rw q (first-none _ (sheet-fine library user used (told .0)) .1 .1 .1 .1 .1 .0)
+
       pub lower-numbers : Falls (group library s)
       lower-numbers =
           rw q (falls (classCount library) (total library (take used user)) (group library (take used user)) (sound library (take used user) (sheet-fine library user used (told .0)) .fits))
+
+-- ---- a class of them
+
+module _ (library user : List ℕ) (used c : ℕ) {p : Checked} {row memo : List ℕ} (a : Presents library user used p row memo) where
+  -- the sheets are refused
+  pub sheets-refused : {number sheet byte : ℕ} → p ≡ Refused number sheet byte → queryRefusal library user used c ≡ some (record { number = number; sheet = sheet; byte = byte })
+  unfolding queryRefusal
+  sheets-refused f = first-some _ (present-refused library user used a f)
+
+  module _ {nlib n : ℕ} (f : p ≡ Fine nlib n) where
+    unused : (b : Bool) → leb (total library (take used user)) c ≡ b → queryRefusal library user used c ≡ refusePlain b 13
+    unfolding queryRefusal unusedRefusal
+    unused b e = first-past _ _ (told library user used a f .0) ∙ ap (λ (x : Bool). refusePlain x 13) e
+
+    pub class-unused : n ≤ c → queryRefusal library user used c ≡ some (record { number = 13; sheet = 0; byte = 0 })
+    unfolding refusePlain refuseIf
+    class-unused h = unused true (le-leb (total library (take used user)) c (omega (arith, told library user used a f .1 .1)))
+
+    pub class-used : (n ≤ c → ⊥) → queryRefusal library user used c ≡ none
+    unfolding refusePlain refuseIf
+    class-used h = unused false (lt-leb (total library (take used user)) c (omega (arith, told library user used a f .1 .1)))

@@ -1,11 +1,17 @@
 -- The numbers and values that document 01 gives for each answer of the operations.
 -- Assumes nothing.
 use Prim.Native.Nat.{ℕ}
-use Rattle.spec.specs.Promises.{Answer, refused, accepted, Part}
+use Rattle.spec.specs.Promises.{Answer, refused, accepted, Counts, Part}
+use Rattle.verifier.specs.declared.Judged.{Judged}
+use Rattle.verifier.specs.declared.Judged.the-variants as J
 use Rattle.verifier.specs.declared.Marked.{Marked}
 use Rattle.verifier.specs.declared.Marked.the-variants as M
 use Rattle.verifier.specs.declared.Placed.{Placed}
 use Rattle.verifier.specs.declared.Placed.the-variants as P
+
+abbrev pub judgedAnswer : Judged → Answer Counts
+judgedAnswer (J.Fine n m) = accepted (record { classes = n; faulted = m })
+judgedAnswer (J.Refused n s b) = refused (record { number = n; sheet = s; byte = b })
 
 abbrev pub markedAnswer : Marked → Answer ℕ
 markedAnswer (M.Fine m) = accepted m

@@ -1,4 +1,6 @@
 // The operations over flat rows of numbers: the public interface.
+use flat::faulted;
+use flat::rejudge;
 use form::Checked;
 use form::present;
 use groups::group_start;
@@ -7,8 +9,9 @@ use groups::word_of;
 use overlay::overlay;
 use view::Cut;
 ghost use mathlib.Core.Path.{_≡_};
-ghost use Rattle.spec.specs.Promises.{Marks, Places, Names};
-ghost use Rattle.verifier.specs.Answers.{markedAnswer, placedAnswer};
+ghost use Rattle.spec.specs.Promises.{Judges, Marks, Places, Names};
+ghost use Rattle.spec.specs.Verdicts.{flat};
+ghost use Rattle.verifier.specs.Answers.{judgedAnswer, markedAnswer, placedAnswer};
 
 // The overlay markers of a class, or the refusal: number, sheet, byte.
 pub enum Marked {
@@ -20,6 +23,59 @@ pub enum Marked {
 pub enum Placed {
     At(u8, usize, usize),
     Refused(u8, u8, usize),
+}
+
+// How many user classes there are and how many are faulted, or the refusal: number, sheet, byte.
+pub enum Judged {
+    Fine(usize, usize),
+    Refused(u8, u8, usize),
+}
+
+// A verdict for each user class, two bytes each in the row: rule and record, 0 and 0 where it is clean.
+pub fn judge(
+    library: &[u8],
+    user: &[u8],
+    used: usize,
+    verdicts: &mut [u8],
+    scratch: &mut [u8],
+) -> Judged
+    ensures { λ r. ⌜ Judges flat (now (library .entry)) (now (user .entry)) used (now (verdicts .entry)) (now (scratch .entry)) (judgedAnswer r) (now (verdicts .exit)) (now (scratch .exit)) ⌝ }
+{
+    let mut starts = [0u16; 256];
+    let mut memo = [65535u16; 256];
+    let checked = present(library, user, used, &mut starts, &mut memo);
+    match checked {
+        Checked::Refused(number, sheet, byte) => Judged::Refused(number, sheet, byte),
+        Checked::Fine(nlib, n) => {
+            let classes = n - nlib;
+            if verdicts.len() / 2 < classes {
+                return Judged::Refused(12, 0, 0);
+            }
+            if scratch.len() < 65536 {
+                return Judged::Refused(12, 0, 0);
+            }
+            let cut = Cut {
+                from: used,
+                to: used,
+                used: used,
+            };
+            let marks = [0u8; 256];
+            rejudge(
+                library,
+                user,
+                &library[0..0],
+                cut,
+                &starts,
+                nlib,
+                n,
+                &mut memo,
+                &marks,
+                verdicts,
+                scratch,
+            );
+            Judged::Fine(classes, faulted(verdicts, classes))
+        }
+    }
 }
 
 // The overlay markers of a class of either sheet; `used` bytes of the user buffer are its sheet.

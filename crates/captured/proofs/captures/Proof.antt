@@ -1,6 +1,7 @@
 -- `captured::captures`: the search along BUILDS from what each class itself uses.
 -- Assumes nothing.
 use native.Mathlib.Omega.{arith}
+use Rattle.reach.proofs.Depending.{emptied}
 use Rattle.captured.proofs.Seeding.{captures-fit, captures-end}
 use borrow.Author.Needs.{needs}
 use Rattle.captured.proofs.captures.Statement.{statement}
@@ -9,23 +10,23 @@ use Rattle.captured.proofs.captures.Reads as reads
 use Rattle.captured.proofs.captures.Lts as lts
 use Rattle.captured.proofs.seed.Reads as seed-reads
 use Rattle.reach.proofs.close.Reads as close-reads
-use Rattle.reach.proofs.empty.Reads as empty-reads
+use Rattle.lanes.proofs.fill.Reads as fill-reads
 
 -- src/lib.rt:225:5
-empty-requires : tie.Need-empty-requires
-empty-requires c κs = search needs
+fill-requires : tie.Need-fill-requires
+fill-requires c κs = search needs
 
 -- src/lib.rt:226:5
 seed-requires : tie.Need-seed-requires
 seed-requires c κs =
     let p = c .before .before .before .before .before .before .before .before .before .before .before .pre in
-    (p .0, (p .1 .0, (p .1 .1 .0, (p .1 .1 .1 .0, omega (arith, p .1 .1 .1 .1, c .before .before .before .empty .ensures .long)))))
+    (p .0, (p .1 .0, (p .1 .1 .0, (p .1 .1 .1 .0, omega (arith, p .1 .1 .1 .1, emptied (c .before .before .before .before .before .before .before .before .before .before .before .args .row .now) (p .1 .1 .1 .1) (c .before .before .before .fill .ensures) .long)))))
 
 -- src/lib.rt:227:5
 close-requires : tie.Need-close-requires
 close-requires c κs =
     let p = c .before .before .before .before .before .before .before .before .before .before .before .before .before .before .before .pre in
-    let e = c .before .before .before .before .before .before .before .empty .ensures in
+    let e = emptied (c .before .before .before .before .before .before .before .before .before .before .before .before .before .before .before .args .row .now) (p .1 .1 .1 .1) (c .before .before .before .before .before .before .before .fill .ensures) in
     let f = c .before .before .before .seed .ensures in
     (p .0, (p .1 .0, (omega (arith, p .1 .1 .1 .1, e .long, f .long), captures-fit (p .1 .0) (p .1 .1 .0) e f)))
 
@@ -37,8 +38,8 @@ same-length c = search needs
 returns : tie.Need-returns
 returns c =
     let p = c .before .before .before .before .before .before .before .before .before .before .before .before .before .before .before .before .before .before .pre in
-    captures-end (p .1 .0) (p .1 .1 .0) (c .before .before .before .before .before .before .before .before .before .before .empty .ensures) (c .before .before .before .before .before .before .seed .ensures) (c .before .before .close .ensures) (c .before .before .close .kept .1 .1 .1 .1 .1 .1 .1 .1 .1 .0)
+    captures-end (p .1 .0) (p .1 .1 .0) (emptied (c .before .before .before .before .before .before .before .before .before .before .before .before .before .before .before .before .before .before .args .row .now) (p .1 .1 .1 .1) (c .before .before .before .before .before .before .before .before .before .before .fill .ensures)) (c .before .before .before .before .before .before .seed .ensures) (c .before .before .close .ensures) (c .before .before .close .kept .1 .1 .1 .1 .1 .1 .1 .1 .1 .0)
 
 pub captures-spec : {M : Type 1} → statement M
 captures-spec =
-    tie.close (tie.spec empty-requires seed-requires close-requires same-length returns)
+    tie.close (tie.spec fill-requires seed-requires close-requires same-length returns)

@@ -8,8 +8,9 @@ use Rattle.spec.specs.Sheet.{group as groupOf}
 use Rattle.theory.specs.Claims.{sheetOf}
 use Rattle.view.specs.View.{spliced}
 use Rattle.groups.proofs.Walks.{walk-on}
+use Rattle.second.proofs.Positions.{walk-sized}
 use Rattle.lanes.proofs.Rows.{zeros}
-use Rattle.reach.proofs.Scanning.{ScanAt, walk-sized, scan-start, scan-next, scan-end}
+use Rattle.reach.proofs.Scanning.{ScanAt, scan-start, scan-next, scan-end}
 use Rattle.reach.proofs.visit.Statement.{statement}
 use Rattle.reach.proofs.visit.Tie as tie
 use Rattle.reach.proofs.visit.Reads as reads

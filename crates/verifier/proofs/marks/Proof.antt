@@ -63,7 +63,7 @@ slice-aggregate-overlay-2 c = search needs
 overlay-requires : tie.Need-overlay-requires
 overlay-requires c κs =
     let q = plain (c .before .before .before .before .before .before .before .before .before .before .before .before .before .before .args .user .now) (c .before .before .before .before .before .before .before .before .before .before .before .before .before .before .args .used) in
-    (fits (c .before .before .before .before .before .before .before .before .before .before .before .before .before .before .args .library .now) (c .before .before .before .before .before .before .before .before .before .before .before .before .before .before .args .user .now) (c .before .before .before .before .before .before .before .before .before .before .before .before .before .before .args .used) (c .before .before .before .before .before .before .before .before .before .before .before .before .before .before .args .class) (c .before .before .before .before .before .before .before .before .before .present .ensures) (c .before .before .before .before .before .checked2 .given .1), (indexed (c .before .before .before .before .before .before .before .before .before .before .before .before .before .before .args .library .now) (c .before .before .before .before .before .before .before .before .before .before .before .before .before .before .args .user .now) (c .before .before .before .before .before .before .before .before .before .before .before .before .before .before .args .used) (c .before .before .before .before .before .before .before .before .before .before .before .before .before .before .args .class) (c .before .before .before .before .before .before .before .before .before .present .ensures) (c .before .before .before .before .before .checked2 .given .1) q, (lower-numbers (c .before .before .before .before .before .before .before .before .before .before .before .before .before .before .args .library .now) (c .before .before .before .before .before .before .before .before .before .before .before .before .before .before .args .user .now) (c .before .before .before .before .before .before .before .before .before .before .before .before .before .before .args .used) (c .before .before .before .before .before .before .before .before .before .before .before .before .before .before .args .class) (c .before .before .before .before .before .before .before .before .before .present .ensures) (c .before .before .before .before .before .checked2 .given .1) q, (omega (arith, c .before .before .before .if1 .left), right (c .before .before .before .before .before .before .before .before .before .before .before .before .before .before .args .library .now) (c .before .before .before .before .before .before .before .before .before .before .before .before .before .before .args .user .now) (c .before .before .before .before .before .before .before .before .before .before .before .before .before .before .args .used) (c .before .before .before .before .before .before .before .before .before .before .before .before .before .before .args .class) (c .before .before .before .before .before .before .before .before .before .present .ensures) (c .before .before .before .before .before .checked2 .given .1) q))))
+    (fits (c .before .before .before .before .before .before .before .before .before .before .before .before .before .before .args .library .now) (c .before .before .before .before .before .before .before .before .before .before .before .before .before .before .args .user .now) (c .before .before .before .before .before .before .before .before .before .before .before .before .before .before .args .used) (c .before .before .before .before .before .before .before .before .before .present .ensures) (c .before .before .before .before .before .checked2 .given .1), (indexed (c .before .before .before .before .before .before .before .before .before .before .before .before .before .before .args .library .now) (c .before .before .before .before .before .before .before .before .before .before .before .before .before .before .args .user .now) (c .before .before .before .before .before .before .before .before .before .before .before .before .before .before .args .used) (c .before .before .before .before .before .before .before .before .before .present .ensures) (c .before .before .before .before .before .checked2 .given .1) q, (lower-numbers (c .before .before .before .before .before .before .before .before .before .before .before .before .before .before .args .library .now) (c .before .before .before .before .before .before .before .before .before .before .before .before .before .before .args .user .now) (c .before .before .before .before .before .before .before .before .before .before .before .before .before .before .args .used) (c .before .before .before .before .before .before .before .before .before .present .ensures) (c .before .before .before .before .before .checked2 .given .1) q, (omega (arith, c .before .before .before .if1 .left), right (c .before .before .before .before .before .before .before .before .before .before .before .before .before .before .args .library .now) (c .before .before .before .before .before .before .before .before .before .before .before .before .before .before .args .user .now) (c .before .before .before .before .before .before .before .before .before .before .before .before .before .before .args .used) (c .before .before .before .before .before .before .before .before .before .present .ensures) (c .before .before .before .before .before .checked2 .given .1) q))))
 
 -- src/lib.rt:25:1
 returns-2 : tie.Need-returns-2

@@ -63,18 +63,18 @@ slice-aggregate-group-start c = search needs
 
 -- src/lib.rt:77:17
 group-start-requires : tie.Need-group-start-requires
-group-start-requires c κs = (fits (c .before .before .before .before .before .before .before .before .before .before .before .before .before .before .args .library .now) (c .before .before .before .before .before .before .before .before .before .before .before .before .before .before .args .user .now) (c .before .before .before .before .before .before .before .before .before .before .before .before .before .before .args .used) (c .before .before .before .before .before .before .before .before .before .before .before .before .before .before .args .class) (c .before .before .before .before .before .before .before .before .before .present .ensures) (c .before .before .before .before .before .checked2 .given .1), (indexed (c .before .before .before .before .before .before .before .before .before .before .before .before .before .before .args .library .now) (c .before .before .before .before .before .before .before .before .before .before .before .before .before .before .args .user .now) (c .before .before .before .before .before .before .before .before .before .before .before .before .before .before .args .used) (c .before .before .before .before .before .before .before .before .before .before .before .before .before .before .args .class) (c .before .before .before .before .before .before .before .before .before .present .ensures) (c .before .before .before .before .before .checked2 .given .1) (plain (c .before .before .before .before .before .before .before .before .before .before .before .before .before .before .args .user .now) (c .before .before .before .before .before .before .before .before .before .before .before .before .before .before .args .used)), omega (arith, c .before .before .before .if1 .left)))
+group-start-requires c κs = (fits (c .before .before .before .before .before .before .before .before .before .before .before .before .before .before .args .library .now) (c .before .before .before .before .before .before .before .before .before .before .before .before .before .before .args .user .now) (c .before .before .before .before .before .before .before .before .before .before .before .before .before .before .args .used) (c .before .before .before .before .before .before .before .before .before .present .ensures) (c .before .before .before .before .before .checked2 .given .1), (indexed (c .before .before .before .before .before .before .before .before .before .before .before .before .before .before .args .library .now) (c .before .before .before .before .before .before .before .before .before .before .before .before .before .before .args .user .now) (c .before .before .before .before .before .before .before .before .before .before .before .before .before .before .args .used) (c .before .before .before .before .before .before .before .before .before .present .ensures) (c .before .before .before .before .before .checked2 .given .1) (plain (c .before .before .before .before .before .before .before .before .before .before .before .before .before .before .args .user .now) (c .before .before .before .before .before .before .before .before .before .before .before .before .before .before .args .used)), omega (arith, c .before .before .before .if1 .left)))
 
 -- src/lib.rt:78:17
 word-of-requires : tie.Need-word-of-requires
 word-of-requires c κs =
-    let x = indexed (c .before .before .before .before .before .before .before .before .before .before .before .before .before .before .before .args .library .now) (c .before .before .before .before .before .before .before .before .before .before .before .before .before .before .before .args .user .now) (c .before .before .before .before .before .before .before .before .before .before .before .before .before .before .before .args .used) (c .before .before .before .before .before .before .before .before .before .before .before .before .before .before .before .args .class) (c .before .before .before .before .before .before .before .before .before .before .present .ensures) (c .before .before .before .before .before .before .checked2 .given .1) (plain (c .before .before .before .before .before .before .before .before .before .before .before .before .before .before .before .args .user .now) (c .before .before .before .before .before .before .before .before .before .before .before .before .before .before .before .args .used)) in
-    (fits (c .before .before .before .before .before .before .before .before .before .before .before .before .before .before .before .args .library .now) (c .before .before .before .before .before .before .before .before .before .before .before .before .before .before .before .args .user .now) (c .before .before .before .before .before .before .before .before .before .before .before .before .before .before .before .args .used) (c .before .before .before .before .before .before .before .before .before .before .before .before .before .before .before .args .class) (c .before .before .before .before .before .before .before .before .before .before .present .ensures) (c .before .before .before .before .before .before .checked2 .given .1), omega (arith, c .group-start .ensures, class-low x {c = c .before .before .before .before .before .before .before .before .before .before .before .before .before .before .before .args .class} (omega (arith, c .before .before .before .before .if1 .left))))
+    let x = indexed (c .before .before .before .before .before .before .before .before .before .before .before .before .before .before .before .args .library .now) (c .before .before .before .before .before .before .before .before .before .before .before .before .before .before .before .args .user .now) (c .before .before .before .before .before .before .before .before .before .before .before .before .before .before .before .args .used) (c .before .before .before .before .before .before .before .before .before .before .present .ensures) (c .before .before .before .before .before .before .checked2 .given .1) (plain (c .before .before .before .before .before .before .before .before .before .before .before .before .before .before .before .args .user .now) (c .before .before .before .before .before .before .before .before .before .before .before .before .before .before .before .args .used)) in
+    (fits (c .before .before .before .before .before .before .before .before .before .before .before .before .before .before .before .args .library .now) (c .before .before .before .before .before .before .before .before .before .before .before .before .before .before .before .args .user .now) (c .before .before .before .before .before .before .before .before .before .before .before .before .before .before .before .args .used) (c .before .before .before .before .before .before .before .before .before .before .present .ensures) (c .before .before .before .before .before .before .checked2 .given .1), omega (arith, c .group-start .ensures, class-low x {c = c .before .before .before .before .before .before .before .before .before .before .before .before .before .before .before .args .class} (omega (arith, c .before .before .before .before .if1 .left))))
 
 -- src/lib.rt:79:31
 add-t25 : tie.Need-add-t25
 add-t25 c =
-    let x = indexed (c .before .before .before .before .before .before .before .before .before .before .before .before .before .before .before .before .args .library .now) (c .before .before .before .before .before .before .before .before .before .before .before .before .before .before .before .before .args .user .now) (c .before .before .before .before .before .before .before .before .before .before .before .before .before .before .before .before .args .used) (c .before .before .before .before .before .before .before .before .before .before .before .before .before .before .before .before .args .class) (c .before .before .before .before .before .before .before .before .before .before .before .present .ensures) (c .before .before .before .before .before .before .before .checked2 .given .1) (plain (c .before .before .before .before .before .before .before .before .before .before .before .before .before .before .before .before .args .user .now) (c .before .before .before .before .before .before .before .before .before .before .before .before .before .before .before .before .args .used)) in
+    let x = indexed (c .before .before .before .before .before .before .before .before .before .before .before .before .before .before .before .before .args .library .now) (c .before .before .before .before .before .before .before .before .before .before .before .before .before .before .before .before .args .user .now) (c .before .before .before .before .before .before .before .before .before .before .before .before .before .before .before .before .args .used) (c .before .before .before .before .before .before .before .before .before .before .before .present .ensures) (c .before .before .before .before .before .before .before .checked2 .given .1) (plain (c .before .before .before .before .before .before .before .before .before .before .before .before .before .before .before .before .args .user .now) (c .before .before .before .before .before .before .before .before .before .before .before .before .before .before .before .before .args .used)) in
     omega (arith, c .before .group-start .ensures, class-low x {c = c .before .before .before .before .before .before .before .before .before .before .before .before .before .before .before .before .args .class} (omega (arith, c .before .before .before .before .before .if1 .left)))
 
 -- src/lib.rt:79:40
@@ -84,7 +84,7 @@ cast-t29 c = search needs
 -- src/lib.rt:79:40
 sub-t30 : tie.Need-sub-t30
 sub-t30 c =
-    let x = indexed (c .before .before .before .before .before .before .before .before .before .before .before .before .before .before .before .before .args .library .now) (c .before .before .before .before .before .before .before .before .before .before .before .before .before .before .before .before .args .user .now) (c .before .before .before .before .before .before .before .before .before .before .before .before .before .before .before .before .args .used) (c .before .before .before .before .before .before .before .before .before .before .before .before .before .before .before .before .args .class) (c .before .before .before .before .before .before .before .before .before .before .before .present .ensures) (c .before .before .before .before .before .before .before .checked2 .given .1) (plain (c .before .before .before .before .before .before .before .before .before .before .before .before .before .before .before .before .args .user .now) (c .before .before .before .before .before .before .before .before .before .before .before .before .before .before .before .before .args .used)) in
+    let x = indexed (c .before .before .before .before .before .before .before .before .before .before .before .before .before .before .before .before .args .library .now) (c .before .before .before .before .before .before .before .before .before .before .before .before .before .before .before .before .args .user .now) (c .before .before .before .before .before .before .before .before .before .before .before .before .before .before .before .before .args .used) (c .before .before .before .before .before .before .before .before .before .before .before .present .ensures) (c .before .before .before .before .before .before .before .checked2 .given .1) (plain (c .before .before .before .before .before .before .before .before .before .before .before .before .before .before .before .before .args .user .now) (c .before .before .before .before .before .before .before .before .before .before .before .before .before .before .before .before .args .used)) in
     omega (arith, size-read x {c = c .before .before .before .before .before .before .before .before .before .before .before .before .before .before .before .before .args .class} (omega (arith, c .before .before .before .before .before .if1 .left)) (c .before .before .before .sheet-of .ensures) (c .before .group-start .ensures) (c .word-of .ensures), class-long x {c = c .before .before .before .before .before .before .before .before .before .before .before .before .before .before .before .before .args .class} (omega (arith, c .before .before .before .before .before .if1 .left)))
 
 -- src/lib.rt:58:1
@@ -94,7 +94,7 @@ returns-2 c = record { answered = answer-refused _ (sheets-refused (c .before .b
 -- src/lib.rt:58:1
 returns-3 : tie.Need-returns-3
 returns-3 c = record {
-  answered = ap accepted (part-read (indexed (c .before .before .before .before .before .before .before .before .before .before .before .before .before .before .before .before .args .library .now) (c .before .before .before .before .before .before .before .before .before .before .before .before .before .before .before .before .args .user .now) (c .before .before .before .before .before .before .before .before .before .before .before .before .before .before .before .before .args .used) (c .before .before .before .before .before .before .before .before .before .before .before .before .before .before .before .before .args .class) (c .before .before .before .before .before .before .before .before .before .before .before .present .ensures) (c .before .before .before .before .before .before .before .checked2 .given .1) (plain (c .before .before .before .before .before .before .before .before .before .before .before .before .before .before .before .before .args .user .now) (c .before .before .before .before .before .before .before .before .before .before .before .before .before .before .before .before .args .used))) {c = c .before .before .before .before .before .before .before .before .before .before .before .before .before .before .before .before .args .class} (omega (arith, c .before .before .before .before .before .if1 .left)) (c .before .before .before .sheet-of .ensures) (c .before .group-start .ensures) (c .word-of .ensures))
+  answered = ap accepted (part-read (indexed (c .before .before .before .before .before .before .before .before .before .before .before .before .before .before .before .before .args .library .now) (c .before .before .before .before .before .before .before .before .before .before .before .before .before .before .before .before .args .user .now) (c .before .before .before .before .before .before .before .before .before .before .before .before .before .before .before .before .args .used) (c .before .before .before .before .before .before .before .before .before .before .before .present .ensures) (c .before .before .before .before .before .before .before .checked2 .given .1) (plain (c .before .before .before .before .before .before .before .before .before .before .before .before .before .before .before .before .args .user .now) (c .before .before .before .before .before .before .before .before .before .before .before .before .before .before .before .before .args .used))) {c = c .before .before .before .before .before .before .before .before .before .before .before .before .before .before .before .before .args .class} (omega (arith, c .before .before .before .before .before .if1 .left)) (c .before .before .before .sheet-of .ensures) (c .before .group-start .ensures) (c .word-of .ensures))
       ∙ ap (λ s. accepted (namePart (c .before .before .before .before .before .before .before .before .before .before .before .before .before .before .before .before .args .library .now) s (c .before .before .before .before .before .before .before .before .before .before .before .before .before .before .before .before .args .class))) (plain (c .before .before .before .before .before .before .before .before .before .before .before .before .before .before .before .before .args .user .now) (c .before .before .before .before .before .before .before .before .before .before .before .before .before .before .before .before .args .used))
       ∙ answer-fine _ (class-used (c .before .before .before .before .before .before .before .before .before .before .before .before .before .before .before .before .args .library .now) (c .before .before .before .before .before .before .before .before .before .before .before .before .before .before .before .before .args .user .now) (c .before .before .before .before .before .before .before .before .before .before .before .before .before .before .before .before .args .used) (c .before .before .before .before .before .before .before .before .before .before .before .before .before .before .before .before .args .class) (c .before .before .before .before .before .before .before .before .before .before .before .present .ensures) (c .before .before .before .before .before .before .before .checked2 .given .1) (omega (arith, c .before .before .before .before .before .if1 .left)));
 }

@@ -1,0 +1,3 @@
+pub mod Rewriting
+pub mod Counting
+pub mod Clearing

@@ -1,0 +1,22 @@
+-- Which verdicts of the flat row are written, and how many are faulted.
+-- Assumes nothing.
+use mathlib.Core.Bool.{Bool, true, false, not, _&&_}
+use mathlib.Core.List.{List}
+use Prim.Native.Nat.{ℕ, _+_}
+use lib.Dec.{eqb, ltb}
+use lib.ListN.{getD, set}
+use Rattle.spec.specs.Lists.{count, span}
+use Rattle.spec.specs.Rules.{Verdict}
+use Rattle.spec.specs.Verdicts.{flatAt}
+
+-- a verdict written at a byte of the row, if a test passes
+unfoldable pub putIf : Bool → ℕ → Verdict → List ℕ → List ℕ
+putIf b at v row = elim b [ true ↦ set (set row at (v .rule)) (at + 1) (v .recordNumber) | false ↦ row ]
+
+-- the i-th user class is below class n, and its mark is 0: so a search for dependents leaves it
+unfoldable pub chosen : ℕ → ℕ → List ℕ → ℕ → Bool
+chosen nlib n marks i = ltb (nlib + i) n && eqb (getD marks (nlib + i) 0) 0
+
+-- the faulted ones among the first n verdicts
+unfoldable pub faultedIn : List ℕ → ℕ → ℕ
+faultedIn row n = count (λ i. not (eqb (flatAt row i .rule) 0)) (span 0 n)

@@ -1,0 +1,186 @@
+// The flat verdict row, two bytes a user class: verdicts written where they change, faulted ones counted.
+use captured::captures;
+use lanes::fill;
+use overlay::overlays;
+use rules::verdict_of;
+use view::Cut;
+ghost use mathlib.Core.Path.{_≡_};
+ghost use mathlib.Core.Option.{none};
+ghost use Prim.Native.Nat.{_+_, _*_, _-_, _≤_, _<_, min};
+ghost use lib.Dec.{eqb};
+ghost use lib.ListN.{length, getD};
+ghost use Rattle.spec.specs.Sheet.{group as groupOf};
+ghost use Rattle.spec.specs.Rules.{verdictOf};
+ghost use Rattle.spec.specs.Refusals.{formRefusal, scratchLength};
+ghost use Rattle.spec.specs.Promises.{cleared};
+ghost use Rattle.spec.specs.Verdicts.{flatLines, flatRewritten};
+ghost use Rattle.view.specs.View.{Fits, spliced};
+ghost use Rattle.groups.specs.Groups.{Indexed};
+ghost use Rattle.overlay.specs.Memo.{Right};
+ghost use Rattle.overlay.specs.Types.{Known};
+ghost use Rattle.captured.specs.Captured.{Shown};
+ghost use Rattle.flat.specs.Row.{putIf, chosen, faultedIn};
+
+// Writes the verdict of class c if its mark is 0.
+fn rewrite_class(
+    library: &[u8],
+    user: &[u8],
+    group: &[u8],
+    cut: Cut,
+    starts: &[u16],
+    nlib: usize,
+    n: usize,
+    markers: &[u8],
+    row: &[u8],
+    marks: &[u8],
+    c: usize,
+    verdicts: &mut [u8],
+)
+    requires { ⌜ Fits cut (now user) ⌝ }
+    requires { ⌜ Indexed (now library) (spliced (now user) (now group) cut) nlib n (now starts) ⌝ }
+    requires { ⌜ formRefusal (now library) (spliced (now user) (now group) cut) ≡ none ⌝ }
+    requires { ⌜ Known (groupOf (now library) (spliced (now user) (now group) cut)) (now markers) ⌝ }
+    requires { ⌜ Shown (groupOf (now library) (spliced (now user) (now group) cut)) n (now row) ⌝ }
+    requires { ⌜ (256 ≤ length (now marks)) × (n - nlib ≤ flatLines (now verdicts)) ⌝ }
+    requires { ⌜ (nlib ≤ c) × (c < n) ⌝ }
+    ensures { λ r. ⌜ now (verdicts .exit) ≡ putIf (eqb (getD (now (marks .entry)) c 0) 0) (2 * (c - nlib)) (verdictOf nlib (groupOf (now (library .entry)) (spliced (now (user .entry)) (now (group .entry)) cut)) c) (now (verdicts .entry)) ⌝ }
+{
+    if marks[c] != 0 {
+        return;
+    }
+    let verdict = verdict_of(library, user, group, cut, starts, nlib, n, markers, row, c);
+    let at = 2 * (c - nlib);
+    verdicts[at] = verdict.rule;
+    verdicts[at + 1] = verdict.record;
+}
+
+// Writes the verdict of each user class whose mark is 0; every other verdict stays.
+pub fn rewrite(
+    library: &[u8],
+    user: &[u8],
+    group: &[u8],
+    cut: Cut,
+    starts: &[u16],
+    nlib: usize,
+    n: usize,
+    markers: &[u8],
+    row: &[u8],
+    marks: &[u8],
+    verdicts: &mut [u8],
+)
+    requires { ⌜ Fits cut (now user) ⌝ }
+    requires { ⌜ Indexed (now library) (spliced (now user) (now group) cut) nlib n (now starts) ⌝ }
+    requires { ⌜ formRefusal (now library) (spliced (now user) (now group) cut) ≡ none ⌝ }
+    requires { ⌜ Known (groupOf (now library) (spliced (now user) (now group) cut)) (now markers) ⌝ }
+    requires { ⌜ Shown (groupOf (now library) (spliced (now user) (now group) cut)) n (now row) ⌝ }
+    requires { ⌜ (256 ≤ length (now marks)) × (n - nlib ≤ flatLines (now verdicts)) ⌝ }
+    ensures { λ r. ⌜ now (verdicts .exit) ≡ flatRewritten (chosen nlib n (now (marks .entry))) (λ i. verdictOf nlib (groupOf (now (library .entry)) (spliced (now (user .entry)) (now (group .entry)) cut)) (nlib + i)) (now (verdicts .entry)) ⌝ }
+{
+    let mut c = nlib;
+    while c < n {
+        rewrite_class(
+            library,
+            user,
+            group,
+            cut,
+            starts,
+            nlib,
+            n,
+            markers,
+            row,
+            marks,
+            c,
+            verdicts,
+        );
+        c += 1;
+    }
+}
+
+// Judges each user class whose mark is 0, from nothing but the sheets; the scratch is left clean.
+pub fn rejudge(
+    library: &[u8],
+    user: &[u8],
+    group: &[u8],
+    cut: Cut,
+    starts: &[u16],
+    nlib: usize,
+    n: usize,
+    memo: &mut [u16],
+    marks: &[u8],
+    verdicts: &mut [u8],
+    scratch: &mut [u8],
+)
+    requires { ⌜ Fits cut (now user) ⌝ }
+    requires { ⌜ Indexed (now library) (spliced (now user) (now group) cut) nlib n (now starts) ⌝ }
+    requires { ⌜ formRefusal (now library) (spliced (now user) (now group) cut) ≡ none ⌝ }
+    requires { ⌜ Right (groupOf (now library) (spliced (now user) (now group) cut)) (now memo) ⌝ }
+    requires { ⌜ (256 ≤ length (now marks)) × (n - nlib ≤ flatLines (now verdicts)) × (scratchLength ≤ length (now scratch)) ⌝ }
+    ensures memo { λ r. ⌜ Right (groupOf (now (library .entry)) (spliced (now (user .entry)) (now (group .entry)) cut)) (now (memo .exit)) ⌝ }
+    ensures verdicts { λ r. ⌜ now (verdicts .exit) ≡ flatRewritten (chosen nlib n (now (marks .entry))) (λ i. verdictOf nlib (groupOf (now (library .entry)) (spliced (now (user .entry)) (now (group .entry)) cut)) (nlib + i)) (now (verdicts .entry)) ⌝ }
+    ensures scratch { λ r. ⌜ now (scratch .exit) ≡ cleared (now (scratch .entry)) ⌝ }
+{
+    let mut markers = [0u8; 256];
+    overlays(
+        library,
+        user,
+        group,
+        cut,
+        starts,
+        nlib,
+        n,
+        memo,
+        &mut markers,
+    );
+    captures(
+        library,
+        user,
+        group,
+        cut,
+        starts,
+        nlib,
+        n,
+        &markers,
+        scratch,
+    );
+    rewrite(
+        library,
+        user,
+        group,
+        cut,
+        starts,
+        nlib,
+        n,
+        &markers,
+        scratch,
+        marks,
+        verdicts,
+    );
+    fill(scratch, 65536, 0);
+}
+
+// How many of the first n verdicts the row has room for.
+fn lines_of(verdicts: &[u8], n: usize) -> usize
+    ensures { λ r. ⌜ r ≡ min n (flatLines (now (verdicts .entry))) ⌝ }
+{
+    let lines = verdicts.len() / 2;
+    if n < lines {
+        return n;
+    }
+    lines
+}
+
+// How many of those are faulted.
+pub fn faulted(verdicts: &[u8], n: usize) -> usize
+    ensures { λ r. ⌜ r ≡ faultedIn (now (verdicts .entry)) (min n (flatLines (now (verdicts .entry)))) ⌝ }
+{
+    let end = lines_of(verdicts, n);
+    let mut i = 0;
+    let mut m = 0;
+    while i < end {
+        if verdicts[2 * i] != 0 {
+            m += 1;
+        }
+        i += 1;
+    }
+    m
+}

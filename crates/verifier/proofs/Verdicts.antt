@@ -1,0 +1,153 @@
+-- All verdicts of accepted sheets: the row, the faulted ones, and what refuses a judging.
+-- Assumes nothing.
+use mathlib.Core.Path.{_≡_, refl, sym, ap, ap₂, _∙_, subst}
+use mathlib.Core.Bool.{Bool, true, false, not, _&&_, _||_}
+use mathlib.Core.List.{List}
+use mathlib.Core.Option.{Option, none, some}
+use Prim.Native.Nat.{ℕ, _+_, _*_, _-_, _/_, _≤_, _<_, min}
+use native.Mathlib.Omega.{arith}
+use lib.Dec.{T, eqb, ltb, lt→ltb}
+use lib.ListN.{length, getD, take}
+use borrow.Author.Tests.{lt-ltb, le-ltb, ltb-true, ltb-false}
+use Rattle.spec.specs.Lists.{count, span}
+use Rattle.spec.specs.Sheet.{Group, classCount, total, group}
+use Rattle.spec.specs.Rules.{Verdict, verdictOf}
+use Rattle.spec.specs.Verdicts.{verdictAt, userVerdict, faulted, faultedCount, flatLines, flatAt, bytesOf, flatRewritten, flat}
+use Rattle.spec.specs.Refusals.{Refusal, refuseIf, refusePlain, presentRefusal, shortRefusal, judgeRefusal}
+use Rattle.spec.specs.Promises.{Counts, countsOf, afterwards, answerOf, refused, accepted, cleared, judgedRow, Judges}
+use Rattle.theory.proofs.Answers.{first-past, first-some}
+use Rattle.theory.proofs.Counts.{count-same}
+use Rattle.theory.proofs.FlatRow.{read-new, even, rewritten-length, rewritten-same}
+use Rattle.form.specs.declared.Checked.{Checked}
+use Rattle.form.specs.declared.Checked.the-variants.{Fine, Refused}
+use Rattle.form.proofs.Accepting.{Presents}
+use Rattle.flat.specs.Row.{chosen, faultedIn}
+use Rattle.verifier.proofs.Asking.{answer-refused, answer-fine, present-refused, told}
+
+-- ---- what a buffer holds
+
+module _ {A : Type 0} {o : Option Refusal} where
+  pub kept-refused : (old new : A) {r : Refusal} → o ≡ some r → old ≡ afterwards o old new
+  unfolding afterwards
+  kept-refused old new e = rw e
+
+  pub new-fine : (old new : A) → o ≡ none → new ≡ afterwards o old new
+  unfolding afterwards
+  new-fine old new e = rw e
+
+-- ---- the row
+
+module _ (library sheet : List ℕ) {nlib n : ℕ} (el : nlib ≡ classCount library) (en : n ≡ total library sheet) (marks : List ℕ) (zero : (i : ℕ) → getD marks i 0 ≡ 0) (row : List ℕ) where
+  -- with every mark 0 all user classes are chosen
+  every : (i : ℕ) → chosen nlib n marks i ≡ ltb i (classCount sheet)
+  unfolding chosen total
+  every i = rw (zero (nlib + i)) (go (ltb i (classCount sheet)) refl)
+    where
+      go : (b : Bool) → ltb i (classCount sheet) ≡ b → (ltb (nlib + i) n && true) ≡ ltb i (classCount sheet)
+      go true e = let h : i < classCount sheet = ltb-true i (classCount sheet) e in rw (lt-ltb (nlib + i) n (omega (arith, el, en))) (sym e)
+      go false e = let h : classCount sheet ≤ i = ltb-false i (classCount sheet) e in rw (le-ltb (nlib + i) n (omega (arith, el, en))) (sym e)
+
+  user-verdict : (i : ℕ) → verdictOf nlib (group library sheet) (nlib + i) ≡ userVerdict library sheet i
+  unfolding userVerdict verdictAt
+  user-verdict i = rw el
+
+  verdicts : (λ (i : ℕ). verdictOf nlib (group library sheet) (nlib + i)) ≡ userVerdict library sheet
+  verdicts k i = user-verdict i k
+
+  pub classes-are : n - nlib ≡ classCount sheet
+  unfolding total
+  classes-are = omega (arith, el, en)
+
+  -- the row that a judging leaves
+  pub row-is : {after : List ℕ} → after ≡ flatRewritten (chosen nlib n marks) (λ i. verdictOf nlib (group library sheet) (nlib + i)) row → after ≡ flatRewritten (λ i. ltb i (classCount sheet)) (userVerdict library sheet) row
+  row-is e = e ∙ ap (λ (v : ℕ → Verdict). flatRewritten (chosen nlib n marks) v row) verdicts ∙ rewritten-same (userVerdict library sheet) row (chosen nlib n marks) (λ i. ltb i (classCount sheet)) every
+
+  module _ (room : n - nlib ≤ flatLines row) {after : List ℕ} (e : after ≡ flatRewritten (λ i. ltb i (classCount sheet)) (userVerdict library sheet) row) where
+    rule-is : (i : ℕ) → i < classCount sheet → flatAt after i .rule ≡ userVerdict library sheet i .rule
+    unfolding flatAt bytesOf
+    rule-is i h =
+        ap (λ (r : List ℕ). getD r (2 * i) 0) e
+        ∙ read-new (λ i. ltb i (classCount sheet)) (userVerdict library sheet) row i (omega (arith, room, classes-are)) (lt→ltb i (classCount sheet) h) (2 * i) (even i .0)
+        ∙ ap (λ (k : ℕ). getD (bytesOf (userVerdict library sheet i)) k 0) (even i .1)
+
+    same-lines : flatLines after ≡ flatLines row
+    unfolding flatLines
+    same-lines = ap (λ (r : List ℕ). length r / 2) e ∙ ap (λ (k : ℕ). k / 2) (rewritten-length (λ i. ltb i (classCount sheet)) (userVerdict library sheet) row)
+
+    -- the faulted ones of that row
+    pub count-is : {m : ℕ} → m ≡ faultedIn after (min (n - nlib) (flatLines after)) → m ≡ faultedCount library sheet
+    unfolding faultedIn faultedCount faulted
+    count-is q =
+        q
+        ∙ ap (faultedIn after) (let w : min (n - nlib) (flatLines after) ≡ classCount sheet = omega (arith, room, same-lines, classes-are) in w)
+        ∙ count-same (λ i. not (eqb (flatAt after i .rule) 0)) (λ i. not (eqb (userVerdict library sheet i .rule) 0)) (classCount sheet) (λ i h. ap (λ (k : ℕ). not (eqb k 0)) (rule-is i h))
+
+-- ---- what refuses a judging
+
+module _ (library user : List ℕ) (used lines scratch : ℕ) {p : Checked} {row memo : List ℕ} (a : Presents library user used p row memo) where
+  pub judge-refused : {number sheet byte : ℕ} → p ≡ Refused number sheet byte → judgeRefusal library user used lines scratch ≡ some (record { number = number; sheet = sheet; byte = byte })
+  unfolding judgeRefusal
+  judge-refused f = first-some _ (present-refused library user used a f)
+
+  module _ {nlib n : ℕ} (f : p ≡ Fine nlib n) where
+    needed : n - nlib ≡ classCount (take used user)
+    unfolding total
+    needed = omega (arith, told library user used a f .1)
+
+    short : (b : Bool) → (ltb lines (n - nlib) || ltb scratch 65536) ≡ b → judgeRefusal library user used lines scratch ≡ refusePlain b 12
+    unfolding judgeRefusal shortRefusal
+    short b e = first-past _ _ (told library user used a f .0) ∙ ap (λ (x : Bool). refusePlain x 12) (ap (λ (k : ℕ). ltb lines k || ltb scratch 65536) (sym needed) ∙ e)
+
+    pub row-short : lines < n - nlib → judgeRefusal library user used lines scratch ≡ some (record { number = 12; sheet = 0; byte = 0 })
+    unfolding refusePlain refuseIf
+    row-short h = short true (rw (lt-ltb lines (n - nlib) h))
+
+    pub scratch-short : n - nlib ≤ lines → scratch < 65536 → judgeRefusal library user used lines scratch ≡ some (record { number = 12; sheet = 0; byte = 0 })
+    unfolding refusePlain refuseIf
+    scratch-short l h = short true (rw (le-ltb lines (n - nlib) l, lt-ltb scratch 65536 h))
+
+    pub judge-fine : n - nlib ≤ lines → 65536 ≤ scratch → judgeRefusal library user used lines scratch ≡ none
+    unfolding refusePlain refuseIf
+    judge-fine l h = short false (rw (le-ltb lines (n - nlib) l, le-ltb scratch 65536 h))
+
+-- ---- the promise of a judging, at each of its ends
+
+module _ (library user : List ℕ) (used : ℕ) (verdicts scratch : List ℕ) {p : Checked} {row memo : List ℕ} (a : Presents library user used p row memo) where
+  -- nothing was touched
+  stop : {r : Refusal} → judgeRefusal library user used (flatLines verdicts) (length scratch) ≡ some r → Judges flat library user used verdicts scratch (refused r) verdicts scratch
+  stop e = record { answered = answer-refused _ e; verdicts-are = kept-refused _ _ e; scratch-is = kept-refused _ _ e }
+
+  pub sheets-stop : {number sheet byte : ℕ} → p ≡ Refused number sheet byte → Judges flat library user used verdicts scratch (refused (record { number = number; sheet = sheet; byte = byte })) verdicts scratch
+  sheets-stop f = stop (judge-refused library user used (flatLines verdicts) (length scratch) a f)
+
+  module _ {nlib n : ℕ} (f : p ≡ Fine nlib n) where
+    pub classes-ordered : nlib ≤ n
+    unfolding total
+    classes-ordered = omega (arith, told library user used a f .1)
+
+    pub row-stop : length verdicts / 2 < n - nlib → Judges flat library user used verdicts scratch (refused (record { number = 12; sheet = 0; byte = 0 })) verdicts scratch
+    row-stop h = stop (row-short library user used (flatLines verdicts) (length scratch) a f (unfold flatLines in h))
+
+    pub scratch-stop : n - nlib ≤ length verdicts / 2 → length scratch < 65536 → Judges flat library user used verdicts scratch (refused (record { number = 12; sheet = 0; byte = 0 })) verdicts scratch
+    scratch-stop l h = stop (scratch-short library user used (flatLines verdicts) (length scratch) a f (unfold flatLines in l) h)
+
+    pub room-is : n - nlib ≤ length verdicts / 2 → n - nlib ≤ flatLines verdicts
+    unfolding flatLines
+    room-is l = l
+
+    pub judged-all : n - nlib ≤ length verdicts / 2 → 65536 ≤ length scratch → {s : List ℕ} → s ≡ take used user → (marks : List ℕ) → ((i : ℕ) → getD marks i 0 ≡ 0) → {after cleaned : List ℕ} {m : ℕ}
+        → after ≡ flatRewritten (chosen nlib n marks) (λ i. verdictOf nlib (group library s) (nlib + i)) verdicts → cleaned ≡ cleared scratch → m ≡ faultedIn after (min (n - nlib) (flatLines after))
+        → Judges flat library user used verdicts scratch (accepted (record { classes = n - nlib; faulted = m })) after cleaned
+    unfolding countsOf judgedRow
+    judged-all l h q marks z {after} ea es em =
+        let o = judge-fine library user used (flatLines verdicts) (length scratch) a f (unfold flatLines in l) h in
+        let t = told library user used a f .1 in
+        let e = row-is library (take used user) (t .0) (t .1) marks z verdicts (ea ∙ ap (λ (x : List ℕ). flatRewritten (chosen nlib n marks) (λ i. verdictOf nlib (group library x) (nlib + i)) verdicts) q) in
+        record {
+          answered =
+              ap₂ (λ (k j : ℕ). accepted (record { classes = k; faulted = j })) (classes-are library (take used user) (t .0) (t .1) marks z verdicts)
+              (count-is library (take used user) (t .0) (t .1) marks z verdicts (unfold flatLines in l) e em)
+              ∙ answer-fine _ o;
+          verdicts-are = e ∙ new-fine _ _ o;
+          scratch-is = es ∙ new-fine _ _ o;
+        }

@@ -1,0 +1,206 @@
+//! Adding and replacing classes.
+
+mod support;
+
+use reference::{add, replace, Refusal};
+use support::*;
+
+/// Everything that the calls borrow.
+struct Desk {
+    user: Vec<u8>,
+    used: usize,
+    verdicts: Vec<u8>,
+    scratch: Vec<u8>,
+}
+
+impl Desk {
+    /// A judged user sheet in a buffer with some bytes to spare.
+    fn new(user: &[u8], spare: usize) -> Desk {
+        let mut verdicts = vec![0xEE; 20];
+        for (line, (rule, record)) in lines(user).into_iter().enumerate() {
+            verdicts[2 * line] = rule;
+            verdicts[2 * line + 1] = record;
+        }
+        Desk {
+            user: [user, &vec![0xEE; spare]].concat(),
+            used: user.len(),
+            verdicts,
+            scratch: vec![0xEE; 65_536],
+        }
+    }
+
+    fn contents(&self) -> (Vec<u8>, usize, Vec<u8>, Vec<u8>) {
+        let (verdicts, scratch) = (self.verdicts.clone(), self.scratch.clone());
+        (self.user.clone(), self.used, verdicts, scratch)
+    }
+
+    fn add(&mut self, group: &[u8]) -> Result<usize, Refusal> {
+        let before = self.contents();
+        let (verdicts, scratch) = (&mut self.verdicts, &mut self.scratch);
+        let answer = add(
+            &LIBRARY,
+            &mut self.user,
+            &mut self.used,
+            group,
+            verdicts,
+            scratch,
+        );
+        self.check_after(before, answer.is_ok());
+        answer
+    }
+
+    fn replace(&mut self, class: usize, group: &[u8]) -> Result<usize, Refusal> {
+        let before = self.contents();
+        let (verdicts, scratch) = (&mut self.verdicts, &mut self.scratch);
+        let answer = replace(
+            &LIBRARY,
+            &mut self.user,
+            &mut self.used,
+            class,
+            group,
+            verdicts,
+            scratch,
+        );
+        self.check_after(before, answer.is_ok());
+        answer
+    }
+
+    /// A refused call changes nothing; after an accepted one the lines are those of judging anew.
+    fn check_after(&self, before: (Vec<u8>, usize, Vec<u8>, Vec<u8>), accepted: bool) {
+        if !accepted {
+            assert!(self.contents() == before);
+            return;
+        }
+        assert!(self.scratch.iter().all(|&byte| byte == 0));
+        let fresh = lines(&self.user[..self.used]);
+        let kept: Vec<_> = self
+            .verdicts
+            .chunks_exact(2)
+            .map(|l| (l[0], l[1]))
+            .collect();
+        assert_eq!(kept[..fresh.len()], fresh);
+        assert!(kept[fresh.len()..].iter().all(|&line| line == (0xEE, 0xEE)));
+    }
+}
+
+fn plain(name: &str) -> Vec<u8> {
+    class(0, 0, 0, NO_CLASS, name)
+}
+
+#[test]
+fn adding_writes_group_line_and_length() {
+    let mut desk = Desk::new(&POINT, 40);
+    let group = [class(0, 1, 0, NO_CLASS, "D"), field(0, INT, "f")].concat();
+    assert_eq!(desk.add(&group), Ok(2));
+    assert_eq!(desk.used, POINT.len() + group.len());
+    assert_eq!(desk.user[POINT.len()..desk.used], group);
+    assert!(desk.user[desk.used..].iter().all(|&byte| byte == 0xEE));
+    assert_eq!(desk.verdicts[..4], [0, 0, 7, 1]);
+}
+
+#[test]
+fn a_replacement_reaches_all_dependents() {
+    // Third holds Second, which is below First.
+    let user = [
+        class(0, 1, 0, NO_CLASS, "First"),
+        class(0, 0, 1, NO_CLASS, "Second"),
+        class(0, 1, 0, NO_CLASS, "Third"),
+        field(FINAL, [0, 0, 2, 0], "f"),
+        plain("Fourth"),
+    ];
+    let mut desk = Desk::new(&user.concat(), 0);
+    assert_eq!(desk.verdicts[..8], [0; 8]);
+    let before = desk.used;
+    assert_eq!(desk.replace(1, &plain("F")), Ok(3));
+    assert_eq!(desk.verdicts[..8], [0, 0, 0, 0, 7, 1, 0, 0]);
+    assert_eq!(desk.used, before - 4);
+    assert_eq!(desk.user[desk.used..], [0; 4]);
+    let first = class(0, 1, 0, NO_CLASS, "First");
+    assert_eq!(desk.replace(1, &first), Ok(3));
+    assert_eq!(desk.user, user.concat());
+}
+
+#[test]
+fn only_the_lines_of_dependents_are_rewritten() {
+    let user = [plain("A"), plain("B"), builds(1), plain("D")].concat();
+    let mut desk = Desk::new(&user, 0);
+    desk.verdicts.fill(0xEE);
+    let (user, used) = (&mut desk.user, &mut desk.used);
+    let (verdicts, scratch) = (&mut desk.verdicts, &mut desk.scratch);
+    let answer = replace(&LIBRARY, user, used, 1, &plain("A"), verdicts, scratch);
+    assert_eq!(answer, Ok(2));
+    assert_eq!(desk.verdicts[..6], [0, 0, 0, 0, 0xEE, 0xEE]);
+}
+
+#[test]
+fn fourteen_what_is_no_group() {
+    let two = [plain("D"), plain("E")].concat();
+    let headless = [builds(0), plain("D")].concat();
+    let torn = [&plain("D")[..], &[6, 0, 6]].concat();
+    for group in [&[][..], &two, &headless, &torn, &[3, 0, 1, 0]] {
+        let mut desk = Desk::new(&POINT, 100);
+        assert_eq!(desk.add(group), Err(refusal(14, 0, 0)));
+        assert_eq!(desk.replace(1, group), Err(refusal(14, 0, 0)));
+        assert_eq!(desk.replace(2, group), Err(refusal(13, 0, 0)));
+        assert_eq!(desk.replace(0, group), Err(refusal(13, 0, 0)));
+    }
+    // Kinds alone are looked at: a bad body is found in the new sheet.
+    let mut desk = Desk::new(&POINT, 100);
+    let group = [plain("D"), record(77, &[])].concat();
+    assert_eq!(desk.add(&group), Err(refusal(3, 1, 25 + 13)));
+}
+
+#[test]
+fn fifteen_no_room_in_the_buffer() {
+    let mut desk = Desk::new(&POINT, 12);
+    assert_eq!(desk.add(&plain("D")), Err(refusal(15, 0, 0)));
+    let mut desk = Desk::new(&POINT, 13);
+    assert_eq!(desk.add(&plain("D")), Ok(2));
+    let long = plain(&"n".repeat(27));
+    assert_eq!(desk.replace(2, &long), Err(refusal(15, 0, 0)));
+}
+
+#[test]
+fn fifteen_no_room_in_a_sheet() {
+    let group = [plain("A"), builds(0).repeat(254)].concat();
+    let mut user = Vec::new();
+    for number in 0..9u8 {
+        let mut group = group.clone();
+        group[12] += number;
+        user.extend(group);
+    }
+    let mut desk = Desk::new(&user, 40_000);
+    for number in 9..21u8 {
+        desk.verdicts.resize(60, 0xEE);
+        let mut group = group.clone();
+        group[12] += number;
+        assert_eq!(desk.add(&group), Ok(number as usize + 1));
+    }
+    assert_eq!(desk.used, 21 * 1537);
+    let mut last = group.clone();
+    last[12] = b'z';
+    assert_eq!(desk.add(&last), Err(refusal(15, 0, 0)));
+}
+
+#[test]
+fn a_replacement_can_break_another_group() {
+    let user = [
+        plain("C"),
+        local(INT, "v"),
+        class(0, 0, 0, 1, "D"),
+        uses(1, 0),
+    ];
+    let mut desk = Desk::new(&user.concat(), 0);
+    assert_eq!(desk.replace(1, &plain("C")), Err(refusal(9, 1, 13 + 13)));
+}
+
+#[test]
+fn twelve_comes_last() {
+    let mut desk = Desk::new(&POINT, 100);
+    desk.verdicts.truncate(3);
+    assert_eq!(desk.add(&plain("Pt")), Err(refusal(10, 1, 25)));
+    assert_eq!(desk.add(&plain("D")), Err(refusal(12, 0, 0)));
+    assert_eq!(desk.replace(1, &plain("D")), Ok(1));
+    desk.scratch.truncate(65_535);
+    assert_eq!(desk.replace(1, &plain("D")), Err(refusal(12, 0, 0)));
+}

@@ -1,0 +1,57 @@
+//! Class sheets for tests and timing: builders of records, ordinary and hostile pairs of sheets,
+//! random pairs and damage.
+
+pub mod build;
+mod hostile;
+mod ordinary;
+mod random;
+
+pub use random::{damage, random_group, random_pair, Random};
+
+use build::Sheet;
+
+/// A library sheet and a user sheet with a name.
+pub struct Family {
+    pub name: &'static str,
+    pub library: Vec<u8>,
+    pub user: Vec<u8>,
+    pub classes: usize,
+    pub records: usize,
+}
+
+impl Family {
+    fn new(name: &'static str, (library, user): (Sheet, Sheet)) -> Family {
+        Family {
+            name,
+            classes: library.classes() + user.classes(),
+            records: library.records() + user.records(),
+            library: library.into_bytes(),
+            user: user.into_bytes(),
+        }
+    }
+
+    pub fn bytes(&self) -> usize {
+        self.library.len() + self.user.len()
+    }
+}
+
+/// 60 classes, about 600 records.
+pub fn typical() -> Family {
+    Family::new("typical", ordinary::typical())
+}
+
+/// 256 classes, the user sheet filled.
+pub fn full() -> Family {
+    Family::new("full", ordinary::full())
+}
+
+/// Each family, the ordinary ones first.
+pub fn families() -> Vec<Family> {
+    let mut families = vec![typical(), full()];
+    families.extend(
+        hostile::ALL
+            .iter()
+            .map(|&(name, make)| Family::new(name, make())),
+    );
+    families
+}
