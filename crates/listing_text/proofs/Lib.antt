@@ -1,0 +1,4 @@
+pub mod Texts
+pub mod NameBytes
+pub mod ClassText
+pub mod Answered

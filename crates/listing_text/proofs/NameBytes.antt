@@ -1,0 +1,84 @@
+-- Where the bytes of a user class's name stand in the user buffer.
+-- Assumes nothing.
+use mathlib.Core.Path.{_≡_, sym, ap, _∙_}
+use mathlib.Core.List.{List, []}
+use Prim.Native.Nat.{ℕ, _+_, _-_, _≤_, _<_}
+use native.Mathlib.Nat.{zero-add}
+use native.Mathlib.Omega.{arith}
+use lib.Dec.{T, leb, eqb→eq, leb→le}
+use lib.ListN.{length, take, drop, length-take}
+use lib.Seq.{take-take}
+use Rattle.spec.specs.Record.{u16, kind, isClass, CLASS, byKind, withName, lengthFits, className}
+use Rattle.spec.specs.Sheet.{group, classRecord, ofKind}
+use Rattle.theory.specs.Claims.{sheetOf}
+use Rattle.theory.proofs.All.{All, all-kept}
+use Rattle.theory.proofs.Bools.{and-r}
+use Rattle.theory.proofs.Form.{one-record, group-one-class}
+use Rattle.theory.proofs.Parts.{part-rest}
+use Rattle.view.specs.View.{spliced}
+use Rattle.view.proofs.Splice.{plain}
+use Rattle.groups.specs.Groups.{Indexed, sheetNumber, startOf}
+use Rattle.groups.proofs.Classes.{group-lengths, user-number, user-sheet, class-record, class-size, class-long, class-room, group-tiled, end-small}
+
+-- ---- a CLASS record is no longer than twelve bytes and a name of 100
+
+most : (r : List ℕ) → T (isClass r) → T (lengthFits r) → length r ≤ 112
+unfolding lengthFits byKind withName
+most r k t =
+    let e : kind r ≡ 1 = eqb→eq (kind r) 1 k in
+    let u = rw e at t in leb→le (length r) 112 (and-r (leb 13 (length r)) (leb (length r) 112) u)
+
+pub class-short : {library user : List ℕ} {nlib n : ℕ} {row : List ℕ} → Indexed library user nlib n row → {c : ℕ} → c < n → length (classRecord (group library user c)) ≤ 112
+class-short {library} {user} x {c} h =
+    let q : All (λ r. T (lengthFits r) × T (isClass r)) (ofKind CLASS (group library user c)) =
+    (unfold ofKind in all-kept (λ r. T (lengthFits r)) isClass (group library user c) (group-lengths x c)) in
+    let o = one-record (group library user c) (group-one-class library user c (omega (arith, x .n-is))) in
+    let r = rw o at q in most (classRecord (group library user c)) (r .0 .1) (r .0 .0)
+
+-- ---- the name
+
+-- the record of class c begins at `at`, is `size` bytes long, and its name is the user buffer's bytes from its byte 12 on
+pub record NameAt (library user : List ℕ) (used c : ℕ) (at size : ℕ) : Type 0 where
+  pub long : 13 ≤ size
+  pub short : size ≤ 112
+  pub within : at + size ≤ length user
+  pub low : at + size ≤ 32768
+  pub is : take (at + size - (at + 12)) (drop (at + 12) user) ≡ className (classRecord (group library (take used user) c))
+
+-- a part of the used bytes is a part of the buffer
+part-used : (user : List ℕ) (used at k : ℕ) → at + k ≤ used → take k (drop at (take used user)) ≡ take k (drop at user)
+part-used user used at k h =
+    ap (take k) (part-rest user 0 used at ∙ ap (λ (j : ℕ). take (used - at) (drop j user)) (zero-add at))
+    ∙ take-take k (used - at) (drop at user) (omega arith)
+
+module _ {library : List ℕ} (user : List ℕ) (used : ℕ) {nlib n : ℕ} {row : List ℕ} (x : Indexed library (take used user) nlib n row) {c : ℕ} (l : nlib ≤ c) (h : c < n) where
+  user-held : sheetOf library (take used user) (sheetNumber nlib c) ≡ take used user
+  user-held = user-sheet library (take used user) (sheetNumber nlib c) (omega (arith, user-number nlib c l))
+
+  start-is : {at : ℕ} → at ≡ startOf library (spliced user [] (record { from = used; to = used; used = used })) c → at ≡ startOf library (take used user) c
+  start-is e = e ∙ ap (λ (s : List ℕ). startOf library s c) (plain user used)
+
+  pub start-low : {at : ℕ} → at ≡ startOf library (spliced user [] (record { from = used; to = used; used = used })) c → at < 65536
+  start-low e = omega (arith, start-is e, class-room x h, end-small x h)
+
+  pub name-at : {at size : ℕ} → used ≤ length user → at ≡ startOf library (spliced user [] (record { from = used; to = used; used = used })) c
+      → size ≡ u16 (sheetOf library (spliced user [] (record { from = used; to = used; used = used })) 1) at → NameAt library user used c at size
+  unfolding className
+  name-at {at} {size} there ea es =
+      let s = take used user in
+      let r = classRecord (group library s c) in
+      let a : at ≡ startOf library s c = start-is ea in
+      let z : size ≡ u16 s at = es ∙ ap (λ (k : List ℕ). u16 (sheetOf library k 1) at) (plain user used) ∙ ap (λ (k : List ℕ). u16 k at) (user-sheet library s 1 (omega arith)) in
+      let e : size ≡ length r = z ∙ rw a (sym (class-size x h ∙ ap (λ (k : List ℕ). u16 k (startOf library s c)) user-held)) in
+      let whole : r ≡ take size (drop at s) = class-record x h ∙ rw (user-held, ← a, ← z) in
+      let room : at + size ≤ length s = omega (arith, a, e, class-room x h, group-tiled x h .within, ap length user-held) in
+      let inside : at + size ≤ used = omega (arith, room, length-take used user) in
+      let thirteen : 13 ≤ size = omega (arith, e, class-long x h) in
+      let k : at + size - (at + 12) ≡ size - 12 = omega arith in
+      record {
+        long = thirteen;
+        short = omega (arith, e, class-short x h);
+        within = omega (arith, inside, there);
+        low = omega (arith, a, e, class-room x h, end-small x h);
+        is = ap (λ (j : ℕ). take j (drop (at + 12) user)) k ∙ sym (part-used user used (at + 12) (size - 12) (omega (arith, inside, thirteen))) ∙ sym (ap (drop 12) whole ∙ part-rest s at size 12);
+      }
