@@ -9,7 +9,7 @@ use lib.Dec.{eqb, ltb}
 use borrow.Author.Tests.{lt-ltb, le-ltb}
 use Rattle.spec.specs.Lists.{any, keep}
 use Rattle.spec.specs.Record.{u16, bit, flags, references}
-use Rattle.spec.specs.Sheet.{Group, total, group, classRecord, isAllowed}
+use Rattle.spec.specs.Sheet.{Group, group, classRecord, isAllowed}
 use Rattle.spec.specs.Rules.{forbidden}
 use Rattle.groups.specs.Groups.{Indexed}
 use Rattle.groups.proofs.Few.{classes-ordered}

@@ -7,7 +7,7 @@ use mathlib.Core.Logic.{inl, inr, _≢_, _↔_}
 use mathlib.Core.Option.{none}
 use Prim.Native.Nat.{ℕ, suc, _≤_, _<_}
 use native.Mathlib.Omega.{arith}
-use lib.Dec.{T, not-T, eqb, leb, ltb, eqb→eq, leb→le, ltb→lt, lt→ltb}
+use lib.Dec.{T, eqb, leb, ltb, eqb→eq, leb→le, ltb→lt, lt→ltb}
 use lib.ListN.{length, getD, take, List·getD-map}
 use lib.Seq.{drop-cons}
 use Rattle.spec.specs.Lists.{keep, numbered}
@@ -21,7 +21,7 @@ use Rattle.theory.proofs.Bools.{t-same, true-t, false-t, t-false, and-l, and-r}
 use Rattle.theory.proofs.All.{at-member}
 use Rattle.theory.proofs.Members.{gather-mem, mem-gather, keep-mem, mem-keep, only-mem, mem-only, any-mem, mem-any}
 use Rattle.theory.proofs.Groups.{builds-reference}
-use Rattle.theory.proofs.Accept.{Fits, Sound, form-fits}
+use Rattle.theory.proofs.Accept.{Fits, Sound}
 use Rattle.theory.proofs.Form.{one-record, group-one-class, sound-falls, sound-there, sound-bound, sound-variables}
 use Rattle.theory.proofs.Capture.{captured-is}
 use Rattle.groups.proofs.Few.{indexed-sound}

@@ -1,16 +1,17 @@
-// One line a case: what is tried, then the answers of `marks`, `name_place` and `name`.
+// What is written: the answers of `marks`, `name_place` and `name` on one line, and a row of verdicts.
 use verifier::Marked;
 use verifier::Placed;
 use verifier::marks;
 use verifier::name;
 use verifier::name_place;
 
-fn number(text: &[u8], x: usize) {
+pub(crate) fn number(text: &[u8], x: usize) {
     io::write_all(1, text);
     io::print_decimal(1, x as u64);
 }
 
-fn refused(n: u8, sheet: u8, byte: usize) {
+pub(crate) fn refused(text: &[u8], n: u8, sheet: u8, byte: usize) {
+    io::write_all(1, text);
     number(b"refused ", n as usize);
     number(b" sheet ", sheet as usize);
     number(b" byte ", byte);
@@ -19,10 +20,7 @@ fn refused(n: u8, sheet: u8, byte: usize) {
 fn say_marks(library: &[u8], user: &[u8], used: usize, class: usize) {
     match marks(library, user, used, class) {
         Marked::Fine(set) => number(b": markers ", set as usize),
-        Marked::Refused(n, sheet, byte) => {
-            io::write_all(1, b": ");
-            refused(n, sheet, byte);
-        }
+        Marked::Refused(n, sheet, byte) => refused(b": ", n, sheet, byte),
     }
 }
 
@@ -33,10 +31,7 @@ fn say_place(library: &[u8], user: &[u8], used: usize, class: usize) {
             number(b" at ", start);
             number(b", bytes ", size);
         }
-        Placed::Refused(n, sheet, byte) => {
-            io::write_all(1, b"; name ");
-            refused(n, sheet, byte);
-        }
+        Placed::Refused(n, sheet, byte) => refused(b"; name ", n, sheet, byte),
     }
 }
 
@@ -47,23 +42,29 @@ fn say_name<'a>(library: &'a [u8], user: &'a [u8], used: usize, class: usize) {
 }
 
 // Class `class` of the library sheet and the first `used` bytes of the user buffer.
-pub(crate) fn case<'a>(what: &[u8], library: &'a [u8], user: &'a [u8], used: usize, class: usize) {
-    io::write_all(1, what);
+pub(crate) fn answers<'a>(library: &'a [u8], user: &'a [u8], used: usize, class: usize) {
     say_marks(library, user, used, class);
     say_place(library, user, used, class);
     say_name(library, user, used, class);
 }
 
-// The same where the library sheet is the start of a buffer.
-pub(crate) fn case_of<'a>(
-    what: &[u8],
-    library: &'a [u8],
-    size: usize,
-    user: &'a [u8],
-    used: usize,
-    class: usize,
-) {
-    if size <= library.len() {
-        case(what, &library[0..size], user, used, class);
+// A byte of a row stands after a colon, a space or a bar: two bytes are one class's verdict.
+fn row_byte(i: usize, byte: u8) {
+    if i == 0 {
+        number(b": ", byte as usize);
+        return;
+    }
+    if i % 2 == 1 {
+        number(b" ", byte as usize);
+        return;
+    }
+    number(b" | ", byte as usize);
+}
+
+pub(crate) fn row(verdicts: &[u8]) {
+    let mut i = 0;
+    while i < verdicts.len() {
+        row_byte(i, verdicts[i]);
+        i += 1;
     }
 }

@@ -2,9 +2,9 @@
 -- Assumes nothing.
 use mathlib.Core.Path.{_≡_, sym, ap, _∙_}
 use mathlib.Core.List.{List, _++_}
-use Prim.Native.Nat.{ℕ, _+_, _≤_}
+use Prim.Native.Nat.{ℕ, _+_}
 use native.Mathlib.Omega.{arith}
-use lib.ListN.{length, getD, drop, replicate, length-drop}
+use lib.ListN.{drop, replicate, length-drop}
 use lib.Seq.{getD-drop, ext-getD}
 use Rattle.spec.specs.Sheet.{Group}
 use Rattle.spec.specs.Promises.{cleared}

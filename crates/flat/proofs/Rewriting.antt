@@ -1,14 +1,14 @@
 -- The row while verdicts are written, class by class.
 -- Assumes nothing.
 use mathlib.Core.Path.{_≡_, refl, sym, ap, _∙_, subst}
-use mathlib.Core.Bool.{Bool, true, false, not, _&&_}
+use mathlib.Core.Bool.{Bool, true, false, _&&_}
 use mathlib.Core.List.{List}
 use Prim.Native.Nat.{ℕ, _+_, _*_, _-_, _≤_, _<_}
 use native.Mathlib.Decide.{ℕ-discrete}
 use native.Mathlib.Omega.{arith}
-use lib.Dec.{T, T-not, eqb, ltb, eqb→eq, ltb→lt, nltb→le}
+use lib.Dec.{T-not, eqb, ltb, eqb→eq, ltb→lt, nltb→le}
 use lib.ListN.{length, getD, set}
-use borrow.Author.Tests.{eq-eqb, ne-eqb, lt-ltb, le-ltb}
+use borrow.Author.Tests.{ne-eqb, lt-ltb, le-ltb}
 use Rattle.spec.specs.Rules.{Verdict}
 use Rattle.spec.specs.Verdicts.{flatLines, flatRewritten}
 use Rattle.theory.proofs.Bools.{false-t, true-t, eq→eqb}

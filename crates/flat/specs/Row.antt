@@ -20,3 +20,7 @@ chosen nlib n marks i = ltb (nlib + i) n && eqb (getD marks (nlib + i) 0) 0
 -- the faulted ones among the first n verdicts
 unfoldable pub faultedIn : List ℕ → ℕ → ℕ
 faultedIn row n = count (λ i. not (eqb (flatAt row i .rule) 0)) (span 0 n)
+
+-- those of the first n classes whose mark is 0
+unfoldable pub markedIn : List ℕ → ℕ → ℕ
+markedIn marks n = count (λ c. eqb (getD marks c 0) 0) (span 0 n)

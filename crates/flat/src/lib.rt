@@ -19,7 +19,7 @@ ghost use Rattle.groups.specs.Groups.{Indexed};
 ghost use Rattle.overlay.specs.Memo.{Right};
 ghost use Rattle.overlay.specs.Types.{Known};
 ghost use Rattle.captured.specs.Captured.{Shown};
-ghost use Rattle.flat.specs.Row.{putIf, chosen, faultedIn};
+ghost use Rattle.flat.specs.Row.{putIf, chosen, faultedIn, markedIn};
 
 // Writes the verdict of class c if its mark is 0.
 fn rewrite_class(
@@ -181,6 +181,22 @@ pub fn faulted(verdicts: &[u8], n: usize) -> usize
             m += 1;
         }
         i += 1;
+    }
+    m
+}
+
+// How many of the first n classes have the mark 0.
+pub fn marked(marks: &[u8], n: usize) -> usize
+    requires { ⌜ n ≤ length (now marks) ⌝ }
+    ensures { λ r. ⌜ r ≡ markedIn (now (marks .entry)) n ⌝ }
+{
+    let mut c = 0;
+    let mut m = 0;
+    while c < n {
+        if marks[c] == 0 {
+            m += 1;
+        }
+        c += 1;
     }
     m
 }

@@ -37,7 +37,7 @@ module _ {x : ℕ} {before row : List ℕ} {k i : ℕ} (f : FilledTo x before ro
 
 -- ---- what stands there
 
-getD-replicate : (k x d i : ℕ) → i < k → getD (replicate k x) i d ≡ x
+pub getD-replicate : (k x d i : ℕ) → i < k → getD (replicate k x) i d ≡ x
 getD-replicate zero x d i h = absurd (omega arith)
 getD-replicate (suc k) x d zero h = refl
 getD-replicate (suc k) x d (suc i) h = getD-replicate k x d i (omega arith)

@@ -9,7 +9,7 @@ use Prim.Native.Nat.{ℕ, _+_, _*_, _-_, _≤_, _<_}
 use native.Mathlib.Decide.{ℕ-discrete}
 use native.Mathlib.Omega.{arith}
 use lib.Dec.{T, ltb}
-use lib.ListN.{length, getD, set, drop, replicate, length-set, length-append, length-drop, List·getD-append}
+use lib.ListN.{length, getD, set, drop, replicate, length-append, length-drop, List·getD-append}
 use lib.Seq.{getD-set-same, getD-set-other, getD-append-add, getD-drop, ext-getD}
 use borrow.Author.Tests.{lt-ltb, ltb-true, ltb-false}
 use Rattle.spec.specs.Lists.{gather, elem, span, reach}

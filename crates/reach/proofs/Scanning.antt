@@ -13,7 +13,6 @@ use Rattle.pass.specs.Pass.{recordAt}
 use Rattle.groups.specs.Groups.{sheetNumber, startOf, endOf, between, Indexed}
 use Rattle.groups.proofs.Between.{tiled-end}
 use Rattle.groups.proofs.Walks.{AtRecord, walk-start, walk-here, walk-next}
-use Rattle.second.specs.Second.{Sized}
 use Rattle.named.specs.Named.{firstNamed, secondNamed}
 use Rattle.lanes.specs.Lanes.{Run, SettledAt, Enclosers, Joint, Offered}
 use Rattle.lanes.proofs.Visiting.{VisitAt, visit-start, visit-next, visit-end}

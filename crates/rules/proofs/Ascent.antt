@@ -2,11 +2,10 @@
 -- Assumes nothing.
 use mathlib.Core.Path.{_≡_, refl, sym, ap, ap₂, _∙_, subst}
 use mathlib.Core.Logic.{_⊎_, inl, inr}
-use mathlib.Core.Bool.{Bool, true, false, not, _&&_}
-use mathlib.Core.List.{List, [], _∷_, _++_, append-nil, List·Memᴰ, List·Memᴰ·head, List·Memᴰ·tail, List·Memᴰ·cases-cons, List·Memᴰ·append-cases, Memᴰ·append-left, Memᴰ·append-right}
+use mathlib.Core.Bool.{Bool, true, false, not}
+use mathlib.Core.List.{List, [], _∷_, _++_, append-nil}
 use Prim.Native.Nat.{ℕ, suc, _+_, _≤_, _<_}
 use native.Mathlib.Nat.{le-refl}
-use native.Mathlib.Decide.{ℕ-discrete}
 use native.Mathlib.Omega.{arith}
 use lib.Dec.{T, eqb, ltb, ltb→lt, nltb→le}
 use borrow.Author.Tests.{eq-eqb, ne-eqb, lt-ltb, le-ltb, ltb-true}
@@ -15,10 +14,9 @@ use Rattle.spec.specs.Record.{superclass}
 use Rattle.spec.specs.Sheet.{Group, classRecord, isInterface}
 use Rattle.spec.specs.Classes.{superclasses, hasMarker, lineageIn, lineage, rootIn, root}
 use Rattle.spec.specs.Rules.{judgedFor}
-use Rattle.spec.specs.Relations.{Lineage, self, up}
 use Rattle.theory.proofs.Bools.{decide, true-t, and-l}
 use Rattle.theory.proofs.Falls.{Falls}
-use Rattle.theory.proofs.Lines.{walk-enough, lineage-library, lineage-more, root-library, root-more, lineage-is, root-is, lineage-user}
+use Rattle.theory.proofs.Lines.{walk-enough, lineage-library, lineage-more, root-library, root-more}
 use Rattle.theory.proofs.Form.{Super}
 use Rattle.breaks.specs.Breaking.{ruleMarker}
 use Rattle.rules.specs.Walk.{above, order, afterward, firstClass, nextClass, classesFrom}

@@ -1,34 +1,26 @@
 -- The walk finds what the rules say: for each rule the same records stand.
 -- Assumes nothing.
 use mathlib.Core.Path.{_≡_, refl, sym, ap, _∙_, subst}
-use mathlib.Core.Logic.{_⊎_, inl, inr, _↔_}
-use mathlib.Core.Bool.{Bool, true, false, not, _&&_, _||_}
-use mathlib.Core.List.{List, [], _∷_, _++_, map, append-nil, List·Memᴰ, List·Memᴰ·head, List·Memᴰ·tail, List·Memᴰ·not-nil, List·Memᴰ·cases-cons, List·Memᴰ·append-cases, Memᴰ·append-left, Memᴰ·append-right, Memᴰ·map, Memᴰ·of-map, List·Memᴰ·eq-of-singleton}
-use Prim.Native.Nat.{ℕ, zero, suc, _+_, _≤_, _<_}
-use native.Mathlib.Nat.{zero-add, le-refl}
-use native.Mathlib.Omega.{arith}
-use lib.Dec.{T, T-not, eqb, ltb, eqb→eq, ltb→lt, nltb→le}
-use lib.ListN.{length, getD, take, List·getD-eq-default}
-use borrow.Author.Tests.{eq-eqb, ne-eqb, lt-ltb, le-ltb}
-use Rattle.spec.specs.Lists.{any, keep, gather, numbered, onlyIf}
-use Rattle.spec.specs.Record.{bit, kind, isKind, isClass, CLASS, FIELD, REFERS, flags, ownMarkers, superclass, target, index, fieldTy, isFinal, isStatic, references}
-use Rattle.spec.specs.Sheet.{Group, classRecord, isInterface, isStaticField, isInstanceField}
-use Rattle.spec.specs.Markers.{Immutable, Powerless, Selfless, Token, Throwable, Enum, DeepSelfless, clash}
-use Rattle.spec.specs.Classes.{Slot, fieldSlot, encloserSlot, variableSlot, superclasses, enclosing, overlay, hasMarker, satisfies, localAt, captured, encloserSlots, fieldSlots, capturedSlots, ownSlots, lineage, root, slots}
-use Rattle.spec.specs.Rules.{Fault, staticMarker, slotFault, faultIf, faultsAt, memberAllowed, judgedFor, rootFits, baseFits, baseFaults, forbidden, slotFaults, rootFaults, rule1, rule2, rule3, rule4, rule5, rule6, rule7, rule8, rule9, rule10, placeIn}
-use Rattle.spec.specs.Relations.{At, here, next, Lineage, self, up, Captures}
+use mathlib.Core.Logic.{_↔_}
+use mathlib.Core.Bool.{Bool, true, false, not, _||_}
+use mathlib.Core.List.{List, [], _∷_, List·Memᴰ, List·Memᴰ·head, Memᴰ·map, Memᴰ·of-map, List·Memᴰ·eq-of-singleton}
+use Prim.Native.Nat.{ℕ, _≤_}
+use native.Mathlib.Nat.{zero-add}
+use lib.Dec.{T, eqb}
+use lib.ListN.{take}
+use borrow.Author.Tests.{le-ltb}
+use Rattle.spec.specs.Lists.{any, keep, gather, numbered}
+use Rattle.spec.specs.Record.{isClass}
+use Rattle.spec.specs.Sheet.{Group, classRecord}
+use Rattle.spec.specs.Rules.{Fault, faultIf, faultsAt, rule1, rule2, rule3, rule4, rule5, rule6, placeIn}
+use Rattle.spec.specs.Relations.{At, here}
 use Rattle.spec.specs.Refusals.{oneClass}
-use Rattle.theory.proofs.Bools.{decide, t-true, t-false, true-t, false-t, t-and, and-l, and-r, or-cases, or-l, or-r, eq→eqb}
-use Rattle.theory.proofs.Members.{gather-mem, mem-gather, keep-mem, mem-keep, only-mem, mem-only, numbered-at, at-numbered, any-mem, mem-any}
-use Rattle.theory.proofs.Falls.{Falls}
-use Rattle.theory.proofs.Lines.{lineage-is, root-is, lineage-user, inside-lower}
-use Rattle.theory.proofs.Capture.{chain-inside}
-use Rattle.theory.proofs.Slots.{place-own, place-other, place-zero}
-use Rattle.theory.proofs.Faults.{Stands, stands-append, stands-only, stands-if, stands-gather, Bad, stands-at}
-use Rattle.theory.proofs.Form.{Super}
+use Rattle.theory.proofs.Bools.{and-l}
+use Rattle.theory.proofs.Members.{gather-mem, mem-gather, keep-mem, mem-keep, numbered-at, at-numbered}
+use Rattle.theory.proofs.Slots.{place-own}
+use Rattle.theory.proofs.Faults.{Stands, stands-if, stands-at}
 use Rattle.breaks.specs.Breaking.{firstRules, breaksAt}
-use Rattle.rules.specs.Walk.{onlyFirst, asked, foundIn, found, above, order, walked}
-use Rattle.rules.proofs.Ascent.{lineage-up, root-up}
+use Rattle.rules.specs.Walk.{onlyFirst, asked, foundIn, found, order, walked}
 
 -- a record of a class that the walk asks breaks the rule, and its fault stands at x
 pub record Hit (nlib : ℕ) (g : ℕ → Group) (rule c x : ℕ) : Type 0 where

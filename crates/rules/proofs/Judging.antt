@@ -1,21 +1,20 @@
 -- How far the judging of a class has come: over rules, over the classes that a rule asks, and over the records of one of them. What is left finds what the whole walk finds.
 -- Assumes nothing.
-use mathlib.Core.Path.{_≡_, refl, sym, ap, ap₂, _∙_, subst}
+use mathlib.Core.Path.{_≡_, refl, sym, ap, _∙_, subst}
 use mathlib.Core.Logic.{_⊎_, inl, inr}
 use mathlib.Core.Bool.{Bool, true, false, not}
 use mathlib.Core.List.{List, [], _∷_, _++_, map, append-nil, List·Memᴰ, List·Memᴰ·head, List·Memᴰ·cases-cons, Memᴰ·of-map}
-use mathlib.Core.Option.{none}
 use Prim.Native.Nat.{ℕ, suc, _+_, _-_, _≤_, _<_}
 use native.Mathlib.Nat.{add-zero, zero-add, add-suc, suc-add}
 use native.Mathlib.Numerals.{add-one}
 use native.Mathlib.Decide.{ℕ-discrete}
 use native.Mathlib.Omega.{arith}
-use lib.Dec.{T, eqb, ltb}
+use lib.Dec.{T}
 use lib.ListN.{length, take, drop, length-append, take-append-drop}
 use Rattle.spec.specs.Lists.{keep, gather, numbered, concat}
 use Rattle.spec.specs.Record.{u16}
 use Rattle.spec.specs.Sheet.{Group, group, isInterface}
-use Rattle.spec.specs.Rules.{Fault, Verdict, clean, placeIn, verdictOf}
+use Rattle.spec.specs.Rules.{Fault, clean, placeIn, verdictOf}
 use Rattle.spec.specs.Relations.{At, here, next}
 use Rattle.theory.specs.Claims.{sheetOf}
 use Rattle.theory.proofs.All.{keep-yes, keep-no}
@@ -29,7 +28,7 @@ use Rattle.groups.proofs.Walks.{AtRecord, walk-here, walk-next}
 use Rattle.groups.proofs.Few.{group-few}
 use Rattle.second.specs.Second.{Sized}
 use Rattle.second.proofs.Positions.{walk-sized}
-use Rattle.breaks.specs.Breaking.{Standing, breaksAt}
+use Rattle.breaks.specs.Breaking.{breaksAt}
 use Rattle.rules.specs.Walk.{onlyFirst, asked, foundIn, found, afterward, classesFrom, firstClass, nextClass, walked}
 use Rattle.rules.proofs.Ascent.{Spot, left, Onward, Begins, after-self, from-there, from-past, onward, begins}
 use Rattle.rules.proofs.Hits.{asked-all, asked-one}

@@ -8,15 +8,14 @@ use Prim.Native.Nat.{ℕ, _≤_, _<_}
 use native.Mathlib.Nat.{zero-add, le-refl}
 use native.Mathlib.Decide.{ℕ-discrete}
 use native.Mathlib.Omega.{arith}
-use lib.Dec.{T, eqb, ltb, eqb→eq}
+use lib.Dec.{T, eqb, eqb→eq}
 use lib.ListN.{take, List·getD-eq-default}
-use borrow.Author.Tests.{eq-eqb, ne-eqb, lt-ltb, le-ltb}
-use Rattle.spec.specs.Lists.{any, keep, gather, numbered, onlyIf}
-use Rattle.spec.specs.Record.{kind, isKind, isClass, CLASS, FIELD, isStatic, superclass, flags}
+use borrow.Author.Tests.{ne-eqb, lt-ltb, le-ltb}
+use Rattle.spec.specs.Lists.{keep, gather, numbered, onlyIf}
+use Rattle.spec.specs.Record.{kind, isKind, CLASS, FIELD, isStatic, superclass}
 use Rattle.spec.specs.Sheet.{Group, classRecord, isInterface, isInner, isInstanceField}
-use Rattle.spec.specs.Markers.{Immutable, Powerless, DeepSelfless}
 use Rattle.spec.specs.Classes.{Slot, fieldSlot, encloserSlot, variableSlot, superclasses, enclosing, hasMarker, localAt, captured, encloserSlots, fieldSlots, capturedSlots, ownSlots, lineage, root, slots}
-use Rattle.spec.specs.Rules.{Fault, slotFault, judgedFor, rootFits, baseFits, baseFaults, slotFaults, rootFaults, rule7, rule8, rule9, rule10, placeIn}
+use Rattle.spec.specs.Rules.{Fault, slotFault, judgedFor, slotFaults, placeIn}
 use Rattle.spec.specs.Relations.{At, Lineage, self, up}
 use Rattle.spec.specs.Refusals.{oneClass}
 use Rattle.theory.proofs.Bools.{t-and, and-l, and-r, or-cases, or-l, or-r, eq→eqb}
@@ -24,9 +23,9 @@ use Rattle.theory.proofs.Members.{Among, gather-mem, mem-gather, keep-mem, mem-
 use Rattle.theory.proofs.Falls.{Falls}
 use Rattle.theory.proofs.Lines.{lineage-is, root-is, lineage-user}
 use Rattle.theory.proofs.Slots.{place-other, place-zero}
-use Rattle.theory.proofs.Faults.{Stands, stands-append, stands-only, stands-gather, Failing, failing-is}
+use Rattle.theory.proofs.Faults.{Stands, stands-append, stands-only, Failing, failing-is}
 use Rattle.theory.proofs.Form.{Super}
-use Rattle.breaks.specs.Breaking.{fromSeven, ruleMarker, slotFits, fixedBreaks, rootBreaks, baseBreaks, fieldBreaks, headBreaks, firstRules, breaksAt}
+use Rattle.breaks.specs.Breaking.{ruleMarker, slotFits, fixedBreaks, rootBreaks, baseBreaks, fieldBreaks, headBreaks, firstRules, breaksAt}
 use Rattle.rules.specs.Walk.{onlyFirst, asked, above, order}
 use Rattle.rules.proofs.Ascent.{lineage-up, root-up}
 use Rattle.rules.proofs.Hits.{Hit, first-at, at-first, class-at, class-first, asked-all, asked-one}

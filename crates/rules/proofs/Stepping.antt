@@ -11,7 +11,7 @@ use borrow.Author.Tests.{eq-eqb, ne-eqb, lt-ltb, le-ltb}
 use Rattle.spec.specs.Lists.{concat}
 use Rattle.spec.specs.Record.{u16, bit, flags, superclass}
 use Rattle.spec.specs.Sheet.{Group, group, classRecord, isInterface}
-use Rattle.spec.specs.Classes.{overlay, hasMarker}
+use Rattle.spec.specs.Classes.{hasMarker}
 use Rattle.spec.specs.Rules.{judgedFor, placeIn}
 use Rattle.theory.specs.Claims.{sheetOf}
 use Rattle.theory.proofs.Bools.{t-true, or-l, or-r, eq→eqb}

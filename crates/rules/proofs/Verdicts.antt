@@ -1,27 +1,25 @@
 -- The verdict of a class from what the walk finds: the first rule under which it finds a fault, and the first fault there.
 -- Assumes nothing.
-use mathlib.Core.Path.{_≡_, refl, sym, ap, ap₂, _∙_, subst}
-use mathlib.Core.Logic.{_⊎_, inl, inr, _↔_, _≢_}
-use mathlib.Core.Bool.{Bool, true, false, not}
-use mathlib.Core.List.{List, [], _∷_, _++_, map, append-nil, List·Memᴰ, List·Memᴰ·head, List·Memᴰ·not-nil, List·Memᴰ·cases-cons, Memᴰ·of-map}
+use mathlib.Core.Path.{_≡_, refl, sym, ap₂, subst}
+use mathlib.Core.Logic.{_⊎_, inl, inr, _↔_}
+use mathlib.Core.Bool.{Bool, not}
+use mathlib.Core.List.{List, [], map, List·Memᴰ, List·Memᴰ·not-nil}
 use mathlib.Core.Option.{none}
 use Prim.Native.Nat.{ℕ, zero, suc, _+_, _≤_, _<_}
-use native.Mathlib.Nat.{not-suc-le-zero, le-of-suc-le-suc}
+use native.Mathlib.Nat.{not-suc-le-zero}
 use native.Mathlib.Decide.{ℕ-discrete}
 use native.Mathlib.Omega.{arith}
 use lib.Dec.{T, eqb, ltb, ltb→lt, nltb→le, lit<}
-use lib.ListN.{length, getD, List·getD-eq-default}
-use Rattle.spec.specs.Lists.{keep, gather, numbered}
+use lib.ListN.{getD, List·getD-eq-default}
 use Rattle.spec.specs.Record.{flags}
-use Rattle.spec.specs.Sheet.{Group, classCount, group, classRecord, isInterface}
+use Rattle.spec.specs.Sheet.{Group, group, classRecord, isInterface}
 use Rattle.spec.specs.Markers.{Immutable, Powerless, DeepSelfless}
 use Rattle.spec.specs.Classes.{superclasses, captured, root}
-use Rattle.spec.specs.Rules.{Fault, Verdict, clean, rootFits, rootFaults, baseFits, baseFaults, rule1, rule2, rule3, rule4, rule5, rule6, rule7, rule8, rule9, rule10, rules, placeIn, firstBroken, verdictOf}
+use Rattle.spec.specs.Rules.{Fault, Verdict, clean, rootFits, rootFaults, baseFits, baseFaults, rule7, rule8, rule9, rule10, rules, placeIn, verdictOf}
 use Rattle.spec.specs.Refusals.{oneClass, formRefusal}
-use Rattle.theory.proofs.Bools.{decide, true-t, false-t}
-use Rattle.theory.proofs.Members.{keep-mem, numbered-at, any-mem, mem-any}
+use Rattle.theory.proofs.Bools.{decide}
+use Rattle.theory.proofs.Members.{any-mem, mem-any}
 use Rattle.theory.proofs.Falls.{Falls}
-use Rattle.theory.proofs.Slots.{place-own, place-other}
 use Rattle.theory.proofs.Faults.{Stands, stands-is, stands-gather}
 use Rattle.theory.proofs.Lowest.{Outcome, unbroken, broken, outcome}
 use Rattle.theory.proofs.Accept.{Sound}
@@ -30,11 +28,10 @@ use Rattle.theory.proofs.Capture.{chain-inside, captured-is}
 use Rattle.theory.proofs.Form.{Super, sound-falls, sound-super, sound-bound, sound-variables, group-one-class}
 use Rattle.groups.specs.Groups.{Indexed}
 use Rattle.groups.proofs.Few.{indexed-sound}
-use Rattle.breaks.specs.Breaking.{fromSeven, ruleMarker, slotFits, rootBreaks, baseBreaks, breaksAt}
-use Rattle.rules.specs.Walk.{foundIn, found, afterward, walked}
+use Rattle.breaks.specs.Breaking.{fromSeven, ruleMarker, slotFits, rootBreaks, baseBreaks}
+use Rattle.rules.specs.Walk.{walked}
 use Rattle.rules.proofs.Hits.{Hit, hit-is, hits1, hits2, hits3, hits4, hits5, hits6}
 use Rattle.rules.proofs.Slotted.{Extra, slot-hits}
-use Rattle.rules.proofs.Ascent.{Spot, after-self}
 
 -- what acceptance gives the walk
 pub record Ground (nlib n : ℕ) (g : ℕ → Group) : Type 0 where

@@ -1,19 +1,19 @@
 -- The user sheet that an Add or a Replace makes of an accepted sheet and a whole group is whole groups end to end.
 -- So 2 cannot refuse it, and neither can the library's first pass: `newRefusal` is all of `sheetRefusal`.
 -- Assumes nothing.
-use mathlib.Core.Path.{_≡_, ap, _∙_, subst}
+use mathlib.Core.Path.{_≡_, sym, ap, _∙_, subst}
 use mathlib.Core.List.{List, [], _∷_, _++_, map, append-nil}
 use mathlib.Core.Option.{none}
-use Prim.Native.Nat.{ℕ, _-_}
+use Prim.Native.Nat.{ℕ, _+_, _-_}
 use lib.Dec.{eqb}
-use lib.ListN.{length, take, set}
+use lib.ListN.{length, take, set, length-append, length-map, length-set}
 use Rattle.spec.specs.Lists.{concat}
-use Rattle.spec.specs.Sheet.{wholeEnd, groupsOf, classCount}
+use Rattle.spec.specs.Sheet.{recordsOf, wholeEnd, groupsOf, classCount}
 use Rattle.spec.specs.Refusals.{tornRefusal, sheetRefusal, newRefusal, presentRefusal, addedSheet, replacedSheet}
 use Rattle.theory.specs.Claims.{NewSheets}
 use Rattle.theory.proofs.Bools.{eq→eqb, not-not}
 use Rattle.theory.proofs.All.{all-append, all-set}
-use Rattle.theory.proofs.Cut.{IsGroup, concat-append, sheet-grouped, sheet-groups, whole-join}
+use Rattle.theory.proofs.Cut.{IsGroup, concat-append, groups-of-join, sheet-grouped, sheet-groups, whole-join}
 use Rattle.theory.proofs.Answers.{first-none, skip-none, keep-head, none-if}
 use Rattle.theory.proofs.Accept.{Clear, sound}
 
@@ -38,6 +38,23 @@ module _ {sheet n : ℕ} {user : List ℕ} (clear : Clear sheet n user) (g : Lis
       let gs : List (List ℕ) = map concat (groupsOf user) in
       let i : ℕ = c - classCount library in
       whole-join (set gs i g) (all-set IsGroup gs i g (sheet-groups user (clear .end) (clear .loose)) whole)
+
+  -- one class more, and as many
+  pub added-count : classCount (addedSheet user g) ≡ classCount user + 1
+  unfolding addedSheet classCount
+  added-count =
+      let gs : List (List ℕ) = map concat (groupsOf user) in
+      ap (λ (s : List ℕ). length (groupsOf s)) (sym (concat-last gs g ∙ ap (λ (s : List ℕ). s ++ g) (sheet-grouped user (clear .end) (clear .loose))))
+      ∙ ap length (groups-of-join (gs ++ (g ∷ [])) (all-append IsGroup gs (g ∷ []) (sheet-groups user (clear .end) (clear .loose)) (whole, tt)))
+      ∙ length-map (gs ++ (g ∷ [])) recordsOf ∙ length-append gs (g ∷ []) ∙ ap (λ (k : ℕ). k + 1) (length-map (groupsOf user) concat)
+
+  pub replaced-count : (library : List ℕ) (c : ℕ) → classCount (replacedSheet library user c g) ≡ classCount user
+  unfolding replacedSheet classCount
+  replaced-count library c =
+      let gs : List (List ℕ) = map concat (groupsOf user) in
+      let i : ℕ = c - classCount library in
+      ap length (groups-of-join (set gs i g) (all-set IsGroup gs i g (sheet-groups user (clear .end) (clear .loose)) whole))
+      ∙ length-map (set gs i g) recordsOf ∙ length-set gs i g ∙ length-map (groupsOf user) concat
 
 -- beside a library that was accepted, a sheet of whole records
 pub sheet-new : (library user new : List ℕ) → sheetRefusal library user ≡ none → wholeEnd new ≡ length new → sheetRefusal library new ≡ newRefusal library new

@@ -1,20 +1,19 @@
 -- All verdicts of accepted sheets: the row, the faulted ones, and what refuses a judging.
 -- Assumes nothing.
-use mathlib.Core.Path.{_≡_, refl, sym, ap, ap₂, _∙_, subst}
+use mathlib.Core.Path.{_≡_, refl, sym, ap, ap₂, _∙_}
 use mathlib.Core.Bool.{Bool, true, false, not, _&&_, _||_}
 use mathlib.Core.List.{List}
 use mathlib.Core.Option.{Option, none, some}
 use Prim.Native.Nat.{ℕ, _+_, _*_, _-_, _/_, _≤_, _<_, min}
 use native.Mathlib.Omega.{arith}
-use lib.Dec.{T, eqb, ltb, lt→ltb}
+use lib.Dec.{eqb, ltb, lt→ltb}
 use lib.ListN.{length, getD, take}
 use borrow.Author.Tests.{lt-ltb, le-ltb, ltb-true, ltb-false}
-use Rattle.spec.specs.Lists.{count, span}
-use Rattle.spec.specs.Sheet.{Group, classCount, total, group}
+use Rattle.spec.specs.Sheet.{classCount, total, group}
 use Rattle.spec.specs.Rules.{Verdict, verdictOf}
 use Rattle.spec.specs.Verdicts.{verdictAt, userVerdict, faulted, faultedCount, flatLines, flatAt, bytesOf, flatRewritten, flat}
-use Rattle.spec.specs.Refusals.{Refusal, refuseIf, refusePlain, presentRefusal, shortRefusal, judgeRefusal}
-use Rattle.spec.specs.Promises.{Counts, countsOf, afterwards, answerOf, refused, accepted, cleared, judgedRow, Judges}
+use Rattle.spec.specs.Refusals.{Refusal, refuseIf, refusePlain, shortRefusal, judgeRefusal}
+use Rattle.spec.specs.Promises.{countsOf, afterwards, refused, accepted, cleared, judgedRow, Judges}
 use Rattle.theory.proofs.Answers.{first-past, first-some}
 use Rattle.theory.proofs.Counts.{count-same}
 use Rattle.theory.proofs.FlatRow.{read-new, even, rewritten-length, rewritten-same}

@@ -1,12 +1,11 @@
 -- `flat::faulted`.
 -- Assumes nothing.
 use Prim.Native.Nat.{_-_}
-use mathlib.Core.Path.{refl, ap, _∙_}
+use mathlib.Core.Path.{refl}
 use mathlib.Core.Logic.{⊎-elim}
 use native.Mathlib.Omega.{arith}
 use borrow.Author.Needs.{needs}
-use Rattle.flat.specs.Row.{faultedIn}
-use Rattle.flat.proofs.Counting.{CountAt, lines-room, count-start, count-clean, count-faulted, count-end}
+use Rattle.flat.proofs.Counting.{CountAt, faultedAt, lines-room, count-start, count-no, count-yes, count-end, rule-clean, rule-broken, faulted-is}
 use Rattle.flat.proofs.faulted.Statement.{statement}
 use Rattle.flat.proofs.faulted.Tie as tie
 use Rattle.flat.proofs.faulted.Reads as reads
@@ -14,7 +13,7 @@ use Rattle.flat.proofs.faulted.Lts as lts
 use Rattle.flat.proofs.lines_of.Reads as lines-of-reads
 
 abbrev Inv-loop : tie.InvT-loop
-Inv-loop verdicts n end i₀ m₀ i m = CountAt verdicts end i m
+Inv-loop verdicts n end i₀ m₀ i m = CountAt (faultedAt verdicts) end i m
 
 abbrev μ-loop : tie.MeasureT-loop
 μ-loop verdicts n end i₀ m₀ i m = end - i
@@ -49,11 +48,12 @@ loop-less c = omega arith
 
 -- src/lib.rt:25:5
 loop-again : tie.Need-loop-again Inv-loop μ-loop
-loop-again c = ⊎-elim (λ w. count-faulted (c .before .before .before .loop .inv) (omega arith) refl (w .0 .taken) (w .1)) (λ w. count-clean (c .before .before .before .loop .inv) (omega arith) refl (w .0 .left) (w .1)) (c .if1 .came)
+loop-again c =
+    ⊎-elim (λ w. count-yes (c .before .before .before .loop .inv) (omega arith) (rule-broken _ _ refl (w .0 .taken)) (w .1)) (λ w. count-no (c .before .before .before .loop .inv) (omega arith) (rule-clean _ _ refl (w .0 .left)) (w .1)) (c .if1 .came)
 
 -- src/lib.rt:19:1
 returns : tie.Need-returns Inv-loop μ-loop
-returns c = count-end (c .before .loop .inv) (omega arith) ∙ ap (faultedIn _) (c .before .before .lines-of .ensures)
+returns c = faulted-is _ (count-end (c .before .loop .inv) (omega arith)) (c .before .before .lines-of .ensures)
 
 pub faulted-spec : {M : Type 1} → statement M
 faulted-spec =

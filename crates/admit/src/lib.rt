@@ -1,0 +1,55 @@
+// Whether a group may be put into the user sheet: 14, 15, then 3 to 11 of the sheet that it makes, read through the view, then 12.
+use form::Checked;
+use form::check;
+use view::Cut;
+use view::view_len;
+use whole::whole_group;
+ghost use mathlib.Core.Path.{_≡_};
+ghost use mathlib.Core.Option.{none};
+ghost use Prim.Native.Nat.{_≤_};
+ghost use lib.ListN.{length, replicate};
+ghost use Rattle.spec.specs.Sheet.{classCount, total};
+ghost use Rattle.view.specs.View.{Fits, spliced};
+ghost use Rattle.form.specs.Form.{Ready, checkedOf};
+ghost use Rattle.admit.specs.Admitting.{admitRefusal, Plain};
+
+// The number of verdicts that the row takes and the scratch's length are handed over, since nothing is written here.
+pub fn admit(
+    library: &[u8],
+    user: &[u8],
+    group: &[u8],
+    cut: Cut,
+    lines: usize,
+    scratch: usize,
+    starts: &mut [u16],
+    memo: &mut [u16],
+) -> Checked
+    requires { ⌜ Fits cut (now user) ⌝ }
+    requires { ⌜ length (now library) ≤ 32768 ⌝ }
+    requires { ⌜ (length (now starts) ≡ 256) × (now memo ≡ replicate 256 65535) ⌝ }
+    requires { ⌜ Plain (now library) (now group) (spliced (now user) (now group) cut) ⌝ }
+    ensures answer { λ r. ⌜ r ≡ checkedOf (admitRefusal (now (library .entry)) (now (user .entry)) (now (group .entry)) (spliced (now (user .entry)) (now (group .entry)) cut) lines scratch) (classCount (now (library .entry))) (total (now (library .entry)) (spliced (now (user .entry)) (now (group .entry)) cut)) ⌝ }
+    ensures rows { λ r. ⌜ (admitRefusal (now (library .entry)) (now (user .entry)) (now (group .entry)) (spliced (now (user .entry)) (now (group .entry)) cut) lines scratch ≡ none → Ready (now (library .entry)) (spliced (now (user .entry)) (now (group .entry)) cut) (now (starts .exit)) (now (memo .exit))) ⌝ }
+{
+    if !whole_group(group) {
+        return Checked::Refused(14, 0, 0);
+    }
+    let size = view_len(user, group, cut);
+    if user.len() < size {
+        return Checked::Refused(15, 0, 0);
+    }
+    if 32768 < size {
+        return Checked::Refused(15, 0, 0);
+    }
+    let checked = check(library, user, group, cut, starts, memo);
+    let Checked::Fine(nlib, n) = checked else {
+        return checked;
+    };
+    if lines < n - nlib {
+        return Checked::Refused(12, 0, 0);
+    }
+    if scratch < 65536 {
+        return Checked::Refused(12, 0, 0);
+    }
+    checked
+}

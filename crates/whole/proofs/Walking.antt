@@ -1,0 +1,212 @@
+-- The records of a list of bytes, walked by positions: those from a byte on, and whether they end where the bytes end and no CLASS is among them.
+-- Assumes nothing.
+use mathlib.Core.Path.{_≡_, refl, sym, ap, _∙_}
+use mathlib.Core.Bool.{Bool, true, false, not, _&&_}
+use mathlib.Core.List.{List, [], _∷_}
+use Prim.Native.Nat.{ℕ, zero, suc, _+_, _≤_, _<_}
+use native.Mathlib.Nat.{zero-add}
+use native.Mathlib.Decide.{ℕ-discrete}
+use native.Mathlib.Omega.{arith}
+use lib.Dec.{eqb}
+use lib.ListN.{length, take, drop, length-append, length-drop}
+use lib.Seq.{drop-drop}
+use borrow.Author.Tests.{eq-eqb, ne-eqb}
+use Rattle.spec.specs.Lists.{any, concat}
+use Rattle.spec.specs.Record.{u16, isClass}
+use Rattle.spec.specs.Sheet.{wholeFirst, recordsIn, recordsOf, wholeEnd}
+use Rattle.spec.specs.Refusals.{oneClass, wholeGroup}
+use Rattle.theory.proofs.Bools.{true-t}
+use Rattle.theory.proofs.Parts.{u16-here, part-length, part-kind}
+use Rattle.theory.proofs.Cut.{first-is, is-first, records-first}
+use Rattle.whole.specs.Lengths.{wholeLength}
+
+-- ---- fuel
+
+records-stop-in : (n : ℕ) (s : List ℕ) → wholeFirst s ≡ false → recordsIn n s ≡ []
+unfolding recordsIn
+records-stop-in zero s e = refl
+records-stop-in (suc n) s e = rw (e, recordsIn)
+
+none-first : (s : List ℕ) → length s < 4 → wholeFirst s ≡ false
+none-first s h = go (wholeFirst s) refl
+  where
+    go : (b : Bool) → wholeFirst s ≡ b → b ≡ false
+    go true e = absurd (omega (arith, first-is s (true-t e) .left))
+    go false e = refl
+
+-- as many steps as there are bytes are enough
+fuel : (n m : ℕ) (s : List ℕ) → length s ≤ n → length s ≤ m → recordsIn n s ≡ recordsIn m s
+fuel zero m s h k = records-stop-in zero s (none-first s (omega arith)) ∙ sym (records-stop-in m s (none-first s (omega arith)))
+fuel (suc n) zero s h k = records-stop-in (suc n) s (none-first s (omega arith)) ∙ sym (records-stop-in zero s (none-first s (omega arith)))
+fuel (suc n) (suc m) s h k = go (wholeFirst s) refl (fuel n m)
+  where
+    go : (b : Bool) → wholeFirst s ≡ b → ((t : List ℕ) → length t ≤ n → length t ≤ m → recordsIn n t ≡ recordsIn m t) → recordsIn (suc n) s ≡ recordsIn (suc m) s
+    go true e ih =
+        let f = first-is s (true-t e) in
+        let d = length-drop (u16 s 0) s in
+        rw (records-first n s e, records-first m s e, ih (drop (u16 s 0) s) (omega arith) (omega arith))
+    go false e ih = records-stop-in (suc n) s e ∙ sym (records-stop-in (suc m) s e)
+
+-- ---- the records from a byte on
+
+records-none : (s : List ℕ) → wholeFirst s ≡ false → recordsOf s ≡ []
+unfolding recordsOf
+records-none s e = records-stop-in (length s) s e
+
+records-some : (s : List ℕ) → wholeFirst s ≡ true → recordsOf s ≡ take (u16 s 0) s ∷ recordsOf (drop (u16 s 0) s)
+unfolding recordsOf
+records-some s e =
+    let t : List ℕ = drop (u16 s 0) s in
+    let f = first-is s (true-t e) in
+    let d = length-drop (u16 s 0) s in
+    fuel (length s) (suc (length s)) s (omega arith) (omega arith) ∙ rw (records-first (length s) s e, fuel (length s) (length t) t (omega arith) (omega arith))
+
+-- a whole record begins at `at`, n bytes long
+pub record Stands (s : List ℕ) (at n : ℕ) : Type 0 where
+  pub size : n ≡ u16 s at
+  pub four : 4 ≤ n
+  pub ends : at + n ≤ length s
+
+-- ---- lengths that the code reads
+
+module _ (s : List ℕ) (at : ℕ) where
+  first-here : {n : ℕ} → Stands s at n → wholeFirst (drop at s) ≡ true
+  first-here w =
+      let l = length-drop at s in
+      let u = u16-here s at in
+      is-first (drop at s) (record { left = omega (arith, w); four = omega (arith, w); ends = omega (arith, w) })
+
+  stands-here : wholeFirst (drop at s) ≡ true → Stands s at (u16 s at)
+  stands-here e =
+      let f = first-is (drop at s) (true-t e) in
+      let l = length-drop at s in
+      let u = u16-here s at in
+      record { size = refl; four = omega arith; ends = omega arith }
+
+  length-true : wholeFirst (drop at s) ≡ true → wholeLength s at ≡ u16 s at
+  unfolding wholeLength
+  length-true e = rw (e, wholeLength)
+
+  length-false : wholeFirst (drop at s) ≡ false → wholeLength s at ≡ 0
+  unfolding wholeLength
+  length-false e = rw (e, wholeLength)
+
+  pub length-is : (n : ℕ) → Stands s at n → n ≡ wholeLength s at
+  length-is n w = w .size ∙ sym (length-true (first-here w))
+
+  pub length-none : (Stands s at (u16 s at) → ⊥) → 0 ≡ wholeLength s at
+  length-none h = go (wholeFirst (drop at s)) refl
+    where
+      go : (b : Bool) → wholeFirst (drop at s) ≡ b → 0 ≡ wholeLength s at
+      go true e = absurd (h (stands-here e))
+      go false e = sym (length-false e)
+
+  module _ {n : ℕ} (e : n ≡ wholeLength s at) where
+    pub length-some : (n ≡ 0 → ⊥) → Stands s at n
+    length-some h = go (wholeFirst (drop at s)) refl
+      where
+        go : (b : Bool) → wholeFirst (drop at s) ≡ b → Stands s at n
+        go true f = rw (e ∙ length-true f) (stands-here f)
+        go false f = absurd (h (e ∙ length-false f))
+
+    pub length-zero : n ≡ 0 → wholeFirst (drop at s) ≡ false
+    length-zero z = go (wholeFirst (drop at s)) refl
+      where
+        go : (b : Bool) → wholeFirst (drop at s) ≡ b → b ≡ false
+        go true f = absurd (omega (arith, stands-here f .four, length-true f))
+        go false f = refl
+
+-- ---- the walk
+
+-- whole records up to the end, and no CLASS among them
+unfoldable pub othersOnly : List ℕ → Bool
+othersOnly s = eqb (wholeEnd s) (length s) && not (any isClass (recordsOf s))
+
+and-false : (b : Bool) → (b && false) ≡ false
+and-false true = refl
+and-false false = refl
+
+shift-eqb : (n a b x y : ℕ) → a ≡ n + x → b ≡ n + y → eqb a b ≡ eqb x y
+shift-eqb n a b x y ea eb = go (ℕ-discrete x y)
+  where
+    go : Dec (x ≡ y) → eqb a b ≡ eqb x y
+    go (yes e) = eq-eqb a b (omega arith) ∙ sym (eq-eqb x y e)
+    go (no e) = ne-eqb a b (λ q. e (omega arith)) ∙ sym (ne-eqb x y e)
+
+module _ {s : List ℕ} {at n : ℕ} (w : Stands s at n) where
+  records-here : recordsOf (drop at s) ≡ take n (drop at s) ∷ recordsOf (drop (at + n) s)
+  records-here = records-some (drop at s) (first-here s at w) ∙ rw (u16-here s at ∙ sym (w .size), drop-drop n at s)
+
+  end-here : eqb (wholeEnd (drop at s)) (length (drop at s)) ≡ eqb (wholeEnd (drop (at + n) s)) (length (drop (at + n) s))
+  unfolding wholeEnd concat
+  end-here =
+      shift-eqb n _ _ _ _ (ap (λ (rs : List (List ℕ)). length (concat rs)) records-here ∙ length-append (take n (drop at s)) _ ∙ ap (λ (k : ℕ). k + length (concat (recordsOf (drop (at + n) s)))) (part-length s at n (w .ends)))
+      (omega (arith, length-drop at s, length-drop (at + n) s, w .ends))
+
+  kind-here : {k : ℕ} → k ≡ u16 s (at + 2) → isClass (take n (drop at s)) ≡ eqb k 1
+  kind-here e = ap (λ (k : ℕ). eqb k 1) (part-kind s at n (w .four) ∙ sym e)
+
+  module _ {k : ℕ} (e : k ≡ u16 s (at + 2)) where
+    class-stop : k ≡ 1 → othersOnly (drop at s) ≡ false
+    unfolding othersOnly any
+    class-stop h = rw (records-here, kind-here e ∙ eq-eqb k 1 h) (and-false (eqb (wholeEnd (drop at s)) (length (drop at s))))
+
+    other-step : (k ≡ 1 → ⊥) → othersOnly (drop at s) ≡ othersOnly (drop (at + n) s)
+    unfolding othersOnly any
+    other-step h = rw (end-here, records-here, kind-here e ∙ ne-eqb k 1 h) refl
+
+    class-first : k ≡ 1 → wholeGroup (drop at s) ≡ othersOnly (drop (at + n) s)
+    unfolding othersOnly wholeGroup oneClass
+    class-first h = rw (end-here, records-here, kind-here e ∙ eq-eqb k 1 h) refl
+
+    other-first : (k ≡ 1 → ⊥) → wholeGroup (drop at s) ≡ false
+    unfolding wholeGroup oneClass
+    other-first h = rw (records-here, kind-here e ∙ ne-eqb k 1 h) (and-false (eqb (wholeEnd (drop at s)) (length (drop at s))))
+
+none-stop : (s : List ℕ) (at : ℕ) → wholeFirst (drop at s) ≡ false → at < length s → othersOnly (drop at s) ≡ false
+unfolding othersOnly wholeEnd concat any
+none-stop s at e h = rw (records-none (drop at s) e) (ap (λ (b : Bool). b && true) (ne-eqb 0 (length (drop at s)) (λ q. omega (arith, length-drop at s))))
+
+end-stop : (s : List ℕ) (at : ℕ) → length s ≤ at → othersOnly (drop at s) ≡ true
+unfolding othersOnly wholeEnd concat any
+end-stop s at h =
+    let l : length (drop at s) ≡ 0 = omega (arith, length-drop at s) in
+    rw (records-none (drop at s) (none-first (drop at s) (omega arith))) (ap (λ (b : Bool). b && true) (eq-eqb 0 (length (drop at s)) (sym l)))
+
+none-at-all : (s : List ℕ) → wholeFirst s ≡ false → wholeGroup s ≡ false
+unfolding wholeGroup oneClass
+none-at-all s e = rw (records-none s e) (and-false (eqb (wholeEnd s) (length s)))
+
+-- ---- the code's steps: n is the length that it read, k the kind
+
+module _ (s : List ℕ) {n : ℕ} (e : n ≡ wholeLength s 0) where
+  pub start-torn : n ≡ 0 → false ≡ wholeGroup s
+  start-torn z = sym (none-at-all s (length-zero s 0 e z))
+
+  pub start-other : (n ≡ 0 → ⊥) → {k : ℕ} → k ≡ u16 s 2 → (k ≡ 1 → ⊥) → false ≡ wholeGroup s
+  start-other z f h = sym (other-first (length-some s 0 e z) f h)
+
+-- the loop's invariant: what is asked of the group is asked of what is left of it
+pub record Going (s : List ℕ) (at : ℕ) : Type 0 where
+  pub within : at ≤ length s
+  pub same : wholeGroup s ≡ othersOnly (drop at s)
+
+pub start-class : {s : List ℕ} {n : ℕ} → n ≡ wholeLength s 0 → (n ≡ 0 → ⊥) → {k : ℕ} → k ≡ u16 s 2 → k ≡ 1 → Going s n
+start-class {s} {n} e z f h =
+    let w = length-some s 0 e z in
+    record { within = omega (arith, w .ends); same = class-first w f h ∙ ap (λ (i : ℕ). othersOnly (drop i s)) (zero-add n) }
+
+module _ {s : List ℕ} {at : ℕ} (g : Going s at) where
+  pub go-end : length s ≤ at → true ≡ wholeGroup s
+  go-end h = sym (g .same ∙ end-stop s at h)
+
+  module _ {n : ℕ} (e : n ≡ wholeLength s at) where
+    pub go-torn : at < length s → n ≡ 0 → false ≡ wholeGroup s
+    go-torn h z = sym (g .same ∙ none-stop s at (length-zero s at e z) h)
+
+    module _ (z : n ≡ 0 → ⊥) {k : ℕ} (f : k ≡ u16 s (at + 2)) where
+      pub go-class : k ≡ 1 → false ≡ wholeGroup s
+      go-class h = sym (g .same ∙ class-stop (length-some s at e z) f h)
+
+      pub go-other : (k ≡ 1 → ⊥) → Going s (at + n)
+      go-other h = let w = length-some s at e z in record { within = w .ends; same = g .same ∙ other-step w f h }
