@@ -49,7 +49,7 @@ fuel (suc n) (suc m) s h k = go (wholeFirst s) refl (fuel n m)
 
 -- ---- the records from a byte on
 
-records-none : (s : List ℕ) → wholeFirst s ≡ false → recordsOf s ≡ []
+pub records-none : (s : List ℕ) → wholeFirst s ≡ false → recordsOf s ≡ []
 unfolding recordsOf
 records-none s e = records-stop-in (length s) s e
 
@@ -134,7 +134,7 @@ shift-eqb n a b x y ea eb = go (ℕ-discrete x y)
     go (no e) = ne-eqb a b (λ q. e (omega arith)) ∙ sym (ne-eqb x y e)
 
 module _ {s : List ℕ} {at n : ℕ} (w : Stands s at n) where
-  records-here : recordsOf (drop at s) ≡ take n (drop at s) ∷ recordsOf (drop (at + n) s)
+  pub records-here : recordsOf (drop at s) ≡ take n (drop at s) ∷ recordsOf (drop (at + n) s)
   records-here = records-some (drop at s) (first-here s at w) ∙ rw (u16-here s at ∙ sym (w .size), drop-drop n at s)
 
   end-here : eqb (wholeEnd (drop at s)) (length (drop at s)) ≡ eqb (wholeEnd (drop (at + n) s)) (length (drop (at + n) s))

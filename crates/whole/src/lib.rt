@@ -1,6 +1,6 @@
 // Whether the bytes of a group are whole records with one CLASS, its first.
 ghost use mathlib.Core.Path.{_≡_};
-ghost use Prim.Native.Nat.{_+_, _≤_, _<_};
+ghost use Prim.Native.Nat.{_+_, _-_, _≤_, _<_};
 ghost use lib.ListN.{length};
 ghost use Rattle.spec.specs.Record.{u16};
 ghost use Rattle.spec.specs.Refusals.{wholeGroup};
@@ -23,10 +23,12 @@ fn word(group: &[u8], i: usize) -> usize
 }
 
 // The length of the whole record at `at`, 0 if none begins there.
-fn whole_length(group: &[u8], at: usize) -> usize
-    requires { ⌜ at ≤ length (now group) ⌝ }
-    ensures { λ r. ⌜ r ≡ wholeLength (now (group .entry)) at ⌝ }
+pub fn whole_length(group: &[u8], at: usize) -> usize
+    ensures { λ r. ⌜ (r ≡ wholeLength (now (group .entry)) at) × (r ≤ length (now (group .entry)) - at) ⌝ }
 {
+    if group.len() <= at {
+        return 0;
+    }
     let left = group.len() - at;
     if left < 4 {
         return 0;

@@ -1,4 +1,4 @@
--- A length is refused for one of three reasons, else a whole record stands there.
+-- A length is refused for one of four reasons, else a whole record stands there.
 -- Assumes nothing.
 use borrow.Author.Needs.{needs}
 use native.Mathlib.Omega.{arith}
@@ -6,24 +6,27 @@ use Rattle.whole.proofs.Walking.{length-is, length-none}
 use Rattle.whole.proofs.whole_length.Statement.{statement}
 use Rattle.whole.proofs.whole_length.Tie as tie
 
+returns : tie.Need-returns
+returns c = (length-none _ _ (λ w. omega (arith, w)), omega arith)
+
 sub-left : tie.Need-sub-left
 sub-left c = search needs
 
-returns : tie.Need-returns
-returns c = length-none _ _ (λ w. omega (arith, w))
+returns-2 : tie.Need-returns-2
+returns-2 c = (length-none _ _ (λ w. omega (arith, w)), omega arith)
 
 word-requires : tie.Need-word-requires
 word-requires c κs = search needs
 
-returns-2 : tie.Need-returns-2
-returns-2 c = length-none _ _ (λ w. omega (arith, w))
-
 returns-3 : tie.Need-returns-3
-returns-3 c = length-none _ _ (λ w. omega (arith, w))
+returns-3 c = (length-none _ _ (λ w. omega (arith, w)), omega arith)
 
 returns-4 : tie.Need-returns-4
-returns-4 c = length-is _ _ _ (record { size = c .before .before .word .ensures; four = omega arith; ends = omega arith })
+returns-4 c = (length-none _ _ (λ w. omega (arith, w)), omega arith)
+
+returns-5 : tie.Need-returns-5
+returns-5 c = (length-is _ _ _ (record { size = c .before .before .word .ensures; four = omega arith; ends = omega arith }), omega arith)
 
 pub whole-length-spec : {M : Type 1} → statement M
 whole-length-spec =
-    tie.close (tie.spec sub-left returns word-requires returns-2 returns-3 returns-4)
+    tie.close (tie.spec returns sub-left returns-2 word-requires returns-3 returns-4 returns-5)

@@ -1,0 +1,25 @@
+-- The front cleared.
+-- Assumes nothing.
+use Rattle.drafts.proofs.Drafting.{wiped-is}
+use borrow.Author.Needs.{needs}
+use Rattle.drafts.proofs.wipe.Statement.{statement}
+use Rattle.drafts.proofs.wipe.Tie as tie
+
+-- src/lib.rt:159:23
+mul-clear : tie.Need-mul-clear
+mul-clear c = search needs
+
+-- src/lib.rt:159:5
+clear-requires : tie.Need-clear-requires
+clear-requires c κs = search needs
+
+-- src/lib.rt:155:1
+same-length : tie.Need-same-length
+same-length c = search needs
+
+-- src/lib.rt:155:1
+returns : tie.Need-returns
+returns c = wiped-is _ _ (c .before .before .clear .ensures)
+
+pub wipe-spec : {M : Type 1} → statement M
+wipe-spec = tie.close (tie.spec mul-clear clear-requires same-length returns)

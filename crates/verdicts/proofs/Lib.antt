@@ -1,0 +1,13 @@
+pub mod Again
+pub mod Demand3
+pub mod Filling
+pub mod Frame
+pub mod Lines
+pub mod Low
+pub mod Meeting
+pub mod Operating
+pub mod Reshare
+pub mod Row
+pub mod Settling
+pub mod Walking
+pub mod Writing
