@@ -1,6 +1,7 @@
 // Acceptance: the deemed markers (11), and all of 1 to 11 of a library sheet and a view.
 use groups::group_start;
 use markers::clash;
+use names::prints;
 use overlay::overlay;
 use pass::Pass;
 use pass::first_pass;
@@ -114,11 +115,13 @@ fn later(
     ensures answer { λ r. ⌜ r ≡ checkedOf (laterRefusal (now (library .entry)) (spliced (now (user .entry)) (now (group .entry)) cut)) nlib n ⌝ }
     ensures memo { λ r. ⌜ Right (groupOf (now (library .entry)) (spliced (now (user .entry)) (now (group .entry)) cut)) (now (memo .exit)) ⌝ }
 {
-    let first = second_pass(library, user, group, cut, starts, nlib, n, 0);
+    let mut row = [0u16; 256];
+    prints(library, user, group, cut, starts, nlib, n, &mut row);
+    let first = second_pass(library, user, group, cut, starts, nlib, n, &row, 0);
     if let Pass::Refused(number, byte) = first {
         return Checked::Refused(number, 0, byte);
     }
-    let second = second_pass(library, user, group, cut, starts, nlib, n, 1);
+    let second = second_pass(library, user, group, cut, starts, nlib, n, &row, 1);
     if let Pass::Refused(number, byte) = second {
         return Checked::Refused(number, 1, byte);
     }

@@ -4,10 +4,10 @@ use mathlib.Core.Path.{_≡_, refl, sym, ap, ap₂, _∙_, subst}
 use mathlib.Core.Bool.{not}
 use mathlib.Core.List.{List, [], _∷_, _++_, append-nil}
 use mathlib.Core.Logic.{_⊎_, inl, inr}
-use Prim.Native.Nat.{ℕ, suc, _+_, _-_, _≤_, _<_}
+use Prim.Native.Nat.{ℕ, suc, _+_, _-_, _*_, _≤_, _<_}
 use native.Mathlib.Omega.{arith}
 use lib.Dec.{T, T-not, eqb, leb, ltb, eqb→eq, leb→le, ltb→lt, nltb→le}
-use lib.ListN.{length, getD, take, drop, length-append, List·getD-append}
+use lib.ListN.{length, getD, take, drop, length-append, List·getD-append, List·getD-eq-default}
 use lib.Seq.{take-suc, take-length, split-at, getD-append-add}
 use borrow.Author.Tests.{eq-eqb, ne-eqb, lt-ltb, le-ltb}
 use Rattle.spec.specs.Lists.{concat}
@@ -91,6 +91,17 @@ module _ (library user : List ℕ) (sheet : ℕ) where
 
   pub user-sheet : (sheet ≡ 0 → ⊥) → sheetOf library user sheet ≡ user
   user-sheet ne = rw (ne-eqb sheet 0 ne, sheetOf)
+
+  -- a number of the library by its bytes; at the last byte the high one is 0
+  pub library-word : sheet ≡ 0 → (i : ℕ) {low high : ℕ} → low ≡ getD library i 0 → high ≡ getD library (i + 1) 0 → low + 256 * high ≡ u16 (sheetOf library user sheet) i
+  unfolding u16
+  library-word e i a b = rw (library-sheet e, a, b)
+
+  pub library-last : sheet ≡ 0 → (i : ℕ) → length library ≤ i + 1 → {low : ℕ} → low ≡ getD (sheetOf library user sheet) i 0 → low ≡ u16 (sheetOf library user sheet) i
+  unfolding u16
+  library-last e i h a =
+      let z : getD (sheetOf library user sheet) (i + 1) 0 ≡ 0 = ap (λ (s : List ℕ). getD s (i + 1) 0) (library-sheet e) ∙ List·getD-eq-default library 0 h in
+      omega (arith, a, z)
 
 -- both are short
 pub sheet-low : {library user : List ℕ} {nlib n : ℕ} {row : List ℕ} → Indexed library user nlib n row → (sheet : ℕ) → length (sheetOf library user sheet) ≤ 32768

@@ -2,6 +2,7 @@
 use view::Cut;
 use view::byte_at;
 use view::view_len;
+use view::word_at;
 ghost use mathlib.Core.Path.{_≡_};
 ghost use Prim.Native.Nat.{_+_, _≤_, _<_};
 ghost use lib.ListN.{length, getD};
@@ -31,15 +32,25 @@ pub fn byte_of(library: &[u8], user: &[u8], group: &[u8], cut: Cut, sheet: u8, i
     byte_at(user, group, cut, i)
 }
 
+fn byte_wide(x: u8) -> u16
+    ensures { λ r. ⌜ (r ≡ x) × (r < 256) ⌝ }
+{
+    x as u16
+}
+
 // The little-endian number at i of a sheet.
 pub fn word_of(library: &[u8], user: &[u8], group: &[u8], cut: Cut, sheet: u8, i: usize) -> u16
     requires { ⌜ Fits cut (now user) ⌝ }
     requires { ⌜ i < 65536 ⌝ }
     ensures { λ r. ⌜ r ≡ u16 (sheetOf (now (library .entry)) (spliced (now (user .entry)) (now (group .entry)) cut) sheet) i ⌝ }
 {
-    let low = byte_of(library, user, group, cut, sheet, i);
-    let high = byte_of(library, user, group, cut, sheet, i + 1);
-    (low as u16) + 256 * (high as u16)
+    if sheet != 0 {
+        return word_at(user, group, cut, i);
+    }
+    if i + 1 < library.len() {
+        return byte_wide(library[i]) + 256 * byte_wide(library[i + 1]);
+    }
+    byte_wide(byte_of(library, user, group, cut, sheet, i))
 }
 
 // The sheet that holds class c.

@@ -3,7 +3,7 @@ use groups::byte_of;
 use groups::word_of;
 use view::Cut;
 ghost use mathlib.Core.Path.{_≡_};
-ghost use mathlib.Core.Bool.{true};
+ghost use mathlib.Core.Bool.{true, false};
 ghost use Prim.Native.Nat.{_<_};
 ghost use Rattle.spec.specs.Record.{tyAt};
 ghost use Rattle.theory.specs.Claims.{sheetOf};
@@ -43,7 +43,30 @@ fn built(library: &[u8], user: &[u8], group: &[u8], cut: Cut, sheet: u8, at: usi
     65535
 }
 
-// The first class that the record at `at` names.
+// The first class that the record at `at` names, of whatever kind.
+fn any_named(library: &[u8], user: &[u8], group: &[u8], cut: Cut, sheet: u8, at: usize) -> usize
+    requires { ⌜ Fits cut (now user) ⌝ }
+    requires { ⌜ Sized (sheetOf (now library) (spliced (now user) (now group) cut) sheet) at ⌝ }
+    requires { ⌜ at < 60000 ⌝ }
+    ensures { λ r. ⌜ r ≡ firstNamed false (recordAt (sheetOf (now (library .entry)) (spliced (now (user .entry)) (now (group .entry)) cut) sheet) at) ⌝ }
+{
+    let kind = word_of(library, user, group, cut, sheet, at + 2);
+    if kind == 1 {
+        return wide(word_of(library, user, group, cut, sheet, at + 8));
+    }
+    if kind == 3 {
+        return type_named(library, user, group, cut, sheet, at + 6);
+    }
+    if kind == 4 {
+        return type_named(library, user, group, cut, sheet, at + 4);
+    }
+    if kind == 7 {
+        return 65535;
+    }
+    wide(word_of(library, user, group, cut, sheet, at + 4))
+}
+
+// The first class that the record at `at` names. Small, so that a search along BUILDS reads little.
 pub fn first_named(
     library: &[u8],
     user: &[u8],
@@ -61,20 +84,7 @@ pub fn first_named(
     if builds {
         return built(library, user, group, cut, sheet, at);
     }
-    let kind = word_of(library, user, group, cut, sheet, at + 2);
-    if kind == 1 {
-        return wide(word_of(library, user, group, cut, sheet, at + 8));
-    }
-    if kind == 3 {
-        return type_named(library, user, group, cut, sheet, at + 6);
-    }
-    if kind == 4 {
-        return type_named(library, user, group, cut, sheet, at + 4);
-    }
-    if kind == 7 {
-        return 65535;
-    }
-    wide(word_of(library, user, group, cut, sheet, at + 4))
+    any_named(library, user, group, cut, sheet, at)
 }
 
 // The second one.

@@ -83,12 +83,34 @@ fn type_fits(user: &[u8], group: &[u8], cut: Cut, i: usize) -> bool
     word_at(user, group, cut, i + 2) == 0
 }
 
-// Whether the bytes from `from` to `to` may stand in a name.
+// Whether those bytes of a slice may stand in a name.
+fn bytes_fit(bytes: &[u8], from: usize, to: usize) -> bool
+    requires { ⌜ (from ≤ to) × (to ≤ length (now bytes)) ⌝ }
+    ensures { λ r. ⌜ r ≡ nameFits (take (to - from) (drop from (now (bytes .entry)))) ⌝ }
+{
+    let mut i = from;
+    while i < to {
+        let b = bytes[i];
+        if b < 33 {
+            return false;
+        }
+        if 126 < b {
+            return false;
+        }
+        i += 1;
+    }
+    true
+}
+
+// Whether the bytes from `from` to `to` may stand in a name. Most names stand before the cut, and are read there at once.
 fn name_fits(user: &[u8], group: &[u8], cut: Cut, from: usize, to: usize) -> bool
     requires { ⌜ Fits cut (now user) ⌝ }
     requires { ⌜ (from ≤ to) × (to ≤ length (spliced (now user) (now group) cut)) ⌝ }
     ensures { λ r. ⌜ r ≡ nameFits (take (to - from) (drop from (spliced (now (user .entry)) (now (group .entry)) cut))) ⌝ }
 {
+    if to <= cut.from {
+        return bytes_fit(user, from, to);
+    }
     let mut i = from;
     while i < to {
         let b = byte_at(user, group, cut, i);

@@ -1,9 +1,9 @@
 -- Names compared byte by byte: that of a class with that of a record, and those of the classes below one by one.
 -- Assumes nothing.
-use mathlib.Core.Path.{_≡_, refl, sym, ap, ap₂, _∙_}
+use mathlib.Core.Path.{_≡_, refl, sym, ap, _∙_}
 use mathlib.Core.Bool.{Bool, true, false, _&&_, _||_}
-use mathlib.Core.List.{List, [], _∷_}
-use Prim.Native.Nat.{ℕ, suc, _+_, _-_, _≤_, _<_}
+use mathlib.Core.List.{List, _∷_}
+use Prim.Native.Nat.{ℕ, zero, suc, _+_, _-_, _≤_, _<_}
 use native.Mathlib.Nat.{sub-zero}
 use native.Mathlib.Numerals.{add-one}
 use native.Mathlib.Omega.{arith}
@@ -11,35 +11,27 @@ use lib.Dec.{eqb}
 use lib.ListN.{length, getD, take, drop, length-drop, drop-of-length-le}
 use lib.Seq.{drop-cons}
 use borrow.Author.Tests.{eq-eqb, ne-eqb}
-use Rattle.spec.specs.Lists.{any, sameList, span}
+use Rattle.spec.specs.Lists.{any, elem, sameList, span}
 use Rattle.spec.specs.Record.{u16, className}
 use Rattle.spec.specs.Sheet.{Group, group, classRecord}
 use Rattle.spec.specs.Refusals.{nameMet}
 use Rattle.theory.specs.Claims.{sheetOf}
-use Rattle.theory.proofs.Bools.{and-r, true-t, t-true}
+use Rattle.theory.proofs.Bools.{t-false, not-mono}
 use Rattle.theory.proofs.Parts.{part-length, part-byte}
 use Rattle.pass.specs.Pass.{recordAt}
 use Rattle.pass.proofs.Whole.{length-here}
 use Rattle.groups.specs.Groups.{sheetNumber, startOf, Indexed}
-use Rattle.groups.proofs.Classes.{class-long, class-record, class-room, class-size, group-tiled, sheet-low}
+use Rattle.groups.proofs.Classes.{class-long, class-room, group-tiled, sheet-low}
+use Rattle.names.specs.Names.{printOf, Printed}
+use Rattle.names.proofs.Printing.{class-there, own-length}
+use Rattle.names.proofs.Telling.{same-list, all-told}
 use Rattle.second.specs.Second.{Sized}
 use Rattle.second.proofs.Positions.{whole, ends-within}
 
 -- ---- two lists
 
-same-length : (xs ys : List ℕ) → sameList xs ys ≡ true → length xs ≡ length ys
-unfolding sameList
-same-length [] [] e = refl
-same-length [] (y ∷ ys) e = absurd (true-t e)
-same-length (x ∷ xs) [] e = absurd (true-t e)
-same-length (x ∷ xs) (y ∷ ys) e = ap suc (same-length xs ys (t-true (sameList xs ys) (and-r (eqb x y) (sameList xs ys) (true-t e))))
-
 other-length : (xs ys : List ℕ) → (length xs ≡ length ys → ⊥) → false ≡ sameList xs ys
-other-length xs ys n = go (sameList xs ys) (same-length xs ys)
-  where
-    go : (b : Bool) → (b ≡ true → length xs ≡ length ys) → false ≡ b
-    go true f = absurd (n (f refl))
-    go false f = refl
+other-length xs ys n = sym (t-false (sameList xs ys) (not-mono (sameList xs ys) false (λ t. n (ap length (same-list xs ys t))) tt))
 
 -- ---- the names of two records of one length: a at `from` of the sheet s, b at `at` of the sheet t. The bytes from j on decide
 pub record Comparing (s t : List ℕ) (from at len : ℕ) (a b : List ℕ) (j : ℕ) : Type 0 where
@@ -97,26 +89,23 @@ module _ {s t : List ℕ} {from at len : ℕ} {a b : List ℕ} {j : ℕ} (w : Co
 module _ {library user : List ℕ} {nlib n : ℕ} {row : List ℕ} (x : Indexed library user nlib n row) {d : ℕ} (h : d < n) {t : List ℕ} {at : ℕ} (z : Sized t at)
     {other from v w len : ℕ} (eo : other ≡ sheetNumber nlib d) (ef : from ≡ startOf library user d) (ev : v ≡ w) (ew : w ≡ u16 (sheetOf library user other) from)
     (el : len ≡ length (recordAt t at)) where
-  own-length : v ≡ length (classRecord (group library user d))
-  own-length = ev ∙ ew ∙ ap₂ (λ (k i : ℕ). u16 (sheetOf library user k) i) eo ef ∙ sym (class-size x h)
-
   pub lengths-differ : (v ≡ len → ⊥) → false ≡ sameList (className (classRecord (group library user d))) (className (recordAt t at))
   unfolding className
   lengths-differ n =
       let a = classRecord (group library user d) in
       let b = recordAt t at in
-      other-length (drop 12 a) (drop 12 b) (λ e. n (omega (arith, el, own-length, class-long x h, length-drop 12 a, length-drop 12 b)))
+      other-length (drop 12 a) (drop 12 b) (λ e. n (omega (arith, el, own-length x h eo ef ev ew, class-long x h, length-drop 12 a, length-drop 12 b)))
 
   pub compares : length t ≤ 32768 → v ≡ len → Comparing (sheetOf library user other) t from at len (classRecord (group library user d)) (recordAt t at) 12
   unfolding className recordAt
   compares small e = record {
-    first = class-record x h ∙ ap₂ (λ (k i : ℕ). take (u16 (sheetOf library user k) i) (drop i (sheetOf library user k))) (sym eo) (sym ef) ∙ ap (λ (k : ℕ). take k (drop from (sheetOf library user other))) (sym ew ∙ sym ev ∙ e);
+    first = sym (class-there x h eo ef) ∙ ap (λ (k : ℕ). take k (drop from (sheetOf library user other))) (sym ew ∙ sym ev ∙ e);
     second = ap (λ (k : ℕ). take k (drop at t)) (sym (length-here (whole z)) ∙ sym el);
-    first-ends = rw (eo, ef) (omega (arith, e, own-length, class-room x h, group-tiled x h));
+    first-ends = rw (eo, ef) (omega (arith, e, own-length x h eo ef ev ew, class-room x h, group-tiled x h));
     second-ends = omega (arith, el, ends-within z);
     first-small = sheet-low x other;
     second-small = small;
-    within = omega (arith, e, own-length, class-long x h);
+    within = omega (arith, e, own-length x h eo ef ev ew, class-long x h);
     rest = refl;
   }
 
@@ -125,6 +114,18 @@ module _ {library user : List ℕ} {nlib n : ℕ} {row : List ℕ} (x : Indexed 
 span-step : (i n : ℕ) → i < n → span i (n - i) ≡ i ∷ span (i + 1) (n - (i + 1))
 unfolding span
 span-step i n h = let e : n - i ≡ suc (n - (i + 1)) = omega arith in rw (e, add-one i)
+
+any-none : (p : ℕ → Bool) (i n : ℕ) → ((d : ℕ) → i ≤ d → d < i + n → p d ≡ false) → any p (span i n) ≡ false
+unfolding any span
+any-none p i zero h = refl
+any-none p i (suc n) h = rw (h i (omega arith) (omega arith)) (any-none p (suc i) n (λ d l k. h d (omega arith) (omega arith)))
+
+-- no class below c has the fingerprint of r's name
+pub none-printed : {g : ℕ → Group} {n : ℕ} {row : List ℕ} → Printed g n row → {c : ℕ} → c ≤ n → (r : List ℕ) {print : ℕ} → print ≡ printOf (className r)
+    → {b : Bool} → b ≡ elem print (take c row) → b ≡ false → false ≡ nameMet g c r
+unfolding nameMet
+none-printed {g} p {c} h r e eb q =
+    sym (any-none (λ d. sameList (className (classRecord (g d))) (className r)) 0 c (λ d l k. all-told p r e h (sym q ∙ eb) d (omega arith)))
 
 -- those from d on decide whether one has the name of the record r
 pub record Seeking (g : ℕ → Group) (c : ℕ) (r : List ℕ) (d : ℕ) : Type 0 where

@@ -5,6 +5,8 @@ use groups::count_of;
 use groups::group_start;
 use groups::sheet_of;
 use groups::word_of;
+use names::met;
+use names::print_at;
 use pass::Pass;
 use view::Cut;
 use view::view_len;
@@ -23,6 +25,7 @@ ghost use Rattle.theory.specs.Claims.{sheetOf};
 ghost use Rattle.view.specs.View.{Fits, spliced};
 ghost use Rattle.pass.specs.Pass.{recordAt, passOf};
 ghost use Rattle.groups.specs.Groups.{Indexed};
+ghost use Rattle.names.specs.Names.{Printed};
 ghost use Rattle.second.specs.Second.{Sized, typeThere, classNumber, implementsNumber, fieldNumber, usesNumber, refersNumber, formNumber, formIn, thereOrNone, superclassOk, encloserOk, firstClass, openedBy};
 
 fn wide(x: u16) -> usize
@@ -107,7 +110,7 @@ fn same_name(
     true
 }
 
-// Whether a class below c has the name of the CLASS record at `at`.
+// Whether a class below c has the name of the CLASS record at `at`. Only names with the same fingerprint are compared.
 fn name_met(
     library: &[u8],
     user: &[u8],
@@ -116,6 +119,7 @@ fn name_met(
     starts: &[u16],
     nlib: usize,
     n: usize,
+    prints: &[u16],
     c: usize,
     sheet: u8,
     at: usize,
@@ -123,27 +127,34 @@ fn name_met(
 ) -> bool
     requires { ⌜ Fits cut (now user) ⌝ }
     requires { ⌜ Indexed (now library) (spliced (now user) (now group) cut) nlib n (now starts) ⌝ }
+    requires { ⌜ Printed (groupOf (now library) (spliced (now user) (now group) cut)) n (now prints) ⌝ }
     requires { ⌜ c ≤ n ⌝ }
     requires { ⌜ Sized (sheetOf (now library) (spliced (now user) (now group) cut) sheet) at ⌝ }
     requires { ⌜ len ≡ length (recordAt (sheetOf (now library) (spliced (now user) (now group) cut) sheet) at) ⌝ }
     ensures { λ r. ⌜ r ≡ nameMet (groupOf (now (library .entry)) (spliced (now (user .entry)) (now (group .entry)) cut)) c (recordAt (sheetOf (now (library .entry)) (spliced (now (user .entry)) (now (group .entry)) cut) sheet) at) ⌝ }
 {
+    let print = print_at(library, user, group, cut, sheet, at, len);
+    if !met(prints, c, print) {
+        return false;
+    }
     let mut d = 0;
     while d < c {
-        if same_name(
-            library,
-            user,
-            group,
-            cut,
-            starts,
-            nlib,
-            n,
-            d,
-            sheet,
-            at,
-            len,
-        ) {
-            return true;
+        if prints[d] == print {
+            if same_name(
+                library,
+                user,
+                group,
+                cut,
+                starts,
+                nlib,
+                n,
+                d,
+                sheet,
+                at,
+                len,
+            ) {
+                return true;
+            }
         }
         d += 1;
     }
@@ -268,6 +279,7 @@ fn class_number(
     starts: &[u16],
     nlib: usize,
     n: usize,
+    prints: &[u16],
     c: usize,
     sheet: u8,
     at: usize,
@@ -275,6 +287,7 @@ fn class_number(
 ) -> u8
     requires { ⌜ Fits cut (now user) ⌝ }
     requires { ⌜ Indexed (now library) (spliced (now user) (now group) cut) nlib n (now starts) ⌝ }
+    requires { ⌜ Printed (groupOf (now library) (spliced (now user) (now group) cut)) n (now prints) ⌝ }
     requires { ⌜ c < n ⌝ }
     requires { ⌜ Sized (sheetOf (now library) (spliced (now user) (now group) cut) sheet) at ⌝ }
     requires { ⌜ isClass (recordAt (sheetOf (now library) (spliced (now user) (now group) cut) sheet) at) ≡ true ⌝ }
@@ -307,6 +320,7 @@ fn class_number(
         starts,
         nlib,
         n,
+        prints,
         c,
         sheet,
         at,
@@ -440,12 +454,14 @@ fn form_number(
     starts: &[u16],
     nlib: usize,
     n: usize,
+    prints: &[u16],
     c: usize,
     sheet: u8,
     at: usize,
 ) -> u8
     requires { ⌜ Fits cut (now user) ⌝ }
     requires { ⌜ Indexed (now library) (spliced (now user) (now group) cut) nlib n (now starts) ⌝ }
+    requires { ⌜ Printed (groupOf (now library) (spliced (now user) (now group) cut)) n (now prints) ⌝ }
     requires { ⌜ c < n ⌝ }
     requires { ⌜ Sized (sheetOf (now library) (spliced (now user) (now group) cut) sheet) at ⌝ }
     ensures { λ r. ⌜ r ≡ formNumber (groupOf (now (library .entry)) (spliced (now (user .entry)) (now (group .entry)) cut)) nlib n c (recordAt (sheetOf (now (library .entry)) (spliced (now (user .entry)) (now (group .entry)) cut) sheet) at) ⌝ }
@@ -461,6 +477,7 @@ fn form_number(
             starts,
             nlib,
             n,
+            prints,
             c,
             sheet,
             at,
@@ -557,10 +574,12 @@ pub fn second_pass(
     starts: &[u16],
     nlib: usize,
     n: usize,
+    prints: &[u16],
     sheet: u8,
 ) -> Pass
     requires { ⌜ Fits cut (now user) ⌝ }
     requires { ⌜ Indexed (now library) (spliced (now user) (now group) cut) nlib n (now starts) ⌝ }
+    requires { ⌜ Printed (groupOf (now library) (spliced (now user) (now group) cut)) n (now prints) ⌝ }
     requires { ⌜ sheet < 2 ⌝ }
     ensures { λ r. ⌜ r ≡ passOf (formIn (groupOf (now (library .entry)) (spliced (now (user .entry)) (now (group .entry)) cut)) nlib n sheet (firstClass nlib sheet) (sheetOf (now (library .entry)) (spliced (now (user .entry)) (now (group .entry)) cut) sheet)) (firstClass nlib sheet + classCount (sheetOf (now (library .entry)) (spliced (now (user .entry)) (now (group .entry)) cut) sheet)) ⌝ }
 {
@@ -569,7 +588,19 @@ pub fn second_pass(
     let mut c = first_class(nlib, sheet);
     while at < end {
         c = opened(word_of(library, user, group, cut, sheet, at + 2), c);
-        let number = form_number(library, user, group, cut, starts, nlib, n, c - 1, sheet, at);
+        let number = form_number(
+            library,
+            user,
+            group,
+            cut,
+            starts,
+            nlib,
+            n,
+            prints,
+            c - 1,
+            sheet,
+            at,
+        );
         if number != 0 {
             return Pass::Refused(number, at);
         }

@@ -1,11 +1,12 @@
 -- What stands where in a spliced sheet, and the sheets that Judge, Add and Replace see.
 -- Assumes nothing.
 use mathlib.Core.Path.{_≡_, refl, sym, _∙_, ap}
-use Prim.Native.Nat.{ℕ, _+_, _-_, _≤_, _<_}
+use Prim.Native.Nat.{ℕ, _+_, _-_, _*_, _≤_, _<_}
 use native.Mathlib.Omega.{arith}
 use mathlib.Core.List.{List, [], _++_, append-nil}
 use lib.ListN.{length, take, drop, getD, length-append, length-take, length-drop, List·getD-append, List·getD-eq-default, drop-of-length-le}
-use lib.Seq.{getD-append-add, getD-take, getD-drop, take-length}
+use lib.Seq.{getD-append-add, getD-take, getD-drop, take-length, length-take-le, ext-getD}
+use Rattle.spec.specs.Record.{u16}
 use Rattle.view.specs.declared.Cut.{Cut}
 use Rattle.view.specs.View.{Fits, spliced}
 
@@ -23,6 +24,10 @@ module _ (u g : List ℕ) (cut : Cut) (h : Fits cut u) where
   in-head i l =
       rw (List·getD-append (take (cut .from) u) (g ++ drop (cut .to) (take (cut .used) u)) 0 i (omega (arith, head-length)), getD-take (cut .from) u i 0 l)
 
+  pub word-in-head : (i : ℕ) → i + 1 < cut .from → {low high : ℕ} → low ≡ getD u i 0 → high ≡ getD u (i + 1) 0 → low + 256 * high ≡ u16 (spliced u g cut) i
+  unfolding u16
+  word-in-head i l a b = rw (a ∙ in-head i (omega arith), b ∙ in-head (i + 1) l)
+
   pub in-group : (i k : ℕ) → cut .from + k ≡ i → k < length g → getD g k 0 ≡ getD (spliced u g cut) i 0
   unfolding spliced
   in-group i k e l =
@@ -39,6 +44,20 @@ module _ (u g : List ℕ) (cut : Cut) (h : Fits cut u) where
   unfolding spliced
   length-spliced =
       simp (length-append, length-take, length-drop) (omega (arith, h .ordered, h .within, h .there))
+
+  -- bytes before the cut are the buffer's
+  pub part-in-head : (from to : ℕ) → from ≤ to → to ≤ cut .from → take (to - from) (drop from u) ≡ take (to - from) (drop from (spliced u g cut))
+  part-in-head from to o l =
+      let n : ℕ = to - from in
+      let a : length (take n (drop from u)) ≡ n = length-take-le n (drop from u) (omega (arith, length-drop from u, h .ordered, h .within, h .there)) in
+      let b : length (take n (drop from (spliced u g cut))) ≡ n = length-take-le n (drop from (spliced u g cut)) (omega (arith, length-drop from (spliced u g cut), length-spliced)) in
+      ext-getD 0 _ _ (a ∙ sym b) (λ i k.
+      let m : i < n = omega arith in
+      getD-take n (drop from u) i 0 m
+      ∙ getD-drop from u i 0
+      ∙ in-head (from + i) (omega arith)
+      ∙ sym (getD-drop from (spliced u g cut) i 0)
+      ∙ sym (getD-take n (drop from (spliced u g cut)) i 0 m))
 
   pub past-end : (i : ℕ) → cut .from + length g + (cut .used - cut .to) ≤ i → 0 ≡ getD (spliced u g cut) i 0
   past-end i l = sym (List·getD-eq-default (spliced u g cut) 0 (omega (arith, length-spliced)))

@@ -34,15 +34,24 @@ pub fn byte_at(user: &[u8], group: &[u8], cut: Cut, i: usize) -> u8
     0
 }
 
-// The little-endian number at i.
+fn wide(x: u8) -> u16
+    ensures { λ r. ⌜ (r ≡ x) × (r < 256) ⌝ }
+{
+    x as u16
+}
+
+// The little-endian number at i. Most stand before the cut, and are read there at once.
 pub fn word_at(user: &[u8], group: &[u8], cut: Cut, i: usize) -> u16
     requires { ⌜ Fits cut (now user) ⌝ }
     requires { ⌜ i < 65536 ⌝ }
     ensures { λ r. ⌜ r ≡ u16 (spliced (now (user .entry)) (now (group .entry)) cut) i ⌝ }
 {
-    let low = byte_at(user, group, cut, i);
-    let high = byte_at(user, group, cut, i + 1);
-    (low as u16) + 256 * (high as u16)
+    if i + 1 < cut.from {
+        return wide(user[i]) + 256 * wide(user[i + 1]);
+    }
+    let low = wide(byte_at(user, group, cut, i));
+    let high = wide(byte_at(user, group, cut, i + 1));
+    low + 256 * high
 }
 
 // The spliced sheet's length.

@@ -8,6 +8,10 @@ pub const SHEET_LIMIT: usize = 32_768;
 pub const GROUP_LIMIT: usize = 255;
 /// The most bytes of a name.
 pub const NAME_LIMIT: usize = 100;
+/// The most classes of two sheets together.
+pub const CLASS_LIMIT: usize = 256;
+/// The lengths that a FIELD can have.
+pub const FIELD_LENGTHS: (usize, usize) = (11, 110);
 
 pub const INTERFACE: u16 = 1 << 0;
 pub const INNER: u16 = 1 << 1;
@@ -208,6 +212,19 @@ impl Sheet {
         self.record(8, &[&two_bytes(class), &two_bytes(index)])
     }
 
+    /// A constant as long as the room allows, which leaves nothing or enough for another one.
+    /// The room is enough for one.
+    pub fn constant(&mut self, room: usize) -> &mut Sheet {
+        let (least, most) = FIELD_LENGTHS;
+        let length = if room <= most {
+            room.max(least)
+        } else {
+            room.min(most + least) - least
+        };
+        let name = vec![b'z'; length - least + 1];
+        self.field(STATIC | FINAL, INT, &name)
+    }
+
     /// Bytes that are free below the limit of a sheet.
     pub fn room(&self) -> usize {
         SHEET_LIMIT.saturating_sub(self.bytes.len())
@@ -224,6 +241,10 @@ impl Sheet {
 
     pub fn records(&self) -> usize {
         self.records
+    }
+
+    pub fn records_in_group(&self) -> usize {
+        self.in_group
     }
 
     pub fn len(&self) -> usize {

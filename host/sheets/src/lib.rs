@@ -1,12 +1,17 @@
 //! Class sheets for tests and timing: builders of records, ordinary and hostile pairs of sheets,
-//! random pairs and damage.
+//! random pairs, random groups for them, and damage.
 
 pub mod build;
+mod groups;
 mod hostile;
 mod ordinary;
+mod plan;
 mod random;
+mod read;
 
-pub use random::{damage, random_group, random_pair, Random};
+pub use groups::{broken_group, edited_group, fitting_group};
+pub use random::{damage, random_group, random_pair, varied_pair, Random};
+pub use read::{groups, kind, number, records};
 
 use build::Sheet;
 

@@ -309,17 +309,9 @@ impl Mixed {
 
     /// Constants with long names up to the last byte.
     fn fill_up(&mut self) {
-        const LEAST: usize = 11;
-        const MOST: usize = 110;
-        while self.user.fits(LEAST) {
+        while self.user.fits(FIELD_LENGTHS.0) {
             let room = self.user.room();
-            let length = if room <= MOST {
-                room
-            } else {
-                room.min(MOST + LEAST) - LEAST
-            };
-            let name = vec![b'z'; length - LEAST + 1];
-            self.user.field(STATIC | FINAL, INT, &name);
+            self.user.constant(room);
         }
     }
 }

@@ -1,69 +1,82 @@
+-- `form::later`: the row of fingerprints serves the second pass of both sheets, then the deemed markers are asked.
+-- Assumes nothing.
 use native.Mathlib.Omega.{arith}
 use borrow.Author.Needs.{needs}
 use Rattle.form.proofs.Deeming.{library-class}
 use Rattle.form.proofs.Accepting.{later-first, later-second, later-falls, later-deemed, later-fine}
 use Rattle.form.proofs.later.Statement.{statement}
 use Rattle.form.proofs.later.Tie as tie
-use Rattle.form.proofs.later.Reads as reads
-use Rattle.form.proofs.later.Lts as lts
-use Rattle.form.proofs.deemed.Reads as deemed-reads
-use Rattle.second.proofs.second_pass.Reads as second-pass-reads
-use Rattle.groups.proofs.group_start.Reads as group-start-reads
+
+slice-aggregate-prints : tie.Need-slice-aggregate-prints
+slice-aggregate-prints c = search needs
+
+prints-requires : tie.Need-prints-requires
+prints-requires c κs = search needs
+
+slice-aggregate-second-pass : tie.Need-slice-aggregate-second-pass
+slice-aggregate-second-pass c = search needs
 
 second-pass-requires : tie.Need-second-pass-requires
-second-pass-requires c κs = search needs
+second-pass-requires c κs = let p = c .before .before .before .before .before .before .before .before .before .pre in (p .0, (p .1 .0, (c .before .before .prints .ensures, omega arith)))
 
 enum-known-first : tie.Need-enum-known-first
 enum-known-first c = search needs
 
 returns : tie.Need-returns
-returns c = later-first (c .before .before .before .before .before .before .before .before .before .pre .1 .0) (c .before .before .before .second-pass .ensures) (c .before .first .given .1) (c .before .before .before .before .before .before .before .before .before .pre .1 .1)
+returns c = later-first (c .before .before .before .before .before .before .before .before .before .before .before .before .before .pre .1 .0) (c .before .before .before .second-pass .ensures) (c .before .first .given .1) (c .before .before .before .before .before .before .before .before .before .before .before .before .before .pre .1 .1)
 
 enum-told : tie.Need-enum-told
 enum-told c = search needs
 
+slice-aggregate-second-pass-2 : tie.Need-slice-aggregate-second-pass-2
+slice-aggregate-second-pass-2 c = search needs
+
 second-pass-requires-2 : tie.Need-second-pass-requires-2
-second-pass-requires-2 c κs = search needs
+second-pass-requires-2 c κs = let p = c .before .before .before .before .before .before .before .before .before .before .before .before .before .pre in (p .0, (p .1 .0, (c .before .before .before .before .before .before .prints .ensures, omega arith)))
 
 enum-known-second : tie.Need-enum-known-second
 enum-known-second c = search needs
 
 returns-2 : tie.Need-returns-2
-returns-2 c = later-second (c .before .before .before .before .before .before .before .before .before .before .before .before .pre .1 .0) (c .before .before .before .before .before .before .second-pass .ensures) (c .before .before .before .before .enum-told .given .1) (c .before .before .before .second-pass2 .ensures) (c .before .second .given .1) (c .before .before .before .before .before .before .before .before .before .before .before .before .pre .1 .1)
+returns-2 c = later-second (c .before .before .before .before .before .before .before .before .before .before .before .before .before .before .before .before .before .pre .1 .0) (c .before .before .before .before .before .before .before .second-pass .ensures) (c .before .before .before .before .before .enum-told .given .1) (c .before .before .before .second-pass2 .ensures) (c .before .second .given .1) (c .before .before .before .before .before .before .before .before .before .before .before .before .before .before .before .before .before .pre .1 .1)
 
 enum-told-2 : tie.Need-enum-told-2
 enum-told-2 c = search needs
 
 deemed-requires : tie.Need-deemed-requires
 deemed-requires c κs =
-    let p = c .before .before .before .before .before .before .before .before .before .before .before .before .pre in
-    (p .0, (p .1 .0, (later-falls (c .before .before .before .before .before .before .before .before .before .before .before .before .pre .1 .0) (c .before .before .before .before .before .before .second-pass .ensures) (c .before .before .before .before .enum-told .given .1) (c .before .before .before .second-pass2 .ensures) (c .before .enum-told2 .given .1), p .1 .1)))
+    let p = c .before .before .before .before .before .before .before .before .before .before .before .before .before .before .before .before .before .pre in
+    (p .0, (p .1 .0, (later-falls (c .before .before .before .before .before .before .before .before .before .before .before .before .before .before .before .before .before .pre .1 .0) (c .before .before .before .before .before .before .before .second-pass .ensures) (c .before .before .before .before .before .enum-told .given .1) (c .before .before .before .second-pass2 .ensures) (c .before .enum-told2 .given .1), p .1 .1)))
 
 group-start-requires : tie.Need-group-start-requires
 group-start-requires c κs =
-    let p = c .before .before .before .before .before .before .before .before .before .before .before .before .before .before .before .before .pre in
+    let p = c .before .before .before .before .before .before .before .before .before .before .before .before .before .before .before .before .before .before .before .before .before .pre in
     (p .0, (p .1 .0, library-class (p .1 .0) (c .if1 .taken)))
 
 same-length : tie.Need-same-length
 same-length c = search needs
 
 returns-3 : tie.Need-returns-3
-returns-3 c = later-deemed (c .before .before .before .before .before .before .before .before .before .before .before .before .before .before .before .before .before .pre .1 .0) (c .before .before .before .before .before .before .before .before .before .before .before .second-pass .ensures) (c .before .before .before .before .before .before .before .before .before .enum-told .given .1) (c .before .before .before .before .before .before .before .before .second-pass2 .ensures) (c .before .before .before .before .before .before .enum-told2 .given .1) (c .before .before .before .before .deemed .ensures) (c .before .if1 .taken) (c .group-start .ensures)
+returns-3 c = later-deemed (c .before .before .before .before .before .before .before .before .before .before .before .before .before .before .before .before .before .before .before .before .before .before .pre .1 .0) (c .before .before .before .before .before .before .before .before .before .before .before .before .second-pass .ensures) (c .before .before .before .before .before .before .before .before .before .before .enum-told .given .1) (c .before .before .before .before .before .before .before .before .second-pass2 .ensures) (c .before .before .before .before .before .before .enum-told2 .given .1) (c .before .before .before .before .deemed .ensures) (c .before .if1 .taken) (c .group-start .ensures)
 
 same-length-2 : tie.Need-same-length-2
 same-length-2 c = search needs
 
 returns-4 : tie.Need-returns-4
-returns-4 c = later-fine (c .before .before .before .before .before .before .before .before .before .before .before .before .before .before .before .before .pre .1 .0) (c .before .before .before .before .before .before .before .before .before .before .second-pass .ensures) (c .before .before .before .before .before .before .before .before .enum-told .given .1) (c .before .before .before .before .before .before .before .second-pass2 .ensures) (c .before .before .before .before .before .enum-told2 .given .1) (c .before .before .before .deemed .ensures) (omega arith)
+returns-4 c = later-fine (c .before .before .before .before .before .before .before .before .before .before .before .before .before .before .before .before .before .before .before .before .before .pre .1 .0) (c .before .before .before .before .before .before .before .before .before .before .before .second-pass .ensures) (c .before .before .before .before .before .before .before .before .before .enum-told .given .1) (c .before .before .before .before .before .before .before .second-pass2 .ensures) (c .before .before .before .before .before .enum-told2 .given .1) (c .before .before .before .deemed .ensures) (omega arith)
 
 pub later-spec : {M : Type 1} → statement M
 later-spec =
     tie.close
     (tie.spec
+    slice-aggregate-prints
+    prints-requires
+    slice-aggregate-second-pass
     second-pass-requires
     enum-known-first
     returns
     enum-told
+    slice-aggregate-second-pass-2
     second-pass-requires-2
     enum-known-second
     returns-2

@@ -5,10 +5,6 @@ use Rattle.named.proofs.Reading.{builds-class, builds-none}
 use borrow.Author.Needs.{needs}
 use Rattle.named.proofs.built.Statement.{statement}
 use Rattle.named.proofs.built.Tie as tie
-use Rattle.named.proofs.built.Reads as reads
-use Rattle.named.proofs.built.Lts as lts
-use Rattle.groups.proofs.word_of.Reads as word-of-reads
-use Rattle.named.proofs.wide.Reads as wide-reads
 
 -- src/lib.rt:40:50
 add-word-of : tie.Need-add-word-of

@@ -6,10 +6,6 @@ use Rattle.named.proofs.Reading.{second-class, second-none}
 use borrow.Author.Needs.{needs}
 use Rattle.named.proofs.second_named.Statement.{statement}
 use Rattle.named.proofs.second_named.Tie as tie
-use Rattle.named.proofs.second_named.Reads as reads
-use Rattle.named.proofs.second_named.Lts as lts
-use Rattle.groups.proofs.word_of.Reads as word-of-reads
-use Rattle.named.proofs.wide.Reads as wide-reads
 
 -- src/lib.rt:96:9
 returns : tie.Need-returns

@@ -5,11 +5,6 @@ use Rattle.named.proofs.Reading.{type-class, type-primitive}
 use borrow.Author.Needs.{needs}
 use Rattle.named.proofs.type_named.Statement.{statement}
 use Rattle.named.proofs.type_named.Tie as tie
-use Rattle.named.proofs.type_named.Reads as reads
-use Rattle.named.proofs.type_named.Lts as lts
-use Rattle.groups.proofs.byte_of.Reads as byte-of-reads
-use Rattle.groups.proofs.word_of.Reads as word-of-reads
-use Rattle.named.proofs.wide.Reads as wide-reads
 
 -- src/lib.rt:27:50
 add-byte-of : tie.Need-add-byte-of

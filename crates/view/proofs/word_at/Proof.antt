@@ -1,53 +1,99 @@
-use borrow.Author.Needs.{needs}
+-- Two bytes make a number, the low one first.
+-- Assumes nothing.
+use native.Mathlib.Omega.{arith}
 use Rattle.spec.specs.Record.{u16}
+use Rattle.view.proofs.Splice.{word-in-head}
+use borrow.Author.Needs.{needs}
 use Rattle.view.proofs.word_at.Statement.{statement}
 use Rattle.view.proofs.word_at.Tie as tie
-use Rattle.view.proofs.word_at.Reads as reads
-use Rattle.view.proofs.word_at.Lts as lts
-use Rattle.view.proofs.byte_at.Reads as byte-at-reads
 
--- src/lib.rt:43:9
-byte-at-requires : tie.Need-byte-at-requires
-byte-at-requires c κs = search needs
+-- src/lib.rt:49:8
+add-if1 : tie.Need-add-if1
+add-if1 c = search needs
 
--- src/lib.rt:44:42
-add-byte-at : tie.Need-add-byte-at
-add-byte-at c = search needs
+-- src/lib.rt:50:21
+shared-slice-read-wide : tie.Need-shared-slice-read-wide
+shared-slice-read-wide c = search needs
 
--- src/lib.rt:44:9
-byte-at-requires-2 : tie.Need-byte-at-requires-2
-byte-at-requires-2 c κs = search needs
+-- src/lib.rt:50:16
+wide-requires : tie.Need-wide-requires
+wide-requires c κs = search needs
 
--- src/lib.rt:45:6
-cast-result : tie.Need-cast-result
-cast-result c = search needs
+-- src/lib.rt:50:48
+add-wide : tie.Need-add-wide
+add-wide c = search needs
 
--- src/lib.rt:45:27
-cast-result-2 : tie.Need-cast-result-2
-cast-result-2 c = search needs
+-- src/lib.rt:50:43
+shared-slice-read-wide-2 : tie.Need-shared-slice-read-wide-2
+shared-slice-read-wide-2 c = search needs
 
--- src/lib.rt:45:20
+-- src/lib.rt:50:38
+wide-requires-2 : tie.Need-wide-requires-2
+wide-requires-2 c κs = search needs
+
+-- src/lib.rt:50:32
 mul-result : tie.Need-mul-result
 mul-result c = search needs
 
--- src/lib.rt:45:5
+-- src/lib.rt:50:16
 add-result : tie.Need-add-result
 add-result c = search needs
 
--- src/lib.rt:38:1
+-- src/lib.rt:50:9
 returns : tie.Need-returns
+returns c = word-in-head _ _ _ (c .before .before .before .before .before .before .before .before .pre .0) _ (omega arith) (c .before .before .wide .ensures .0) (c .wide2 .ensures .0)
+
+-- src/lib.rt:52:20
+byte-at-requires : tie.Need-byte-at-requires
+byte-at-requires c κs = search needs
+
+-- src/lib.rt:52:9
+wide-requires-3 : tie.Need-wide-requires-3
+wide-requires-3 c κs = search needs
+
+-- src/lib.rt:53:47
+add-byte-at : tie.Need-add-byte-at
+add-byte-at c = search needs
+
+-- src/lib.rt:53:21
+byte-at-requires-2 : tie.Need-byte-at-requires-2
+byte-at-requires-2 c κs = search needs
+
+-- src/lib.rt:53:9
+wide-requires-4 : tie.Need-wide-requires-4
+wide-requires-4 c κs = search needs
+
+-- src/lib.rt:54:11
+mul-result-2 : tie.Need-mul-result-2
+mul-result-2 c = search needs
+
+-- src/lib.rt:54:5
+add-result-2 : tie.Need-add-result-2
+add-result-2 c = search needs
+
+-- src/lib.rt:44:1
+returns-2 : tie.Need-returns-2
 unfolding u16
-returns c = cc
+returns-2 c = cc
 
 pub word-at-spec : {M : Type 1} → statement M
 word-at-spec =
     tie.close
     (tie.spec
-    byte-at-requires
-    add-byte-at
-    byte-at-requires-2
-    cast-result
-    cast-result-2
+    add-if1
+    shared-slice-read-wide
+    wide-requires
+    add-wide
+    shared-slice-read-wide-2
+    wide-requires-2
     mul-result
     add-result
-    returns)
+    returns
+    byte-at-requires
+    wide-requires-3
+    add-byte-at
+    byte-at-requires-2
+    wide-requires-4
+    mul-result-2
+    add-result-2
+    returns-2)

@@ -1,0 +1,3 @@
+pub mod Printing
+pub mod Rows
+pub mod Telling

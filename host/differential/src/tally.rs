@@ -1,0 +1,189 @@
+//! What has been met, and what has to be.
+
+use std::fmt;
+
+use kerdzhusi::verdicts;
+use sheets::groups;
+
+use crate::call::{Answer, Call, Value, OPERATIONS};
+use crate::lent::Side;
+
+const REFUSALS: usize = 15;
+const RULES: usize = 10;
+/// A replacement with so many dependents counts as one with several.
+const SEVERAL: usize = 3;
+
+const LEAST_CALLS: u64 = 1_000_000;
+const LEAST_ACCEPTED_IN_100: u64 = 30;
+const LEAST_OF_A_REFUSAL: u64 = 1_000;
+const LEAST_OF_A_REFUSAL_BY_OPERATION: u64 = 100;
+const LEAST_OF_A_RULE: u64 = 1_000;
+const LEAST_WITH_SEVERAL: u64 = 10_000;
+
+pub struct Tally {
+    /// By operation, then by refusal, 0 for accepted calls.
+    answers: [[u64; REFUSALS + 1]; OPERATIONS.len()],
+    /// Verdicts of accepted judgings by rule: at record 0, at a later one.
+    rules: [[u64; 2]; RULES + 1],
+    with_several: u64,
+    /// User classes of accepted judgings by their own markers.
+    own_markers: [u64; 256],
+}
+
+impl Tally {
+    pub fn new() -> Tally {
+        Tally {
+            answers: [[0; REFUSALS + 1]; OPERATIONS.len()],
+            rules: [[0; 2]; RULES + 1],
+            with_several: 0,
+            own_markers: [0; 256],
+        }
+    }
+
+    /// Counts a call, given what it left.
+    pub fn count(&mut self, call: Call, answer: Answer, after: &Side) {
+        let number = answer.0.map_or_else(|refusal| refusal.number, |_| 0);
+        self.answers[call.operation()][number as usize] += 1;
+        match (call, answer.0) {
+            (Call::Judge, Ok(Value::Counts { classes, .. })) => self.count_verdicts(after, classes),
+            (Call::Replace(_), Ok(Value::Number(SEVERAL..))) => self.with_several += 1,
+            _ => {}
+        }
+    }
+
+    fn count_verdicts(&mut self, after: &Side, classes: usize) {
+        for verdict in verdicts(after.verdicts.part()).take(classes) {
+            self.rules[verdict.rule as usize][(verdict.record > 0) as usize] += 1;
+        }
+        for group in groups(after.user_sheet()) {
+            self.own_markers[group[6] as usize] += 1;
+        }
+    }
+
+    pub fn add(&mut self, other: &Tally) {
+        add_rows(
+            self.answers.as_flattened_mut(),
+            other.answers.as_flattened(),
+        );
+        add_rows(self.rules.as_flattened_mut(), other.rules.as_flattened());
+        add_rows(&mut self.own_markers, &other.own_markers);
+        self.with_several += other.with_several;
+    }
+
+    pub fn calls(&self) -> u64 {
+        self.answers.as_flattened().iter().sum()
+    }
+
+    fn accepted_in_100(&self) -> u64 {
+        100 * self.answered(0) / self.calls().max(1)
+    }
+
+    fn answered(&self, number: usize) -> u64 {
+        self.answers.iter().map(|row| row[number]).sum()
+    }
+
+    fn marker_sets(&self) -> usize {
+        self.own_markers.iter().filter(|&&count| count > 0).count()
+    }
+
+    /// What has been met too rarely, in words.
+    pub fn shortfalls(&self) -> Vec<String> {
+        let mut short = Vec::new();
+        let mut require = |what: String, met: u64, least: u64| {
+            if met < least {
+                short.push(format!("{what}: {met}, not {least}"));
+            }
+        };
+        require("calls".into(), self.calls(), LEAST_CALLS);
+        let accepted = self.accepted_in_100();
+        require("accepted in 100".into(), accepted, LEAST_ACCEPTED_IN_100);
+        for number in 1..=REFUSALS {
+            let met = self.answered(number);
+            require(format!("refusal {number}"), met, LEAST_OF_A_REFUSAL);
+        }
+        for (operation, row) in OPERATIONS.iter().zip(&self.answers) {
+            for &number in refusals_of(operation) {
+                let what = format!("refusal {number} of {operation}");
+                require(what, row[number], LEAST_OF_A_REFUSAL_BY_OPERATION);
+            }
+        }
+        for (rule, places) in self.rules.iter().enumerate() {
+            let met = places.iter().sum();
+            require(format!("rule {rule}"), met, LEAST_OF_A_RULE);
+        }
+        let several = format!("replacements with {SEVERAL} or more dependents");
+        require(several, self.with_several, LEAST_WITH_SEVERAL);
+        require("own marker sets".into(), self.marker_sets() as u64, 256);
+        short
+    }
+}
+
+/// The refusals that an operation can give.
+fn refusals_of(operation: &str) -> &'static [usize] {
+    match operation {
+        "judge" => &[1, 2, 3, 4, 5, 6, 7, 8, 9, 10, 11, 12],
+        "add" => &[1, 2, 3, 4, 5, 6, 7, 8, 9, 10, 11, 12, 14, 15],
+        "replace" => &[1, 2, 3, 4, 5, 6, 7, 8, 9, 10, 11, 12, 13, 14, 15],
+        _ => &[1, 2, 3, 4, 5, 6, 7, 8, 9, 10, 11, 13],
+    }
+}
+
+fn add_rows(sums: &mut [u64], counts: &[u64]) {
+    for (sum, count) in sums.iter_mut().zip(counts) {
+        *sum += count;
+    }
+}
+
+impl fmt::Display for Tally {
+    fn fmt(&self, f: &mut fmt::Formatter) -> fmt::Result {
+        self.write_answers(f)?;
+        writeln!(f)?;
+        self.write_rules(f)?;
+        writeln!(f)?;
+        let (calls, accepted) = (self.calls(), self.accepted_in_100());
+        writeln!(f, "calls {calls}, {accepted} in 100 accepted")?;
+        let several = self.with_several;
+        writeln!(
+            f,
+            "replacements with {SEVERAL} or more dependents {several}"
+        )?;
+        writeln!(f, "own marker sets {} of 256", self.marker_sets())
+    }
+}
+
+impl Tally {
+    fn write_answers(&self, f: &mut fmt::Formatter) -> fmt::Result {
+        write!(f, "| answer   |")?;
+        for operation in OPERATIONS {
+            write!(f, " {operation:>8} |")?;
+        }
+        writeln!(f, " {:>8} |", "all")?;
+        writeln!(
+            f,
+            "|:---------|{}",
+            "---------:|".repeat(OPERATIONS.len() + 1)
+        )?;
+        for number in 0..=REFUSALS {
+            let name = match number {
+                0 => "accepted".to_string(),
+                _ => format!("{number}"),
+            };
+            write!(f, "| {name:8} |")?;
+            for row in &self.answers {
+                write!(f, " {:8} |", row[number])?;
+            }
+            writeln!(f, " {:8} |", self.answered(number))?;
+        }
+        Ok(())
+    }
+
+    fn write_rules(&self, f: &mut fmt::Formatter) -> fmt::Result {
+        writeln!(f, "| rule     | record 0 |    later |      all |")?;
+        writeln!(f, "|:---------|---------:|---------:|---------:|")?;
+        for (rule, [first, later]) in self.rules.iter().enumerate() {
+            let all = first + later;
+            writeln!(f, "| {rule:<8} | {first:8} | {later:8} | {all:8} |")?;
+        }
+        Ok(())
+    }
+}

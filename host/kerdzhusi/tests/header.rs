@@ -1,0 +1,108 @@
+//! What the header promises, on the first example of document 01.
+
+use std::ptr::{null, null_mut};
+
+use kerdzhusi::*;
+
+const LIBRARY: [u8; 18] = *b"\x12\0\x01\0\0\x01\0\0\xFF\xFF\xFF\xFFObject";
+const POINT: [u8; 25] = *b"\x0E\0\x01\0\0\0\x01\0\0\0\xFF\xFFPt\x0B\0\x03\0\x01\0\0\x04\0\0x";
+/// The same class, its field not final.
+const MUTABLE: [u8; 25] = *b"\x0E\0\x01\0\0\0\x01\0\0\0\xFF\xFFPt\x0B\0\x03\0\0\0\0\x04\0\0x";
+
+const CLEAN: Verdict = Verdict { rule: 0, record: 0 };
+const NOT_FINAL: Verdict = Verdict { rule: 7, record: 1 };
+
+fn refusal(number: u8, sheet: u8, byte: usize) -> Refusal {
+    Refusal {
+        number,
+        sheet,
+        byte,
+    }
+}
+
+#[test]
+fn judge_add_and_replace() {
+    let mut user = [0; 60];
+    let mut used = 0;
+    let mut row = [0xEE; 3];
+    let mut scratch = vec![0xEE; SCRATCH_BYTES];
+    let judged = judge(&LIBRARY, &user, used, &mut row, &mut scratch);
+    let (classes, faulted) = (0, 0);
+    assert_eq!(judged, Ok(Counts { classes, faulted }));
+    let class = add(
+        &LIBRARY,
+        &mut user,
+        &mut used,
+        &POINT,
+        &mut row,
+        &mut scratch,
+    );
+    assert_eq!((class, used), (Ok(1), 25));
+    assert_eq!(verdicts(&row).collect::<Vec<_>>(), [CLEAN]);
+    let dependents = replace(
+        &LIBRARY,
+        &mut user,
+        &mut used,
+        1,
+        &MUTABLE,
+        &mut row,
+        &mut scratch,
+    );
+    assert_eq!((dependents, used), (Ok(1), 25));
+    assert_eq!(verdicts(&row).collect::<Vec<_>>(), [NOT_FINAL]);
+    assert_eq!((row[2], scratch == vec![0; SCRATCH_BYTES]), (0xEE, true));
+}
+
+#[test]
+fn names_and_markers() {
+    let name_of = |class| name(&LIBRARY, &POINT, 25, class);
+    let text = |class| name_of(class).map(|part| part.bytes(&LIBRARY, &POINT));
+    assert_eq!(text(0), Ok(&b"Object"[..]));
+    assert_eq!(text(1), Ok(&b"Pt"[..]));
+    assert_eq!(text(2), Err(refusal(13, 0, 0)));
+    assert_eq!(marks(&LIBRARY, &POINT, 25, 1), Ok(1));
+    assert_eq!(marks(&LIBRARY, &POINT, 25, 2), Err(refusal(13, 0, 0)));
+}
+
+#[test]
+fn refusals() {
+    let mut row = [0xEE; 2];
+    let mut scratch = vec![0xEE; SCRATCH_BYTES];
+    let mut judge_used = |used| judge(&LIBRARY, &POINT, used, &mut row, &mut scratch);
+    assert_eq!(judge_used(26), Err(refusal(1, 1, 0)));
+    assert_eq!(judge_used(3), Err(refusal(2, 1, 0)));
+    assert_eq!(judge_used(24), Err(refusal(2, 1, 14)));
+    assert!(row.iter().chain(&scratch).all(|&byte| byte == 0xEE));
+}
+
+/// A pointer may be NULL where its length is 0.
+#[test]
+fn null_with_length_0() {
+    let mut scratch = vec![0xEE; SCRATCH_BYTES];
+    let mut used = 0;
+    let (library, length) = (LIBRARY.as_ptr(), LIBRARY.len());
+    let lent = (scratch.as_mut_ptr(), scratch.len());
+    let status = |answer: raw::Answer| (answer.status, answer.value);
+    unsafe {
+        let judged = raw::kz_judge(library, length, null(), 0, 0, null_mut(), 0, lent.0, lent.1);
+        assert_eq!(status(judged), (0, 0));
+        let judged = raw::kz_judge(library, length, null(), 0, 0, null_mut(), 0, null_mut(), 0);
+        assert_eq!(status(judged), (12, 0));
+        let judged = raw::kz_judge(null(), 0, null(), 0, 0, null_mut(), 0, null_mut(), 0);
+        assert_eq!(status(judged), (7, 0));
+        let none = null_mut();
+        let added = raw::kz_add(
+            library, length, none, 0, &mut used, none, 0, none, 0, none, 0,
+        );
+        assert_eq!(status(added), (14, 0));
+        let replaced = raw::kz_replace(
+            library, length, none, 0, &mut used, 1, none, 0, none, 0, none, 0,
+        );
+        assert_eq!(status(replaced), (13, 0));
+        let marked = raw::kz_marks(library, length, null(), 0, 0, 0);
+        assert_eq!(status(marked), (0, 0));
+        let named = raw::kz_name(library, length, null(), 0, 0, 0);
+        assert_eq!(status(named), (0, 12 << 8 | 6 << 32));
+    }
+    assert!(scratch.iter().all(|&byte| byte == 0));
+}
