@@ -18,8 +18,10 @@
  *                           rule, then record number. An odd last byte belongs to no verdict
  *   scratch, scratch_len    KZ_SCRATCH_BYTES to work in, of any content; more is allowed
  *
- * A pointer may be NULL where its length is 0. A buffer that a call may write overlaps no other
- * argument, and nobody else writes any of them meanwhile. Bytes, lengths and class numbers may be
+ * A pointer may be NULL where its length is 0: so the archive behaves, and the host's tests call it
+ * so; the proofs speak of buffers that are there. `used` of kz_add and kz_replace is never NULL. A
+ * buffer that a call may write overlaps no other argument, and nobody else writes any of them
+ * meanwhile. Bytes, lengths and class numbers may be
  * anything at all: there is nothing to test before a call. The library keeps nothing between
  * calls, so calls over different buffers may run at once.
  *

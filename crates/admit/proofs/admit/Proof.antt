@@ -8,99 +8,73 @@ use Rattle.admit.proofs.Turning.{not-whole, over-buffer, over-limit, sh
 use borrow.Author.Needs.{needs}
 use Rattle.admit.proofs.admit.Statement.{statement}
 use Rattle.admit.proofs.admit.Tie as tie
-use Rattle.admit.proofs.admit.Reads as reads
-use Rattle.admit.proofs.admit.Lts as lts
-use Rattle.whole.proofs.whole_group.Reads as whole-group-reads
-use Rattle.form.proofs.check.Reads as check-reads
-use Rattle.view.proofs.view_len.Reads as view-len-reads
 
 -- the sheet that the parameters stand for
 abbrev new : tie.Start → List ℕ
 new c = spliced (c .args .user .now) (c .args .group .now) (c .args .cut)
 
--- src/lib.rt:40:9
 whole-group-requires : tie.Need-whole-group-requires
 whole-group-requires c κs = search needs
 
--- src/lib.rt:41:9
 returns : tie.Need-returns
 returns c = not-whole (c .before .before .before .before .before .before .before .args .library .now) (c .before .before .before .before .before .before .before .args .user .now) (c .before .before .before .before .before .before .before .args .group .now) (new (c .before .before .before .before .before .before .before)) (c .before .before .before .before .before .before .before .args .lines) (c .before .before .before .before .before .before .before .args .scratch) (c .before .whole-group .ensures) (c .if1 .taken)
 
--- src/lib.rt:43:9
 view-len-requires : tie.Need-view-len-requires
 view-len-requires c κs = search needs
 
--- src/lib.rt:45:9
 returns-2 : tie.Need-returns-2
 returns-2 c = over-buffer (c .before .before .before .before .before .before .before .before .before .args .library .now) (c .before .before .before .before .before .before .before .before .before .args .user .now) (c .before .before .before .before .before .before .before .before .before .args .group .now) (new (c .before .before .before .before .before .before .before .before .before)) (c .before .before .before .before .before .before .before .before .before .args .lines) (c .before .before .before .before .before .before .before .before .before .args .scratch) (c .before .before .before .whole-group .ensures) (c .before .before .if1 .left) (c .before .view-len .ensures) (omega arith)
 
--- src/lib.rt:48:9
 returns-3 : tie.Need-returns-3
 returns-3 c = over-limit (c .before .before .before .before .before .before .before .before .before .before .args .library .now) (c .before .before .before .before .before .before .before .before .before .before .args .user .now) (c .before .before .before .before .before .before .before .before .before .before .args .group .now) (new (c .before .before .before .before .before .before .before .before .before .before)) (c .before .before .before .before .before .before .before .before .before .before .args .lines) (c .before .before .before .before .before .before .before .before .before .before .args .scratch) (c .before .before .before .before .whole-group .ensures) (c .before .before .before .if1 .left) (c .before .before .view-len .ensures) (omega arith) (omega arith)
 
--- src/lib.rt:50:9
 check-requires : tie.Need-check-requires
 check-requires c κs =
     let p = c .before .before .before .before .before .before .before .before .before .before .before .before .pre in
     (p .0, ((p .1 .0, omega (arith, c .before .before .before .before .view-len .ensures)), p .1 .1 .0))
 
--- src/lib.rt:51:23
 enum-known-checked : tie.Need-enum-known-checked
 enum-known-checked c = search needs
 
--- src/lib.rt:52:9
 enum-told : tie.Need-enum-told
 enum-told c = search needs
 
--- src/lib.rt:52:9
 same-length : tie.Need-same-length
 same-length c = search needs
 
--- src/lib.rt:52:9
 same-length-2 : tie.Need-same-length-2
 same-length-2 c = search needs
 
--- src/lib.rt:52:9
 returns-4 : tie.Need-returns-4
 returns-4 c = sheet-refused (c .before .before .before .before .before .before .before .before .before .before .before .before .before .before .before .before .before .before .before .args .library .now) (c .before .before .before .before .before .before .before .before .before .before .before .before .before .before .before .before .before .before .before .args .user .now) (c .before .before .before .before .before .before .before .before .before .before .before .before .before .before .before .before .before .before .before .args .group .now) (new (c .before .before .before .before .before .before .before .before .before .before .before .before .before .before .before .before .before .before .before)) (c .before .before .before .before .before .before .before .before .before .before .before .before .before .before .before .before .before .before .before .args .lines) (c .before .before .before .before .before .before .before .before .before .before .before .before .before .before .before .before .before .before .before .args .scratch) (c .before .before .before .before .before .before .before .before .before .before .before .before .before .whole-group .ensures) (c .before .before .before .before .before .before .before .before .before .before .before .before .if1 .left) (c .before .before .before .before .before .before .before .before .before .before .before .view-len .ensures) (omega arith) (omega arith) (c .before .before .before .before .before .before .before .before .before .before .before .before .before .before .before .before .before .before .before .pre .1 .1 .1) (c .before .before .before .before .before .before .check .ensures) (c .enum-told .given .1)
 
--- src/lib.rt:54:16
 sub-if4 : tie.Need-sub-if4
 sub-if4 c = omega (arith, admit-ordered (c .before .before .before .before .before .before .before .before .before .before .before .before .before .before .before .before .before .before .before .before .args .library .now) (c .before .before .before .before .before .before .before .before .before .before .before .before .before .before .before .before .before .before .before .before .args .user .now) (c .before .before .before .before .before .before .before .before .before .before .before .before .before .before .before .before .before .before .before .before .args .group .now) (new (c .before .before .before .before .before .before .before .before .before .before .before .before .before .before .before .before .before .before .before .before)) (c .before .before .before .before .before .before .before .before .before .before .before .before .before .before .before .before .before .before .before .before .args .lines) (c .before .before .before .before .before .before .before .before .before .before .before .before .before .before .before .before .before .before .before .before .args .scratch) (c .before .before .before .before .before .before .before .before .before .before .before .before .before .before .whole-group .ensures) (c .before .before .before .before .before .before .before .before .before .before .before .before .before .if1 .left) (c .before .before .before .before .before .before .before .before .before .before .before .before .view-len .ensures) (omega arith) (omega arith) (c .before .before .before .before .before .before .before .before .before .before .before .before .before .before .before .before .before .before .before .before .pre .1 .1 .1) (c .before .before .before .before .before .before .before .check .ensures) (c .before .checked .given .1))
 
--- src/lib.rt:55:9
 same-length-3 : tie.Need-same-length-3
 same-length-3 c = search needs
 
--- src/lib.rt:55:9
 same-length-4 : tie.Need-same-length-4
 same-length-4 c = search needs
 
--- src/lib.rt:55:9
 returns-5 : tie.Need-returns-5
 returns-5 c = few-lines (c .before .before .before .before .before .before .before .before .before .before .before .before .before .before .before .before .before .before .before .before .before .args .library .now) (c .before .before .before .before .before .before .before .before .before .before .before .before .before .before .before .before .before .before .before .before .before .args .user .now) (c .before .before .before .before .before .before .before .before .before .before .before .before .before .before .before .before .before .before .before .before .before .args .group .now) (new (c .before .before .before .before .before .before .before .before .before .before .before .before .before .before .before .before .before .before .before .before .before)) (c .before .before .before .before .before .before .before .before .before .before .before .before .before .before .before .before .before .before .before .before .before .args .lines) (c .before .before .before .before .before .before .before .before .before .before .before .before .before .before .before .before .before .before .before .before .before .args .scratch) (c .before .before .before .before .before .before .before .before .before .before .before .before .before .before .before .whole-group .ensures) (c .before .before .before .before .before .before .before .before .before .before .before .before .before .before .if1 .left) (c .before .before .before .before .before .before .before .before .before .before .before .before .before .view-len .ensures) (omega arith) (omega arith) (c .before .before .before .before .before .before .before .before .before .before .before .before .before .before .before .before .before .before .before .before .before .pre .1 .1 .1) (c .before .before .before .before .before .before .before .before .check .ensures) (c .before .before .checked .given .1) (omega arith)
 
--- src/lib.rt:58:9
 same-length-5 : tie.Need-same-length-5
 same-length-5 c = search needs
 
--- src/lib.rt:58:9
 same-length-6 : tie.Need-same-length-6
 same-length-6 c = search needs
 
--- src/lib.rt:58:9
 returns-6 : tie.Need-returns-6
 returns-6 c = short-scratch (c .before .before .before .before .before .before .before .before .before .before .before .before .before .before .before .before .before .before .before .before .before .before .args .library .now) (c .before .before .before .before .before .before .before .before .before .before .before .before .before .before .before .before .before .before .before .before .before .before .args .user .now) (c .before .before .before .before .before .before .before .before .before .before .before .before .before .before .before .before .before .before .before .before .before .before .args .group .now) (new (c .before .before .before .before .before .before .before .before .before .before .before .before .before .before .before .before .before .before .before .before .before .before)) (c .before .before .before .before .before .before .before .before .before .before .before .before .before .before .before .before .before .before .before .before .before .before .args .lines) (c .before .before .before .before .before .before .before .before .before .before .before .before .before .before .before .before .before .before .before .before .before .before .args .scratch) (c .before .before .before .before .before .before .before .before .before .before .before .before .before .before .before .before .whole-group .ensures) (c .before .before .before .before .before .before .before .before .before .before .before .before .before .before .before .if1 .left) (c .before .before .before .before .before .before .before .before .before .before .before .before .before .before .view-len .ensures) (omega arith) (omega arith) (c .before .before .before .before .before .before .before .before .before .before .before .before .before .before .before .before .before .before .before .before .before .before .pre .1 .1 .1) (c .before .before .before .before .before .before .before .before .before .check .ensures) (c .before .before .before .checked .given .1) (omega arith) (omega arith)
 
--- src/lib.rt:23:1
 same-length-7 : tie.Need-same-length-7
 same-length-7 c = search needs
 
--- src/lib.rt:23:1
 same-length-8 : tie.Need-same-length-8
 same-length-8 c = search needs
 
--- src/lib.rt:23:1
 returns-7 : tie.Need-returns-7
 returns-7 c = admitted (c .before .before .before .before .before .before .before .before .before .before .before .before .before .before .before .before .before .before .before .before .before .before .args .library .now) (c .before .before .before .before .before .before .before .before .before .before .before .before .before .before .before .before .before .before .before .before .before .before .args .user .now) (c .before .before .before .before .before .before .before .before .before .before .before .before .before .before .before .before .before .before .before .before .before .before .args .group .now) (new (c .before .before .before .before .before .before .before .before .before .before .before .before .before .before .before .before .before .before .before .before .before .before)) (c .before .before .before .before .before .before .before .before .before .before .before .before .before .before .before .before .before .before .before .before .before .before .args .lines) (c .before .before .before .before .before .before .before .before .before .before .before .before .before .before .before .before .before .before .before .before .before .before .args .scratch) (c .before .before .before .before .before .before .before .before .before .before .before .before .before .before .before .before .whole-group .ensures) (c .before .before .before .before .before .before .before .before .before .before .before .before .before .before .before .if1 .left) (c .before .before .before .before .before .before .before .before .before .before .before .before .before .before .view-len .ensures) (omega arith) (omega arith) (c .before .before .before .before .before .before .before .before .before .before .before .before .before .before .before .before .before .before .before .before .before .before .pre .1 .1 .1) (c .before .before .before .before .before .before .before .before .before .check .ensures) (c .before .before .before .checked .given .1) (omega arith) (omega arith)
 

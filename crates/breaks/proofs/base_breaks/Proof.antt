@@ -6,42 +6,28 @@ use mathlib.Core.Path.{refl}
 use borrow.Author.Needs.{needs}
 use Rattle.breaks.proofs.base_breaks.Statement.{statement}
 use Rattle.breaks.proofs.base_breaks.Tie as tie
-use Rattle.breaks.proofs.base_breaks.Reads as reads
-use Rattle.breaks.proofs.base_breaks.Lts as lts
-use Rattle.breaks.proofs.wide.Reads as wide-reads
-use Rattle.groups.proofs.class_word.Reads as class-word-reads
-use Rattle.markers.proofs.has.Reads as has-reads
-use Rattle.overlay.proofs.known.Reads as known-reads
 
--- src/lib.rt:330:18
 class-word-requires : tie.Need-class-word-requires
 class-word-requires c κs = search needs
 
--- src/lib.rt:330:9
 wide-requires : tie.Need-wide-requires
 wide-requires c κs = search needs
 
--- src/lib.rt:331:12
 known-requires : tie.Need-known-requires
 known-requires c κs = search needs
 
--- src/lib.rt:331:8
 has-requires : tie.Need-has-requires
 has-requires c κs = search needs
 
--- src/lib.rt:332:9
 returns : tie.Need-returns
 returns c = let p = c .before .before .before .before .before .before .before .before .before .before .pre in base-selfless (p .1 .0) (p .1 .1 .0) (p .1 .1 .1 .1 .0) (p .1 .1 .1 .1 .1) (p .1 .1 .1 .1 .2) (c .before .before .before .wide .ensures .0) (c .before .before .before .before .class-word .ensures) (marked (p .1 .1 .1 .0) _ (c .before .before .known .ensures) 2 {s = 4} refl (c .before .has .ensures)) (c .if1 .taken)
 
--- src/lib.rt:335:9
 returns-2 : tie.Need-returns-2
 returns-2 c = let p = c .before .before .before .before .before .before .before .before .before .before .before .pre in base-other (p .1 .0) (p .1 .1 .0) (p .1 .1 .1 .1 .0) (p .1 .1 .1 .1 .1) (p .1 .1 .1 .1 .2) (c .before .before .before .before .wide .ensures .0) (c .before .before .before .before .before .class-word .ensures) (marked (p .1 .1 .1 .0) _ (c .before .before .before .known .ensures) 2 {s = 4} refl (c .before .before .has .ensures)) (c .before .if1 .left) (c .if2 .taken)
 
--- src/lib.rt:337:5
 class-word-requires-2 : tie.Need-class-word-requires-2
 class-word-requires-2 c κs = search needs
 
--- src/lib.rt:312:1
 returns-3 : tie.Need-returns-3
 returns-3 c = let p = c .before .before .before .before .before .before .before .before .before .before .before .before .pre in base-zero (p .1 .0) (p .1 .1 .0) (p .1 .1 .1 .1 .0) (p .1 .1 .1 .1 .1) (p .1 .1 .1 .1 .2) (c .before .before .before .before .before .wide .ensures .0) (c .before .before .before .before .before .before .class-word .ensures) (marked (p .1 .1 .1 .0) _ (c .before .before .before .before .known .ensures) 2 {s = 4} refl (c .before .before .before .has .ensures)) (c .before .before .if1 .left) (c .before .if2 .left) (c .class-word2 .ensures)
 

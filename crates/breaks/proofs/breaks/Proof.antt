@@ -4,106 +4,70 @@ use Rattle.breaks.proofs.Places.{standing-sized, standing-refers, head-
 use borrow.Author.Needs.{needs}
 use Rattle.breaks.proofs.breaks.Statement.{statement}
 use Rattle.breaks.proofs.breaks.Tie as tie
-use Rattle.breaks.proofs.breaks.Reads as reads
-use Rattle.breaks.proofs.breaks.Lts as lts
-use Rattle.breaks.proofs.field_breaks.Reads as field-breaks-reads
-use Rattle.breaks.proofs.head_breaks.Reads as head-breaks-reads
-use Rattle.breaks.proofs.lets_out.Reads as lets-out-reads
-use Rattle.breaks.proofs.names_forbidden.Reads as names-forbidden-reads
-use Rattle.breaks.proofs.refers_forbidden.Reads as refers-forbidden-reads
-use Rattle.breaks.proofs.reserved.Reads as reserved-reads
-use Rattle.breaks.proofs.static_breaks.Reads as static-breaks-reads
-use Rattle.groups.proofs.byte_of.Reads as byte-of-reads
-use Rattle.groups.proofs.sheet_of.Reads as sheet-of-reads
-use Rattle.groups.proofs.word_of.Reads as word-of-reads
-use Rattle.markers.proofs.clash.Reads as clash-reads
-use Rattle.overlay.proofs.known.Reads as known-reads
 
--- src/lib.rt:418:9
 sheet-of-requires : tie.Need-sheet-of-requires
 sheet-of-requires c κs = search needs
 
--- src/lib.rt:420:9
 names-forbidden-requires : tie.Need-names-forbidden-requires
 names-forbidden-requires c κs = let p = c .before .before .before .before .before .before .before .before .pre in (p .0, (p .1 .0, (standing-sized (p .1 .1 .1 .1 .1 .1 .0) (c .before .sheet-of .ensures), p .1 .1 .1 .1 .1 .1 .0 .low)))
 
--- src/lib.rt:420:9
 returns : tie.Need-returns
 returns c = rw (← c .before .before .sheet-of .ensures) (rule-one _ _ _ _ _ _ _ (c .before .if1 .taken) (c .names-forbidden .ensures))
 
--- src/lib.rt:423:9
 refers-forbidden-requires : tie.Need-refers-forbidden-requires
 refers-forbidden-requires c κs = let p = c .before .before .before .before .before .before .before .before .before .pre in (p .0, (p .1 .0, (standing-sized (p .1 .1 .1 .1 .1 .1 .0) (c .before .before .sheet-of .ensures), (standing-refers (p .1 .0) (p .1 .1 .1 .1 .1 .1 .0) (p .1 .1 .0) (c .before .before .sheet-of .ensures), p .1 .1 .1 .1 .1 .1 .0 .low))))
 
--- src/lib.rt:423:9
 returns-2 : tie.Need-returns-2
 returns-2 c = rw (← c .before .before .before .sheet-of .ensures) (rule-two _ _ _ _ _ _ _ (c .before .if2 .taken) (c .refers-forbidden .ensures))
 
--- src/lib.rt:426:67
 add-byte-of : tie.Need-add-byte-of
 add-byte-of c = search needs
 
--- src/lib.rt:426:25
 byte-of-requires : tie.Need-byte-of-requires
 byte-of-requires c κs = search needs
 
--- src/lib.rt:426:9
 reserved-requires : tie.Need-reserved-requires
 reserved-requires c κs = search needs
 
--- src/lib.rt:426:9
 returns-3 : tie.Need-returns-3
 returns-3 c = let p = c .before .before .before .before .before .before .before .before .before .before .before .before .pre in rule-three _ _ _ _ _ _ _ (c .before .before .if3 .taken) (head-markers (p .1 .0) (p .1 .1 .1 .1 .1 .1 .0) (p .1 .1 .1 .1 .1 .0 .2) (p .1 .1 .1 .1 .1 .1 .1 .0 (c .before .before .if3 .taken)) (c .before .before .before .before .before .sheet-of .ensures) (c .before .byte-of .ensures)) (c .reserved .ensures)
 
--- src/lib.rt:429:22
 known-requires : tie.Need-known-requires
 known-requires c κs = search needs
 
--- src/lib.rt:429:9
 clash-requires : tie.Need-clash-requires
 clash-requires c κs = search needs
 
--- src/lib.rt:429:9
 returns-4 : tie.Need-returns-4
 returns-4 c = let p = c .before .before .before .before .before .before .before .before .before .before .before .before .before .pre in rule-four _ _ _ _ _ _ _ (c .before .before .if4 .taken) (p .1 .1 .1 .0) (c .before .known .ensures) (c .clash .ensures)
 
--- src/lib.rt:432:9
 static-breaks-requires : tie.Need-static-breaks-requires
 static-breaks-requires c κs = let p = c .before .before .before .before .before .before .before .before .before .before .before .before .pre in (p .0, (p .1 .1 .1 .0, (standing-sized (p .1 .1 .1 .1 .1 .1 .0) (c .before .before .before .before .before .sheet-of .ensures), p .1 .1 .1 .1 .1 .1 .0 .low)))
 
--- src/lib.rt:432:9
 returns-5 : tie.Need-returns-5
 returns-5 c = rw (← c .before .before .before .before .before .before .sheet-of .ensures) (rule-five _ _ _ _ _ _ _ (c .before .if5 .taken) (c .static-breaks .ensures))
 
--- src/lib.rt:435:67
 add-word-of : tie.Need-add-word-of
 add-word-of c = search needs
 
--- src/lib.rt:435:25
 word-of-requires : tie.Need-word-of-requires
 word-of-requires c κs = search needs
 
--- src/lib.rt:435:9
 lets-out-requires : tie.Need-lets-out-requires
 lets-out-requires c κs = search needs
 
--- src/lib.rt:435:9
 returns-6 : tie.Need-returns-6
 returns-6 c = let p = c .before .before .before .before .before .before .before .before .before .before .before .before .before .before .before .pre in rule-six _ _ _ _ _ _ _ (c .before .before .if6 .taken) (head-flags (p .1 .0) (p .1 .1 .1 .1 .1 .1 .0) (p .1 .1 .1 .1 .1 .0 .2) (p .1 .1 .1 .1 .1 .1 .1 .1 (c .before .before .if6 .taken)) (c .before .before .before .before .before .before .before .before .sheet-of .ensures) (c .before .word-of .ensures)) (c .lets-out .ensures)
 
--- src/lib.rt:438:9
 field-breaks-requires : tie.Need-field-breaks-requires
 field-breaks-requires c κs = let p = c .before .before .before .before .before .before .before .before .before .before .before .before .before .before .pre in (p .0, (p .1 .1 .1 .0, (standing-sized (p .1 .1 .1 .1 .1 .1 .0) (c .before .before .before .before .before .before .before .sheet-of .ensures), (p .1 .1 .1 .1 .1 .1 .0 .low, (seven-or-more _ (p .1 .1 .1 .1 .1 .0 .3) (c .before .before .before .before .before .before .if1 .left) (c .before .before .before .before .before .if2 .left) (c .before .before .before .before .if3 .left) (c .before .before .before .if4 .left) (c .before .before .if5 .left) (c .before .if6 .left))))))
 
--- src/lib.rt:438:9
 returns-7 : tie.Need-returns-7
 returns-7 c = let p = c .before .before .before .before .before .before .before .before .before .before .before .before .before .before .before .pre in rw (← c .before .before .before .before .before .before .before .before .sheet-of .ensures) (rule-field _ _ _ _ _ _ _ (seven-or-more _ (p .1 .1 .1 .1 .1 .0 .3) (c .before .before .before .before .before .before .before .if1 .left) (c .before .before .before .before .before .before .if2 .left) (c .before .before .before .before .before .if3 .left) (c .before .before .before .before .if4 .left) (c .before .before .before .if5 .left) (c .before .before .if6 .left)) (c .before .if7 .taken) (c .field-breaks .ensures))
 
--- src/lib.rt:440:5
 head-breaks-requires : tie.Need-head-breaks-requires
 head-breaks-requires c κs = let p = c .before .before .before .before .before .before .before .before .before .before .before .before .before .before .pre in let h = (seven-or-more _ (p .1 .1 .1 .1 .1 .0 .3) (c .before .before .before .before .before .before .if1 .left) (c .before .before .before .before .before .if2 .left) (c .before .before .before .before .if3 .left) (c .before .before .before .if4 .left) (c .before .before .if5 .left) (c .before .if6 .left)) in (p .0, (p .1 .0, (p .1 .1 .0, (p .1 .1 .1 .0, (p .1 .1 .1 .1 .0, ((p .1 .1 .1 .1 .1 .0 .0, p .1 .1 .1 .1 .1 .0 .1, p .1 .1 .1 .1 .1 .1 .1 .2 h), (p .1 .1 .1 .1 .1 .0 .2, h)))))))
 
--- src/lib.rt:392:1
 returns-8 : tie.Need-returns-8
 returns-8 c = let p = c .before .before .before .before .before .before .before .before .before .before .before .before .before .before .before .pre in rule-head _ _ _ _ _ _ _ (seven-or-more _ (p .1 .1 .1 .1 .1 .0 .3) (c .before .before .before .before .before .before .before .if1 .left) (c .before .before .before .before .before .before .if2 .left) (c .before .before .before .before .before .if3 .left) (c .before .before .before .before .if4 .left) (c .before .before .before .if5 .left) (c .before .before .if6 .left)) (c .before .if7 .left) (c .head-breaks .ensures)
 

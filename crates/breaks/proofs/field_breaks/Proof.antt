@@ -5,49 +5,34 @@ use native.Mathlib.Omega.{arith}
 use borrow.Author.Needs.{needs}
 use Rattle.breaks.proofs.field_breaks.Statement.{statement}
 use Rattle.breaks.proofs.field_breaks.Tie as tie
-use Rattle.breaks.proofs.field_breaks.Reads as reads
-use Rattle.breaks.proofs.field_breaks.Lts as lts
-use Rattle.breaks.proofs.slot_fits.Reads as slot-fits-reads
-use Rattle.groups.proofs.word_of.Reads as word-of-reads
-use Rattle.overlay.proofs.type_markers.Reads as type-markers-reads
 
--- src/lib.rt:227:50
 add-word-of : tie.Need-add-word-of
 add-word-of c = search needs
 
--- src/lib.rt:227:8
 word-of-requires : tie.Need-word-of-requires
 word-of-requires c κs = search needs
 
--- src/lib.rt:228:9
 returns : tie.Need-returns
 returns c = let s = c .before .before .before .before .before .before in field-other _ (s .pre .1 .1 .0) (c .before .word-of .ensures) (s .args .rule) (s .args .t) (s .args .k) (c .if1 .taken)
 
--- src/lib.rt:230:59
 add-word-of-2 : tie.Need-add-word-of-2
 add-word-of-2 c = search needs
 
--- src/lib.rt:230:9
 word-of-requires-2 : tie.Need-word-of-requires-2
 word-of-requires-2 c κs = search needs
 
--- src/lib.rt:232:9
 returns-2 : tie.Need-returns-2
 returns-2 c = let s = c .before .before .before .before .before .before .before .before in field-static _ (s .pre .1 .1 .0) (c .before .before .before .word-of .ensures) (c .before .before .if1 .left) (c .before .word-of2 .ensures) (s .args .rule) (s .args .t) (s .args .k) (c .if2 .taken)
 
--- src/lib.rt:234:62
 add-type-markers : tie.Need-add-type-markers
 add-type-markers c = search needs
 
--- src/lib.rt:234:9
 type-markers-requires : tie.Need-type-markers-requires
 type-markers-requires c κs = let p = c .before .before .before .before .before .before .before .before .pre in (p .0, (omega (arith, p .1 .1 .1 .0), p .1 .0))
 
--- src/lib.rt:235:6
 slot-fits-requires : tie.Need-slot-fits-requires
 slot-fits-requires c κs = search needs
 
--- src/lib.rt:209:1
 returns-3 : tie.Need-returns-3
 returns-3 c = let s = c .before .before .before .before .before .before .before .before .before .before in field-own _ (s .pre .1 .1 .0) (c .before .before .before .before .before .word-of .ensures) (c .before .before .before .before .if1 .left) (c .before .before .before .word-of2 .ensures) (s .args .rule) (s .args .t) (s .args .k) (c .before .before .if2 .left) (c .before .type-markers .ensures) (c .slot-fits .ensures)
 

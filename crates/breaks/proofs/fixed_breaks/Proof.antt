@@ -5,61 +5,40 @@ use Rattle.breaks.proofs.Bits.{marked}
 use borrow.Author.Needs.{needs}
 use Rattle.breaks.proofs.fixed_breaks.Statement.{statement}
 use Rattle.breaks.proofs.fixed_breaks.Tie as tie
-use Rattle.breaks.proofs.fixed_breaks.Reads as reads
-use Rattle.breaks.proofs.fixed_breaks.Lts as lts
-use Rattle.breaks.proofs.lane_of.Reads as lane-of-reads
-use Rattle.breaks.proofs.rule_set.Reads as rule-set-reads
-use Rattle.breaks.proofs.wide.Reads as wide-reads
-use Rattle.captured.proofs.lacking.Reads as lacking-reads
-use Rattle.groups.proofs.class_word.Reads as class-word-reads
-use Rattle.markers.proofs.has.Reads as has-reads
-use Rattle.overlay.proofs.known.Reads as known-reads
 
--- src/lib.rt:284:9
 returns : tie.Need-returns
 returns c = fixed-nine _ (c .before .before .before .before .before .before .before .args .t) (c .if1 .taken)
 
--- src/lib.rt:286:21
 lane-of-requires : tie.Need-lane-of-requires
 lane-of-requires c κs = search needs
 
--- src/lib.rt:286:8
 lacking-requires : tie.Need-lacking-requires
 lacking-requires c κs = search needs
 
--- src/lib.rt:287:9
 returns-2 : tie.Need-returns-2
 returns-2 c = let p = c .before .before .before .before .before .before .before .before .before .before .pre in captured-lacks _ (c .before .before .before .before .before .before .before .before .before .before .args .t) (p .1 .1 .1 .1 .1 .1) (c .before .before .before .if1 .left) (p .1 .1 .1 .1 .0) (p .1 .1 .1 .1 .1 .0) (c .before .before .lane-of .ensures .0) (c .before .before .lane-of .ensures .1) (c .before .lacking .ensures) (c .if2 .taken)
 
--- src/lib.rt:289:9
 class-word-requires : tie.Need-class-word-requires
 class-word-requires c κs = search needs
 
--- src/lib.rt:291:9
 returns-3 : tie.Need-returns-3
 returns-3 c = let p = c .before .before .before .before .before .before .before .before .before .before .before .before .pre in not-inner _ (c .before .before .before .before .before .before .before .before .before .before .before .before .args .t) (p .1 .1 .1 .1 .1 .1) (c .before .before .before .before .before .if1 .left) (p .1 .1 .1 .1 .0) (p .1 .1 .1 .1 .1 .0) (c .before .before .before .before .lane-of .ensures .0) (c .before .before .before .before .lane-of .ensures .1) (c .before .before .before .lacking .ensures) (c .before .before .if2 .left) (c .before .class-word .ensures) (c .if3 .taken)
 
--- src/lib.rt:293:18
 class-word-requires-2 : tie.Need-class-word-requires-2
 class-word-requires-2 c κs = search needs
 
--- src/lib.rt:293:9
 wide-requires : tie.Need-wide-requires
 wide-requires c κs = search needs
 
--- src/lib.rt:294:10
 known-requires : tie.Need-known-requires
 known-requires c κs = search needs
 
--- src/lib.rt:294:29
 rule-set-requires : tie.Need-rule-set-requires
 rule-set-requires c κs = c .before .before .before .before .before .before .before .before .before .before .before .before .before .before .before .pre .1 .1 .1 .1 .1 .1
 
--- src/lib.rt:294:6
 has-requires : tie.Need-has-requires
 has-requires c κs = search needs
 
--- src/lib.rt:262:1
 returns-4 : tie.Need-returns-4
 returns-4 c = let p = c .before .before .before .before .before .before .before .before .before .before .before .before .before .before .before .before .before .pre in inner-lacks _ (c .before .before .before .before .before .before .before .before .before .before .before .before .before .before .before .before .before .args .t) (p .1 .1 .1 .1 .1 .1) (c .before .before .before .before .before .before .before .before .before .before .if1 .left) (p .1 .1 .1 .1 .0) (p .1 .1 .1 .1 .1 .0) (c .before .before .before .before .before .before .before .before .before .lane-of .ensures .0) (c .before .before .before .before .before .before .before .before .before .lane-of .ensures .1) (c .before .before .before .before .before .before .before .before .lacking .ensures) (c .before .before .before .before .before .before .before .if2 .left) (c .before .before .before .before .before .before .class-word .ensures) (c .before .before .before .before .before .if3 .left) (inner-encloser (p .1 .0) (p .1 .1 .0) (p .1 .1 .1 .1 .1 .0) (c .before .before .before .before .before .before .class-word .ensures) (c .before .before .before .before .before .if3 .left) (c .before .before .before .wide .ensures .0) (c .before .before .before .before .class-word2 .ensures)) (marked (p .1 .1 .1 .0) _ (c .before .before .known .ensures) _ (c .before .rule-set .ensures .0) (c .has .ensures))
 

@@ -5,19 +5,13 @@ use Rattle.breaks.proofs.Naming.{user-class, library-class}
 use native.Mathlib.Omega.{arith}
 use Rattle.breaks.proofs.forbidden.Statement.{statement}
 use Rattle.breaks.proofs.forbidden.Tie as tie
-use Rattle.breaks.proofs.forbidden.Reads as reads
-use Rattle.breaks.proofs.forbidden.Lts as lts
-use Rattle.groups.proofs.class_word.Reads as class-word-reads
 
--- src/lib.rt:61:9
 returns : tie.Need-returns
 returns c = user-class _ (c .if1 .taken)
 
--- src/lib.rt:63:5
 class-word-requires : tie.Need-class-word-requires
 class-word-requires c κs = let p = c .before .before .before .before .before .pre in (p .0, (p .1, (omega (arith, classes-ordered (p .1), c .if1 .left), omega arith)))
 
--- src/lib.rt:46:1
 returns-2 : tie.Need-returns-2
 returns-2 c = library-class _ (c .before .if1 .left) (c .class-word .ensures)
 

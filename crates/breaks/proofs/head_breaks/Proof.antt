@@ -4,41 +4,28 @@ use Rattle.breaks.proofs.Heads.{head-library, head-fixed, head-not-nine
 use borrow.Author.Needs.{needs}
 use Rattle.breaks.proofs.head_breaks.Statement.{statement}
 use Rattle.breaks.proofs.head_breaks.Tie as tie
-use Rattle.breaks.proofs.head_breaks.Reads as reads
-use Rattle.breaks.proofs.head_breaks.Lts as lts
-use Rattle.breaks.proofs.base_breaks.Reads as base-breaks-reads
-use Rattle.breaks.proofs.fixed_breaks.Reads as fixed-breaks-reads
-use Rattle.breaks.proofs.root_breaks.Reads as root-breaks-reads
 
--- src/lib.rt:365:9
 root-breaks-requires : tie.Need-root-breaks-requires
 root-breaks-requires c κs = search needs
 
--- src/lib.rt:365:9
 returns : tie.Need-returns
 returns c = head-library _ (c .before .before .before .before .before .before .before .before .args .rule) (c .before .before .before .before .before .before .before .before .args .c) (c .before .if1 .taken) (c .root-breaks .ensures)
 
--- src/lib.rt:367:8
 fixed-breaks-requires : tie.Need-fixed-breaks-requires
 fixed-breaks-requires c κs = let p = c .before .before .before .before .before .before .before .pre in (p .0, (p .1 .0, (p .1 .1 .0, (p .1 .1 .1 .0, (p .1 .1 .1 .1 .0, p .1 .1 .1 .1 .1 .1)))))
 
--- src/lib.rt:380:9
 returns-2 : tie.Need-returns-2
 returns-2 c = head-fixed _ (c .before .before .before .before .before .before .before .before .before .args .rule) (c .before .before .before .before .before .before .before .before .before .args .c) (c .before .before .if1 .left) (c .before .fixed-breaks .ensures) (c .if2 .taken)
 
--- src/lib.rt:383:9
 returns-3 : tie.Need-returns-3
 returns-3 c = head-not-nine _ (c .before .before .before .before .before .before .before .before .before .before .args .rule) (c .before .before .before .before .before .before .before .before .before .before .args .c) (c .before .before .before .if1 .left) (c .before .before .fixed-breaks .ensures) (c .before .if2 .left) (c .if3 .taken)
 
--- src/lib.rt:386:9
 returns-4 : tie.Need-returns-4
 returns-4 c = head-above _ (c .before .before .before .before .before .before .before .before .before .before .before .args .rule) (c .before .before .before .before .before .before .before .before .before .before .before .args .c) (c .before .before .before .before .if1 .left) (c .before .before .before .fixed-breaks .ensures) (c .before .before .if2 .left) (c .before .if3 .left) (c .if4 .taken)
 
--- src/lib.rt:388:5
 base-breaks-requires : tie.Need-base-breaks-requires
 base-breaks-requires c κs = let p = c .before .before .before .before .before .before .before .before .before .before .before .pre in (p .0, (p .1 .0, (p .1 .1 .0, (p .1 .1 .1 .0, p .1 .1 .1 .1 .1 .0))))
 
--- src/lib.rt:341:1
 returns-5 : tie.Need-returns-5
 returns-5 c = head-own _ (c .before .before .before .before .before .before .before .before .before .before .before .before .args .rule) (c .before .before .before .before .before .before .before .before .before .before .before .before .args .c) (c .before .before .before .before .before .if1 .left) (c .before .before .before .before .fixed-breaks .ensures) (c .before .before .before .if2 .left) (c .before .before .if3 .left) (c .before .if4 .left) (c .base-breaks .ensures)
 

@@ -6,20 +6,15 @@ use native.Mathlib.Omega.{arith}
 use mathlib.Core.Path.{refl, sym}
 use Rattle.breaks.proofs.lane_of.Statement.{statement}
 use Rattle.breaks.proofs.lane_of.Tie as tie
-use Rattle.breaks.proofs.lane_of.Reads as reads
-use Rattle.breaks.proofs.lane_of.Lts as lts
 
--- src/lib.rt:303:9
 returns : tie.Need-returns
 unfolding fromSeven
 returns c = rw (c .if1 .taken) (refl, omega arith)
 
--- src/lib.rt:306:9
 returns-2 : tie.Need-returns-2
 unfolding fromSeven
 returns-2 c = rw (c .if2 .taken) (refl, omega arith)
 
--- src/lib.rt:298:1
 returns-3 : tie.Need-returns-3
 returns-3 c = (sym (past-eight (c .before .before .pre) 0 1 2 (c .before .if1 .left) (c .if2 .left)), omega arith)
 

@@ -5,66 +5,46 @@ use native.Mathlib.Omega.{arith}
 use borrow.Author.Needs.{needs}
 use Rattle.breaks.proofs.refers_forbidden.Statement.{statement}
 use Rattle.breaks.proofs.refers_forbidden.Tie as tie
-use Rattle.breaks.proofs.refers_forbidden.Reads as reads
-use Rattle.breaks.proofs.refers_forbidden.Lts as lts
-use Rattle.breaks.proofs.wide.Reads as wide-reads
-use Rattle.groups.proofs.nth_of.Reads as nth-of-reads
-use Rattle.groups.proofs.sheet_of.Reads as sheet-of-reads
-use Rattle.groups.proofs.word_of.Reads as word-of-reads
 
--- src/lib.rt:111:50
 add-word-of : tie.Need-add-word-of
 add-word-of c = search needs
 
--- src/lib.rt:111:8
 word-of-requires : tie.Need-word-of-requires
 word-of-requires c κs = search needs
 
--- src/lib.rt:112:9
 returns : tie.Need-returns
 returns c = refers-other (c .before .before .before .before .before .before .pre .1 .1 .0) (c .before .word-of .ensures) _ (c .if1 .taken)
 
--- src/lib.rt:114:60
 add-word-of-2 : tie.Need-add-word-of-2
 add-word-of-2 c = search needs
 
--- src/lib.rt:114:18
 word-of-requires-2 : tie.Need-word-of-requires-2
 word-of-requires-2 c κs = search needs
 
--- src/lib.rt:114:9
 wide-requires : tie.Need-wide-requires
 wide-requires c κs = search needs
 
--- src/lib.rt:115:60
 add-word-of-3 : tie.Need-add-word-of-3
 add-word-of-3 c = search needs
 
--- src/lib.rt:115:18
 word-of-requires-3 : tie.Need-word-of-requires-3
 word-of-requires-3 c κs = search needs
 
--- src/lib.rt:115:9
 wide-requires-2 : tie.Need-wide-requires-2
 wide-requires-2 c κs = search needs
 
--- src/lib.rt:116:9
 nth-of-requires : tie.Need-nth-of-requires
 nth-of-requires c κs = let p = c .before .before .before .before .before .before .before .before .before .before .pre in (p .0, (p .1 .0, class-there (p .1 .0) (p .1 .1 .0) (c .before .before .before .before .before .word-of .ensures) (c .before .before .before .before .if1 .left) (p .1 .1 .1 .0) (c .before .before .wide .ensures .0) (c .before .before .before .word-of2 .ensures)))
 
--- src/lib.rt:117:40
 sheet-of-requires : tie.Need-sheet-of-requires
 sheet-of-requires c κs = search needs
 
--- src/lib.rt:117:59
 add-word-of-4 : tie.Need-add-word-of-4
 add-word-of-4 c = let p = c .before .before .before .before .before .before .before .before .before .before .before .before .pre in let h = member-low (p .1 .0) (p .1 .1 .0) (c .before .before .before .before .before .before .before .word-of .ensures) (c .before .before .before .before .before .before .if1 .left) (p .1 .1 .1 .0) (c .before .before .before .before .wide .ensures .0) (c .before .before .before .before .before .word-of2 .ensures) (c .before .before .wide2 .ensures .0) (c .before .before .before .word-of3 .ensures) (c .before .nth-of .ensures) in omega (arith, h)
 
--- src/lib.rt:117:5
 word-of-requires-4 : tie.Need-word-of-requires-4
 word-of-requires-4 c κs = let p = c .before .before .before .before .before .before .before .before .before .before .before .before .pre in let h = member-low (p .1 .0) (p .1 .1 .0) (c .before .before .before .before .before .before .before .word-of .ensures) (c .before .before .before .before .before .before .if1 .left) (p .1 .1 .1 .0) (c .before .before .before .before .wide .ensures .0) (c .before .before .before .before .before .word-of2 .ensures) (c .before .before .wide2 .ensures .0) (c .before .before .before .word-of3 .ensures) (c .before .nth-of .ensures) in (p .0, omega (arith, h))
 
--- src/lib.rt:93:1
 returns-2 : tie.Need-returns-2
 returns-2 c = let p = c .before .before .before .before .before .before .before .before .before .before .before .before .before .pre in member-is (p .1 .0) (p .1 .1 .0) (c .before .before .before .before .before .before .before .before .word-of .ensures) (c .before .before .before .before .before .before .before .if1 .left) (p .1 .1 .1 .0) (c .before .before .before .before .before .wide .ensures .0) (c .before .before .before .before .before .before .word-of2 .ensures) (c .before .before .before .wide2 .ensures .0) (c .before .before .before .before .word-of3 .ensures) (c .before .before .nth-of .ensures) (c .before .sheet-of .ensures) (c .word-of4 .ensures)
 

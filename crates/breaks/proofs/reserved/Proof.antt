@@ -4,18 +4,13 @@ use Rattle.breaks.proofs.Bits.{reserved-is}
 use borrow.Author.Needs.{needs}
 use Rattle.breaks.proofs.reserved.Statement.{statement}
 use Rattle.breaks.proofs.reserved.Tie as tie
-use Rattle.breaks.proofs.reserved.Reads as reads
-use Rattle.breaks.proofs.reserved.Lts as lts
 
--- src/lib.rt:124:5
 add-result : tie.Need-add-result
 add-result c = search needs
 
--- src/lib.rt:124:5
 add-result-2 : tie.Need-add-result-2
 add-result-2 c = search needs
 
--- src/lib.rt:121:1
 returns : tie.Need-returns
 returns c = reserved-is (c .args .m)
 

@@ -5,33 +5,22 @@ use Rattle.breaks.proofs.Bits.{marked}
 use borrow.Author.Needs.{needs}
 use Rattle.breaks.proofs.root_breaks.Statement.{statement}
 use Rattle.breaks.proofs.root_breaks.Tie as tie
-use Rattle.breaks.proofs.root_breaks.Reads as reads
-use Rattle.breaks.proofs.root_breaks.Lts as lts
-use Rattle.breaks.proofs.rule_set.Reads as rule-set-reads
-use Rattle.markers.proofs.has.Reads as has-reads
-use Rattle.overlay.proofs.known.Reads as known-reads
 
--- src/lib.rt:253:9
 returns : tie.Need-returns
 returns c = root-zero _ (c .before .before .before .before .before .args .d) (c .before .before .before .before .before .pre .1) (c .if1 .taken)
 
--- src/lib.rt:256:9
 returns-2 : tie.Need-returns-2
 returns-2 c = root-nine _ (c .before .before .before .before .before .before .args .d) (c .if2 .taken)
 
--- src/lib.rt:258:10
 known-requires : tie.Need-known-requires
 known-requires c κs = search needs
 
--- src/lib.rt:258:29
 rule-set-requires : tie.Need-rule-set-requires
 rule-set-requires c κs = search needs
 
--- src/lib.rt:258:6
 has-requires : tie.Need-has-requires
 has-requires c κs = search needs
 
--- src/lib.rt:239:1
 returns-3 : tie.Need-returns-3
 returns-3 c = root-lacks _ (c .before .before .before .before .before .before .before .before .before .args .d) (c .before .before .before .before .before .before .before .before .before .pre .1) (c .before .before .before .before .if1 .left) (c .before .before .before .if2 .left) (marked (c .before .before .before .before .before .before .before .before .before .pre .0) _ (c .before .before .known .ensures) _ (c .before .rule-set .ensures .0) (c .has .ensures))
 

@@ -7,25 +7,19 @@ use Prim.Native.Nat.{ℕ, _^_}
 use mathlib.Core.Path.{refl, sym, ap}
 use Rattle.breaks.proofs.rule_set.Statement.{statement}
 use Rattle.breaks.proofs.rule_set.Tie as tie
-use Rattle.breaks.proofs.rule_set.Reads as reads
-use Rattle.breaks.proofs.rule_set.Lts as lts
 
--- src/lib.rt:174:9
 returns : tie.Need-returns
 unfolding ruleMarker fromSeven
 returns c = rw (c .if1 .taken) (refl, omega arith)
 
--- src/lib.rt:177:9
 returns-2 : tie.Need-returns-2
 unfolding ruleMarker fromSeven
 returns-2 c = rw (c .if2 .taken) (refl, omega arith)
 
--- src/lib.rt:180:9
 returns-3 : tie.Need-returns-3
 unfolding ruleMarker fromSeven
 returns-3 c = rw (c .if3 .taken) (refl, omega arith)
 
--- src/lib.rt:169:1
 returns-4 : tie.Need-returns-4
 unfolding ruleMarker
 returns-4 c = (ap (λ (k : ℕ). 2 ^ k) (sym (at-ten (c .before .before .before .args .rule) 0 1 2 7 (c .before .before .before .pre) (c .before .before .if1 .left) (c .before .if2 .left) (c .if3 .left))), omega arith)

@@ -5,53 +5,37 @@ use native.Mathlib.Omega.{arith}
 use borrow.Author.Needs.{needs}
 use Rattle.breaks.proofs.static_breaks.Statement.{statement}
 use Rattle.breaks.proofs.static_breaks.Tie as tie
-use Rattle.breaks.proofs.static_breaks.Reads as reads
-use Rattle.breaks.proofs.static_breaks.Lts as lts
-use Rattle.groups.proofs.word_of.Reads as word-of-reads
-use Rattle.markers.proofs.has.Reads as has-reads
-use Rattle.overlay.proofs.type_markers.Reads as type-markers-reads
 
--- src/lib.rt:143:50
 add-word-of : tie.Need-add-word-of
 add-word-of c = search needs
 
--- src/lib.rt:143:8
 word-of-requires : tie.Need-word-of-requires
 word-of-requires c κs = search needs
 
--- src/lib.rt:144:9
 returns : tie.Need-returns
 returns c = static-other _ (c .before .before .before .before .before .before .pre .1 .1 .0) (c .before .word-of .ensures) (c .if1 .taken)
 
--- src/lib.rt:146:59
 add-word-of-2 : tie.Need-add-word-of-2
 add-word-of-2 c = search needs
 
--- src/lib.rt:146:9
 word-of-requires-2 : tie.Need-word-of-requires-2
 word-of-requires-2 c κs = search needs
 
--- src/lib.rt:148:9
 returns-2 : tie.Need-returns-2
 returns-2 c = static-instance _ (c .before .before .before .before .before .before .before .before .pre .1 .1 .0) (c .before .before .before .word-of .ensures) (c .before .before .if1 .left) (c .before .word-of2 .ensures) (c .if2 .taken)
 
--- src/lib.rt:151:9
 returns-3 : tie.Need-returns-3
 returns-3 c = static-changing _ (c .before .before .before .before .before .before .before .before .before .pre .1 .1 .0) (c .before .before .before .before .word-of .ensures) (c .before .before .before .if1 .left) (c .before .before .word-of2 .ensures) (c .before .if2 .left) (c .if3 .taken)
 
--- src/lib.rt:154:56
 add-type-markers : tie.Need-add-type-markers
 add-type-markers c = search needs
 
--- src/lib.rt:154:9
 type-markers-requires : tie.Need-type-markers-requires
 type-markers-requires c κs = let p = c .before .before .before .before .before .before .before .before .before .pre in (p .0, (omega (arith, p .1 .1 .1), p .1 .0))
 
--- src/lib.rt:153:6
 has-requires : tie.Need-has-requires
 has-requires c κs = search needs
 
--- src/lib.rt:128:1
 returns-4 : tie.Need-returns-4
 returns-4 c = static-typed _ (c .before .before .before .before .before .before .before .before .before .before .before .pre .1 .1 .0) (c .before .before .before .before .before .before .word-of .ensures) (c .before .before .before .before .before .if1 .left) (c .before .before .before .before .word-of2 .ensures) (c .before .before .before .if2 .left) (c .before .before .if3 .left) (c .before .type-markers .ensures) (c .has .ensures)
 

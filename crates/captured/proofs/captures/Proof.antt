@@ -6,23 +6,15 @@ use Rattle.captured.proofs.Seeding.{captures-fit, captures-end}
 use borrow.Author.Needs.{needs}
 use Rattle.captured.proofs.captures.Statement.{statement}
 use Rattle.captured.proofs.captures.Tie as tie
-use Rattle.captured.proofs.captures.Reads as reads
-use Rattle.captured.proofs.captures.Lts as lts
-use Rattle.captured.proofs.seed.Reads as seed-reads
-use Rattle.reach.proofs.close.Reads as close-reads
-use Rattle.lanes.proofs.fill.Reads as fill-reads
 
--- src/lib.rt:225:5
 fill-requires : tie.Need-fill-requires
 fill-requires c κs = search needs
 
--- src/lib.rt:226:5
 seed-requires : tie.Need-seed-requires
 seed-requires c κs =
     let p = c .before .before .before .before .before .before .before .before .before .before .before .pre in
     (p .0, (p .1 .0, (p .1 .1 .0, (p .1 .1 .1 .0, omega (arith, p .1 .1 .1 .1, emptied (c .before .before .before .before .before .before .before .before .before .before .before .args .row .now) (p .1 .1 .1 .1) (c .before .before .before .fill .ensures) .long)))))
 
--- src/lib.rt:227:5
 close-requires : tie.Need-close-requires
 close-requires c κs =
     let p = c .before .before .before .before .before .before .before .before .before .before .before .before .before .before .before .pre in
@@ -30,11 +22,9 @@ close-requires c κs =
     let f = c .before .before .before .seed .ensures in
     (p .0, (p .1 .0, (omega (arith, p .1 .1 .1 .1, e .long, f .long), captures-fit (p .1 .0) (p .1 .1 .0) e f)))
 
--- src/lib.rt:207:1
 same-length : tie.Need-same-length
 same-length c = search needs
 
--- src/lib.rt:207:1
 returns : tie.Need-returns
 returns c =
     let p = c .before .before .before .before .before .before .before .before .before .before .before .before .before .before .before .before .before .before .pre in

@@ -4,18 +4,13 @@ use native.Mathlib.Omega.{arith}
 use Rattle.captured.proofs.Seeding.{lane-first, lane-second, lane-third}
 use Rattle.captured.proofs.lane_set.Statement.{statement}
 use Rattle.captured.proofs.lane_set.Tie as tie
-use Rattle.captured.proofs.lane_set.Reads as reads
-use Rattle.captured.proofs.lane_set.Lts as lts
 
--- src/lib.rt:41:9
 returns : tie.Need-returns
 returns c = (lane-first _ (c .if1 .taken), omega arith)
 
--- src/lib.rt:44:9
 returns-2 : tie.Need-returns-2
 returns-2 c = (lane-second _ (c .if2 .taken), omega arith)
 
--- src/lib.rt:37:1
 returns-3 : tie.Need-returns-3
 returns-3 c = (lane-third _ (c .before .if1 .left) (c .if2 .left), omega arith)
 

@@ -6,9 +6,6 @@ use Rattle.captured.specs.Seeds.{Lowering, InLanes}
 use Rattle.captured.proofs.Seeding.{offer-unmarked, offer-start, offer-next, offer-end}
 use Rattle.captured.proofs.offer.Statement.{statement}
 use Rattle.captured.proofs.offer.Tie as tie
-use Rattle.captured.proofs.offer.Reads as reads
-use Rattle.captured.proofs.offer.Lts as lts
-use Rattle.captured.proofs.lower.Reads as lower-reads
 
 abbrev Inv-loop : tie.InvT-loop
 Inv-loop marks set m d row₀ k₀ row k = (k ≤ 3) × Lowering (InLanes marks set k m d) row₀ row
@@ -16,39 +13,30 @@ Inv-loop marks set m d row₀ k₀ row k = (k ≤ 3) × Lowering (InLanes marks 
 abbrev μ-loop : tie.MeasureT-loop
 μ-loop marks set m d row₀ k₀ row k = 3 - k
 
--- src/lib.rt:92:8
 shared-slice-read-if1 : tie.Need-shared-slice-read-if1 Inv-loop μ-loop
 shared-slice-read-if1 c = omega arith
 
--- src/lib.rt:93:9
 returns : tie.Need-returns Inv-loop μ-loop
 returns c = offer-unmarked _ (c .if1 .taken)
 
--- src/lib.rt:96:5
 loop-holds : tie.Need-loop-holds Inv-loop μ-loop
 loop-holds c = (omega arith, offer-start _)
 
--- src/lib.rt:97:9
 lower-requires : tie.Need-lower-requires Inv-loop μ-loop
 lower-requires c κs = omega (arith, c .before .before .loop .inv .1 .long)
 
--- src/lib.rt:98:9
 add-k : tie.Need-add-k Inv-loop μ-loop
 add-k c = omega arith
 
--- src/lib.rt:96:5
 loop-less : tie.Need-loop-less Inv-loop μ-loop
 loop-less c = omega arith
 
--- src/lib.rt:96:5
 loop-again : tie.Need-loop-again Inv-loop μ-loop
 loop-again c = (omega arith, offer-next (c .before .before .before .before .before .before .if1 .left) (c .before .before .before .before .before .loop .inv .1) (c .before .before .lower .ensures))
 
--- src/lib.rt:88:1
 same-length : tie.Need-same-length Inv-loop μ-loop
 same-length c = c .before .loop .inv .1 .long
 
--- src/lib.rt:88:1
 returns-2 : tie.Need-returns-2 Inv-loop μ-loop
 returns-2 c = offer-end (omega arith) (c .before .loop .inv .1)
 

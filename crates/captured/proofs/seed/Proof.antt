@@ -8,9 +8,6 @@ use Rattle.captured.specs.Seeds.{Lowering, ByClasses}
 use Rattle.captured.proofs.Seeding.{all-start, all-next, all-end}
 use Rattle.captured.proofs.seed.Statement.{statement}
 use Rattle.captured.proofs.seed.Tie as tie
-use Rattle.captured.proofs.seed.Reads as reads
-use Rattle.captured.proofs.seed.Lts as lts
-use Rattle.captured.proofs.seed_class.Reads as seed-class-reads
 
 abbrev Inv-loop : tie.InvT-loop
 Inv-loop library user group cut starts nlib n markers row₀ m₀ row m =
@@ -19,33 +16,26 @@ Inv-loop library user group cut starts nlib n markers row₀ m₀ row m =
 abbrev μ-loop : tie.MeasureT-loop
 μ-loop library user group cut starts nlib n markers row₀ m₀ row m = n - m
 
--- src/lib.rt:200:5
 loop-holds : tie.Need-loop-holds Inv-loop μ-loop
 loop-holds c = (omega arith, all-start _)
 
--- src/lib.rt:201:9
 seed-class-requires : tie.Need-seed-class-requires Inv-loop μ-loop
 seed-class-requires c κs =
     let p = c .before .before .before .before .before .before .before .before .before .pre in
     (p .0, (p .1 .0, (p .1 .1 .0, (p .1 .1 .1 .0, (omega arith, omega (arith, p .1 .1 .1 .1, c .before .before .loop .inv .1 .long))))))
 
--- src/lib.rt:202:9
 add-m : tie.Need-add-m Inv-loop μ-loop
 add-m c = omega (arith, c .before .before .before .before .before .before .before .before .before .before .before .before .pre .1 .0 .few)
 
--- src/lib.rt:200:5
 loop-less : tie.Need-loop-less Inv-loop μ-loop
 loop-less c = omega arith
 
--- src/lib.rt:200:5
 loop-again : tie.Need-loop-again Inv-loop μ-loop
 loop-again c = (omega arith, all-next (c .before .before .before .before .before .loop .inv .1) (c .before .before .seed-class .ensures))
 
--- src/lib.rt:181:1
 same-length : tie.Need-same-length Inv-loop μ-loop
 same-length c = c .before .loop .inv .1 .long
 
--- src/lib.rt:181:1
 returns : tie.Need-returns Inv-loop μ-loop
 returns c = all-end (omega arith) (c .before .loop .inv .1)
 

@@ -6,89 +6,70 @@ use Rattle.captured.proofs.Seeding.{record-other, owner-there, variable
 use borrow.Author.Needs.{needs}
 use Rattle.captured.proofs.seed_record.Statement.{statement}
 use Rattle.captured.proofs.seed_record.Tie as tie
-use Rattle.captured.proofs.seed_record.Reads as reads
-use Rattle.captured.proofs.seed_record.Lts as lts
-use Rattle.captured.proofs.offer.Reads as offer-reads
-use Rattle.captured.proofs.variable_markers.Reads as variable-markers-reads
-use Rattle.captured.proofs.wide.Reads as wide-reads
-use Rattle.groups.proofs.word_of.Reads as word-of-reads
 
--- src/lib.rt:126:50
 add-word-of : tie.Need-add-word-of
 add-word-of c =
     let p = c .before .before .before .before .before .before .before .pre in
     let o = p .1 .1 .1 .1 .0 in
     omega (arith, at-low (p .1 .0) (c .before .before .before .before .before .before .before .args .sheet) (o .sized))
 
--- src/lib.rt:126:8
 word-of-requires : tie.Need-word-of-requires
 word-of-requires c κs =
     let p = c .before .before .before .before .before .before .before .pre in
     let o = p .1 .1 .1 .1 .0 in
     (p .0, omega (arith, at-low (p .1 .0) (c .before .before .before .before .before .before .before .args .sheet) (o .sized)))
 
--- src/lib.rt:127:9
 returns : tie.Need-returns
 returns c =
     let p = c .before .before .before .before .before .before .before .before .before .pre in
     let o = p .1 .1 .1 .1 .0 in
     record-other (p .1 .0) (p .1 .1 .0) (c .before .before .before .before .before .before .before .before .before .args .m) (o .sized) (o .member) (c .before .word-of .ensures) (c .if1 .taken) _
 
--- src/lib.rt:129:60
 add-word-of-2 : tie.Need-add-word-of-2
 add-word-of-2 c =
     let p = c .before .before .before .before .before .before .before .before .before .pre in
     let o = p .1 .1 .1 .1 .0 in
     omega (arith, at-low (p .1 .0) (c .before .before .before .before .before .before .before .before .before .args .sheet) (o .sized))
 
--- src/lib.rt:129:18
 word-of-requires-2 : tie.Need-word-of-requires-2
 word-of-requires-2 c κs =
     let p = c .before .before .before .before .before .before .before .before .before .pre in
     let o = p .1 .1 .1 .1 .0 in
     (p .0, omega (arith, at-low (p .1 .0) (c .before .before .before .before .before .before .before .before .before .args .sheet) (o .sized)))
 
--- src/lib.rt:129:9
 wide-requires : tie.Need-wide-requires
 wide-requires c κs = search needs
 
--- src/lib.rt:130:60
 add-word-of-3 : tie.Need-add-word-of-3
 add-word-of-3 c =
     let p = c .before .before .before .before .before .before .before .before .before .before .before .pre in
     let o = p .1 .1 .1 .1 .0 in
     omega (arith, at-low (p .1 .0) (c .before .before .before .before .before .before .before .before .before .before .before .args .sheet) (o .sized))
 
--- src/lib.rt:130:18
 word-of-requires-3 : tie.Need-word-of-requires-3
 word-of-requires-3 c κs =
     let p = c .before .before .before .before .before .before .before .before .before .before .before .pre in
     let o = p .1 .1 .1 .1 .0 in
     (p .0, omega (arith, at-low (p .1 .0) (c .before .before .before .before .before .before .before .before .before .before .before .args .sheet) (o .sized)))
 
--- src/lib.rt:130:9
 wide-requires-2 : tie.Need-wide-requires-2
 wide-requires-2 c κs = search needs
 
--- src/lib.rt:131:9
 variable-markers-requires : tie.Need-variable-markers-requires
 variable-markers-requires c κs =
     let p = c .before .before .before .before .before .before .before .before .before .before .before .before .before .pre in
     let o = p .1 .1 .1 .1 .0 in
     (p .0, (p .1 .0, (p .1 .1 .1 .0, (owner-there (p .1 .0) (p .1 .1 .0) (c .before .before .before .before .before .before .before .before .before .before .before .before .before .args .m) (o .sized) (o .member) (c .before .before .before .before .before .word-of .ensures) (c .before .before .before .before .if1 .left) (c .before .before .wide .ensures .0) (c .before .before .before .word-of2 .ensures), variable-there (p .1 .0) (p .1 .1 .0) (c .before .before .before .before .before .before .before .before .before .before .before .before .before .args .m) (o .sized) (o .member) (c .before .before .before .before .before .word-of .ensures) (c .before .before .before .before .if1 .left) (c .before .before .wide .ensures .0) (c .before .before .before .word-of2 .ensures) (c .wide2 .ensures .0) (c .before .word-of3 .ensures)))))
 
--- src/lib.rt:132:5
 offer-requires : tie.Need-offer-requires
 offer-requires c κs =
     let p = c .before .before .before .before .before .before .before .before .before .before .before .before .before .before .before .pre in
     let o = p .1 .1 .1 .1 .0 in
     omega (arith, p .1 .1 .1 .1 .1, p .1 .0 .few, o .wide, owner-there (p .1 .0) (p .1 .1 .0) (c .before .before .before .before .before .before .before .before .before .before .before .before .before .before .before .args .m) (o .sized) (o .member) (c .before .before .before .before .before .before .before .word-of .ensures) (c .before .before .before .before .before .before .if1 .left) (c .before .before .before .before .wide .ensures .0) (c .before .before .before .before .before .word-of2 .ensures))
 
--- src/lib.rt:103:1
 same-length : tie.Need-same-length
 same-length c = search needs
 
--- src/lib.rt:103:1
 returns-2 : tie.Need-returns-2
 returns-2 c =
     let p = c .before .before .before .before .before .before .before .before .before .before .before .before .before .before .before .before .before .before .pre in

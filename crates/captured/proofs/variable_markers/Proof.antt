@@ -5,29 +5,19 @@ use Rattle.captured.proofs.Seeding.{variable-type, variable-markers}
 use borrow.Author.Needs.{needs}
 use Rattle.captured.proofs.variable_markers.Statement.{statement}
 use Rattle.captured.proofs.variable_markers.Tie as tie
-use Rattle.captured.proofs.variable_markers.Reads as reads
-use Rattle.captured.proofs.variable_markers.Lts as lts
-use Rattle.groups.proofs.nth_of.Reads as nth-of-reads
-use Rattle.groups.proofs.sheet_of.Reads as sheet-of-reads
-use Rattle.overlay.proofs.type_markers.Reads as type-markers-reads
 
--- src/lib.rt:68:9
 nth-of-requires : tie.Need-nth-of-requires
 nth-of-requires c κs = search needs
 
--- src/lib.rt:69:9
 sheet-of-requires : tie.Need-sheet-of-requires
 sheet-of-requires c κs = search needs
 
--- src/lib.rt:70:52
 add-type-markers : tie.Need-add-type-markers
 add-type-markers c = let p = c .before .before .before .before .before .before .before .pre in omega (arith, variable-type (p .1 .0) (p .1 .1 .1 .0) (c .sheet-of .ensures) _ (p .1 .1 .1 .1) (c .before .nth-of .ensures) .1)
 
--- src/lib.rt:70:5
 type-markers-requires : tie.Need-type-markers-requires
 type-markers-requires c κs = let p = c .before .before .before .before .before .before .before .pre in (p .0, (omega (arith, variable-type (p .1 .0) (p .1 .1 .1 .0) (c .sheet-of .ensures) _ (p .1 .1 .1 .1) (c .before .nth-of .ensures) .1), p .1 .1 .0))
 
--- src/lib.rt:50:1
 returns : tie.Need-returns
 returns c = let p = c .before .before .before .before .before .before .before .before .pre in variable-markers (p .1 .0) (p .1 .1 .1 .0) (c .before .sheet-of .ensures) _ (p .1 .1 .1 .1) (c .before .before .nth-of .ensures) (c .type-markers .ensures)
 

@@ -12,45 +12,36 @@ use borrow.Author.Needs.{needs}
 use Rattle.drafts.proofs.add_in.Statement.{statement}
 use Rattle.drafts.proofs.add_in.Tie as tie
 
--- src/lib.rt:74:20
 room-of-requires : tie.Need-room-of-requires
 room-of-requires c κs = search needs
 
--- src/lib.rt:74:16
 mul-size : tie.Need-mul-size
 mul-size c = search needs
 
--- src/lib.rt:75:60
 slice-relend-prefix-add : tie.Need-slice-relend-prefix-add
 slice-relend-prefix-add c = blank-within _ (c .before .before .before .before .before .before .before .before .pre) _ (c .before .before .room-of .ensures .1)
 
--- src/lib.rt:75:60
 slice-aggregate-add : tie.Need-slice-aggregate-add
 slice-aggregate-add c = blank-long _ (c .before .before .before .before .before .before .before .before .before .pre) _ (c .before .before .before .room-of .ensures .1)
 
--- src/lib.rt:75:9
 add-requires : tie.Need-add-requires
 add-requires c κs = search needs
 
--- src/lib.rt:77:14
 enum-told : tie.Need-enum-told
 enum-told c = search needs
 
--- src/lib.rt:77:26
 slice-reshare-prefix-copy : tie.Need-slice-reshare-prefix-copy
 slice-reshare-prefix-copy c =
     let a = c .before .before .before .before .before .before .before .before .before .before .before .before .before .before .before .before .before .before .before .before .args in
     let p = blank-part (c .before .before .before .before .before .before .before .before .before .before .before .before .before .before .before .before .before .before .before .before .pre) (a .lines) (c .before .before .before .before .before .before .before .before .before .before .before .before .before .before .room-of .ensures .0) in
     front-within (c .before .before .before .before .before .before .before .before .before .add .last .1 .1 .1 .1 .0) (c .before .before .before .before .before .before .before .before .before .before .before .before .before .before .room-of .result) (made-long (a .library .now) (a .user .now) (a .used .now) (a .lines) (a .scratch .now) (λ (l : List ℕ). addition flat (a .library .now) (record { user = a .user .now; used = a .used .now; verdicts = l }) (a .group .now) (length (a .scratch .now))) (addition-same (a .library .now) (a .user .now) (a .used .now) (a .lines) (length (a .scratch .now)) (a .group .now)) p (c .before .before .before .before .before .before .before .before .before .add .ensures) (c .before .before .before .before .before .before .before .before .before .before .before .before .before .before .room-of .ensures .0)) _
 
--- src/lib.rt:77:26
 slice-aggregate-copy : tie.Need-slice-aggregate-copy
 slice-aggregate-copy c =
     let a = c .before .before .before .before .before .before .before .before .before .before .before .before .before .before .before .before .before .before .before .before .before .args in
     let p = blank-part (c .before .before .before .before .before .before .before .before .before .before .before .before .before .before .before .before .before .before .before .before .before .pre) (a .lines) (c .before .before .before .before .before .before .before .before .before .before .before .before .before .before .before .room-of .ensures .0) in
     front-long (c .before .before .before .before .before .before .before .before .before .before .add .last .1 .1 .1 .1 .0) (c .before .before .before .before .before .before .before .before .before .before .before .before .before .before .before .room-of .result) (made-long (a .library .now) (a .user .now) (a .used .now) (a .lines) (a .scratch .now) (λ (l : List ℕ). addition flat (a .library .now) (record { user = a .user .now; used = a .used .now; verdicts = l }) (a .group .now) (length (a .scratch .now))) (addition-same (a .library .now) (a .user .now) (a .used .now) (a .lines) (length (a .scratch .now)) (a .group .now)) p (c .before .before .before .before .before .before .before .before .before .before .add .ensures) (c .before .before .before .before .before .before .before .before .before .before .before .before .before .before .before .room-of .ensures .0)) _
 
--- src/lib.rt:77:9
 copy-requires : tie.Need-copy-requires
 copy-requires c κs =
     let a = c .before .before .before .before .before .before .before .before .before .before .before .before .before .before .before .before .before .before .before .before .before .args in
@@ -60,38 +51,30 @@ copy-requires c κs =
 enum-told-2 : tie.Need-enum-told-2
 enum-told-2 c = search needs
 
--- src/lib.rt:62:1
 same-length : tie.Need-same-length
 same-length c = search needs
 
--- src/lib.rt:62:1
 same-length-2 : tie.Need-same-length-2
 same-length-2 c = search needs
 
--- src/lib.rt:62:1
 same-length-3 : tie.Need-same-length-3
 same-length-3 c = search needs
 
--- src/lib.rt:62:1
 returns : tie.Need-returns
 returns c =
     let a = c .before .before .before .before .before .before .before .before .before .before .before .before .before .before .before .before .before .before .before .before .before .before .before .before .args in
     let p = blank-part (c .before .before .before .before .before .before .before .before .before .before .before .before .before .before .before .before .before .before .before .before .before .before .before .before .pre) (a .lines) (c .before .before .before .before .before .before .before .before .before .before .before .before .before .before .before .before .before .before .room-of .ensures .0) in
     made-copied (a .library .now) (a .user .now) (a .used .now) (a .lines) (a .scratch .now) (λ (l : List ℕ). addition flat (a .library .now) (record { user = a .user .now; used = a .used .now; verdicts = l }) (a .group .now) (length (a .scratch .now))) (addition-same (a .library .now) (a .user .now) (a .used .now) (a .lines) (length (a .scratch .now)) (a .group .now)) p (c .before .before .before .before .before .before .before .before .before .before .before .before .before .add .ensures) (ap addedAnswer (c .before .before .before .before .before .enum-told .given .1)) (front-is (c .before .before .before .before .before .before .before .before .before .before .before .before .before .add .last .1 .1 .1 .1 .0) (c .before .before .before .before .before .before .before .before .before .before .before .before .before .before .before .before .before .before .room-of .result) (made-long (a .library .now) (a .user .now) (a .used .now) (a .lines) (a .scratch .now) (λ (l : List ℕ). addition flat (a .library .now) (record { user = a .user .now; used = a .used .now; verdicts = l }) (a .group .now) (length (a .scratch .now))) (addition-same (a .library .now) (a .user .now) (a .used .now) (a .lines) (length (a .scratch .now)) (a .group .now)) p (c .before .before .before .before .before .before .before .before .before .before .before .before .before .add .ensures) (c .before .before .before .before .before .before .before .before .before .before .before .before .before .before .before .before .before .before .room-of .ensures .0)) _) (c .before .before .copy .ensures)
 
--- src/lib.rt:62:1
 same-length-4 : tie.Need-same-length-4
 same-length-4 c = search needs
 
--- src/lib.rt:62:1
 same-length-5 : tie.Need-same-length-5
 same-length-5 c = search needs
 
--- src/lib.rt:62:1
 same-length-6 : tie.Need-same-length-6
 same-length-6 c = search needs
 
--- src/lib.rt:62:1
 returns-2 : tie.Need-returns-2
 returns-2 c =
     let a = c .before .before .before .before .before .before .before .before .before .before .before .before .before .before .before .before .before .before .before .args in

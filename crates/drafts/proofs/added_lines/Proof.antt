@@ -7,23 +7,18 @@ use borrow.Author.Needs.{needs}
 use Rattle.drafts.proofs.added_lines.Statement.{statement}
 use Rattle.drafts.proofs.added_lines.Tie as tie
 
--- src/lib.rt:102:27
 enum-told : tie.Need-enum-told
 enum-told c = search needs
 
--- src/lib.rt:102:27
 room-of-requires : tie.Need-room-of-requires
 room-of-requires c κs = search needs
 
--- src/lib.rt:103:36
 enum-told-2 : tie.Need-enum-told-2
 enum-told-2 c = search needs
 
--- src/lib.rt:98:1
 returns : tie.Need-returns
 returns c = lines-fine _ (ap addedAnswer (c .before .enum-told .given .1)) (c .room-of .ensures .0)
 
--- src/lib.rt:98:1
 returns-2 : tie.Need-returns-2
 returns-2 c = lines-refused _ (ap addedAnswer (c .enum-told2 .given .1))
 

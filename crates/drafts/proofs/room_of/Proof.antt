@@ -6,11 +6,9 @@ use native.Mathlib.Omega.{arith}
 use Rattle.drafts.proofs.room_of.Statement.{statement}
 use Rattle.drafts.proofs.room_of.Tie as tie
 
--- src/lib.rt:20:9
 returns : tie.Need-returns
 returns c = (room-many _ (search needs), search needs)
 
--- src/lib.rt:16:1
 returns-2 : tie.Need-returns-2
 returns-2 c = (room-few _ (omega arith), omega arith)
 

@@ -8,9 +8,6 @@ use borrow.Author.Needs.{needs}
 use Rattle.flat.proofs.Counting.{CountAt, faultedAt, lines-room, count-start, count-no, count-yes, count-end, rule-clean, rule-broken, faulted-is}
 use Rattle.flat.proofs.faulted.Statement.{statement}
 use Rattle.flat.proofs.faulted.Tie as tie
-use Rattle.flat.proofs.faulted.Reads as reads
-use Rattle.flat.proofs.faulted.Lts as lts
-use Rattle.flat.proofs.lines_of.Reads as lines-of-reads
 
 abbrev Inv-loop : tie.InvT-loop
 Inv-loop verdicts n end i₀ m₀ i m = CountAt (faultedAt verdicts) end i m
@@ -18,40 +15,31 @@ Inv-loop verdicts n end i₀ m₀ i m = CountAt (faultedAt verdicts) end i m
 abbrev μ-loop : tie.MeasureT-loop
 μ-loop verdicts n end i₀ m₀ i m = end - i
 
--- src/lib.rt:22:9
 lines-of-requires : tie.Need-lines-of-requires Inv-loop μ-loop
 lines-of-requires c κs = search needs
 
--- src/lib.rt:25:5
 loop-holds : tie.Need-loop-holds Inv-loop μ-loop
 loop-holds c = count-start _ _
 
--- src/lib.rt:26:21
 mul-if1 : tie.Need-mul-if1 Inv-loop μ-loop
 mul-if1 c = omega (arith, lines-room _ _ (c .before .before .lines-of .ensures))
 
--- src/lib.rt:26:12
 shared-slice-read-if1 : tie.Need-shared-slice-read-if1 Inv-loop μ-loop
 shared-slice-read-if1 c = omega (arith, lines-room _ _ (c .before .before .before .lines-of .ensures))
 
--- src/lib.rt:27:13
 add-m : tie.Need-add-m Inv-loop μ-loop
 add-m c = omega (arith, c .before .before .before .loop .inv .few)
 
--- src/lib.rt:29:9
 add-i : tie.Need-add-i Inv-loop μ-loop
 add-i c = omega arith
 
--- src/lib.rt:25:5
 loop-less : tie.Need-loop-less Inv-loop μ-loop
 loop-less c = omega arith
 
--- src/lib.rt:25:5
 loop-again : tie.Need-loop-again Inv-loop μ-loop
 loop-again c =
     ⊎-elim (λ w. count-yes (c .before .before .before .loop .inv) (omega arith) (rule-broken _ _ refl (w .0 .taken)) (w .1)) (λ w. count-no (c .before .before .before .loop .inv) (omega arith) (rule-clean _ _ refl (w .0 .left)) (w .1)) (c .if1 .came)
 
--- src/lib.rt:19:1
 returns : tie.Need-returns Inv-loop μ-loop
 returns c = faulted-is _ (count-end (c .before .loop .inv) (omega arith)) (c .before .before .lines-of .ensures)
 

@@ -7,8 +7,6 @@ use borrow.Author.Tests.{eq-eqb, ne-eqb}
 use Rattle.flat.proofs.Counting.{CountAt, markedAt, count-start, count-no, count-yes, count-end, marked-is}
 use Rattle.flat.proofs.marked.Statement.{statement}
 use Rattle.flat.proofs.marked.Tie as tie
-use Rattle.flat.proofs.marked.Reads as reads
-use Rattle.flat.proofs.marked.Lts as lts
 
 abbrev Inv-loop : tie.InvT-loop
 Inv-loop marks n c₀ m₀ c m = CountAt (markedAt marks) n c m
@@ -16,31 +14,24 @@ Inv-loop marks n c₀ m₀ c m = CountAt (markedAt marks) n c m
 abbrev μ-loop : tie.MeasureT-loop
 μ-loop marks n c₀ m₀ c m = n - c
 
--- src/lib.rt:195:5
 loop-holds : tie.Need-loop-holds Inv-loop μ-loop
 loop-holds c = count-start _ _
 
--- src/lib.rt:196:12
 shared-slice-read-if1 : tie.Need-shared-slice-read-if1 Inv-loop μ-loop
 shared-slice-read-if1 c = omega (arith, c .before .before .before .pre)
 
--- src/lib.rt:197:13
 add-m : tie.Need-add-m Inv-loop μ-loop
 add-m c = omega (arith, c .before .before .before .loop .inv .few)
 
--- src/lib.rt:199:9
 add-c : tie.Need-add-c Inv-loop μ-loop
 add-c c = omega arith
 
--- src/lib.rt:195:5
 loop-less : tie.Need-loop-less Inv-loop μ-loop
 loop-less c = omega arith
 
--- src/lib.rt:195:5
 loop-again : tie.Need-loop-again Inv-loop μ-loop
 loop-again c = ⊎-elim (λ w. count-yes (c .before .before .before .loop .inv) (omega arith) (eq-eqb _ _ (w .0 .taken)) (w .1)) (λ w. count-no (c .before .before .before .loop .inv) (omega arith) (ne-eqb _ _ (w .0 .left)) (w .1)) (c .if1 .came)
 
--- src/lib.rt:189:1
 returns : tie.Need-returns Inv-loop μ-loop
 returns c = marked-is _ _ (count-end (c .before .loop .inv) (omega arith))
 

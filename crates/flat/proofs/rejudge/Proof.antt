@@ -7,54 +7,37 @@ use Rattle.flat.proofs.Clearing.{clear-is}
 use borrow.Author.Needs.{needs}
 use Rattle.flat.proofs.rejudge.Statement.{statement}
 use Rattle.flat.proofs.rejudge.Tie as tie
-use Rattle.flat.proofs.rejudge.Reads as reads
-use Rattle.flat.proofs.rejudge.Lts as lts
-use Rattle.captured.proofs.captures.Reads as captures-reads
-use Rattle.flat.proofs.rewrite.Reads as rewrite-reads
-use Rattle.lanes.proofs.fill.Reads as fill-reads
-use Rattle.overlay.proofs.overlays.Reads as overlays-reads
 
--- src/lib.rt:132:9
 slice-aggregate-overlays : tie.Need-slice-aggregate-overlays
 slice-aggregate-overlays c = search needs
 
--- src/lib.rt:123:5
 overlays-requires : tie.Need-overlays-requires
 overlays-requires c κs = let p = c .before .before .before .before .before .before .before .before .before .before .pre in (p .0, (p .1 .0, (ground (p .1 .0) (p .1 .1 .0) .falls, (p .1 .1 .1 .0, refl))))
 
--- src/lib.rt:142:9
 slice-aggregate-captures : tie.Need-slice-aggregate-captures
 slice-aggregate-captures c = search needs
 
--- src/lib.rt:134:5
 captures-requires : tie.Need-captures-requires
 captures-requires c κs = let p = c .before .before .before .before .before .before .before .before .before .before .before .before .before .before .before .before .pre in (p .0, (p .1 .0, (p .1 .1 .0, (c .before .before .before .before .before .overlays .ensures .0, omega (arith, p .1 .1 .1 .1 .2)))))
 
--- src/lib.rt:153:9
 slice-aggregate-rewrite : tie.Need-slice-aggregate-rewrite
 slice-aggregate-rewrite c = search needs
 
--- src/lib.rt:145:5
 rewrite-requires : tie.Need-rewrite-requires
 rewrite-requires c κs = let p = c .before .before .before .before .before .before .before .before .before .before .before .before .before .before .before .before .before .before .before .before .before .before .pre in (p .0, (p .1 .0, (p .1 .1 .0, (c .before .before .before .before .before .before .before .before .before .before .before .overlays .ensures .0, (c .before .before .before .before .before .captures .ensures .shown, (p .1 .1 .1 .1 .0, p .1 .1 .1 .1 .1))))))
 
--- src/lib.rt:158:5
 fill-requires : tie.Need-fill-requires
 fill-requires c κs = let p = c .before .before .before .before .before .before .before .before .before .before .before .before .before .before .before .before .before .before .before .before .before .before .before .before .before .before .pre in omega (arith, p .1 .1 .1 .1 .2, c .before .before .before .before .before .before .before .before .before .captures .ensures .long)
 
--- src/lib.rt:100:1
 same-length : tie.Need-same-length
 same-length c = search needs
 
--- src/lib.rt:100:1
 same-length-2 : tie.Need-same-length-2
 same-length-2 c = search needs
 
--- src/lib.rt:100:1
 same-length-3 : tie.Need-same-length-3
 same-length-3 c = search needs
 
--- src/lib.rt:100:1
 returns : tie.Need-returns
 returns c = (c .before .before .before .before .before .before .before .before .before .before .before .before .before .before .before .before .before .before .overlays .ensures .1, (c .before .before .before .before .before .before .rewrite .ensures, clear-is (c .before .before .before .before .before .before .before .before .before .before .before .before .captures .ensures) (c .before .before .fill .ensures)))
 

@@ -1,9 +1,8 @@
 -- `flat::rewrite`.
 -- Assumes nothing.
 use Prim.Native.Nat.{_+_, _-_}
-use mathlib.Core.Path.{sym, _∙_}
+use mathlib.Core.Path.{_∙_}
 use native.Mathlib.Omega.{arith}
-use borrow.Author.Needs.{needs}
 use Rattle.spec.specs.Sheet.{group as groupOf}
 use Rattle.spec.specs.Rules.{verdictOf}
 use Rattle.view.specs.View.{spliced}
@@ -11,9 +10,6 @@ use Rattle.groups.proofs.Few.{classes-ordered}
 use Rattle.flat.proofs.Rewriting.{Rewriting, rewrite-start, rewrite-long, rewrite-next, rewrite-end, lines-same, class-is}
 use Rattle.flat.proofs.rewrite.Statement.{statement}
 use Rattle.flat.proofs.rewrite.Tie as tie
-use Rattle.flat.proofs.rewrite.Reads as reads
-use Rattle.flat.proofs.rewrite.Lts as lts
-use Rattle.flat.proofs.rewrite_class.Reads as rewrite-class-reads
 
 abbrev Inv-loop : tie.InvT-loop
 Inv-loop library user group cut starts nlib n markers row marks verdicts₀ c₀ verdicts c = Rewriting nlib n (λ i. verdictOf nlib (groupOf library (spliced user group cut)) (nlib + i)) marks verdicts₀ verdicts c
@@ -21,32 +17,25 @@ Inv-loop library user group cut starts nlib n markers row marks verdicts₀ c₀
 abbrev μ-loop : tie.MeasureT-loop
 μ-loop library user group cut starts nlib n markers row marks verdicts₀ c₀ verdicts c = n - c
 
--- src/lib.rt:75:5
 loop-holds : tie.Need-loop-holds Inv-loop μ-loop
 loop-holds c = let p = c .before .before .before .before .before .before .before .before .pre in rewrite-start _ _ _ _ _ (omega (arith, classes-ordered (p .1 .0)))
 
--- src/lib.rt:76:9
 rewrite-class-requires : tie.Need-rewrite-class-requires Inv-loop μ-loop
 rewrite-class-requires c κs = let p = c .before .before .before .before .before .before .before .before .before .before .before .pre in let f = c .before .before .loop .inv in (p .0, (p .1 .0, (p .1 .1 .0, (p .1 .1 .1 .0, (p .1 .1 .1 .1 .0, ((p .1 .1 .1 .1 .1 .0, lines-same f (p .1 .1 .1 .1 .1 .1)), (f .low, omega arith)))))))
 
--- src/lib.rt:90:9
 add-c : tie.Need-add-c Inv-loop μ-loop
 add-c c = omega arith
 
--- src/lib.rt:75:5
 loop-less : tie.Need-loop-less Inv-loop μ-loop
 loop-less c = omega arith
 
--- src/lib.rt:75:5
 loop-again : tie.Need-loop-again Inv-loop μ-loop
 loop-again c = let p = c .before .before .before .before .before .before .before .before .before .before .before .before .before .before .pre in
     let a = c .before .before .before .before .before .before .before .before .before .before .before .before .before .before .args in rewrite-next (c .before .before .before .before .before .loop .inv) (omega arith) (p .1 .1 .1 .1 .1 .1) (c .before .before .rewrite-class .ensures ∙ class-is (c .before .before .before .before .before .loop .inv) (verdictOf (a .nlib) (groupOf (a .library .now) (spliced (a .user .now) (a .group .now) (a .cut)))))
 
--- src/lib.rt:53:1
 same-length : tie.Need-same-length Inv-loop μ-loop
 same-length c = rewrite-long (c .before .loop .inv)
 
--- src/lib.rt:53:1
 returns : tie.Need-returns Inv-loop μ-loop
 returns c = rewrite-end (c .before .loop .inv) (omega arith)
 

@@ -1,3 +1,5 @@
+-- The library, then the user sheet, whose starts follow.
+-- Assumes nothing.
 use borrow.Author.Needs.{needs}
 use mathlib.Core.List.{List}
 use mathlib.Core.Path.{ap}
@@ -10,9 +12,6 @@ use Rattle.view.proofs.Splice.{whole}
 use Rattle.form.proofs.Passes.{Went, went-whole, first-refused, first-empty, first-few, first-room, second-refused, second-fine}
 use Rattle.form.proofs.both_passes.Statement.{statement}
 use Rattle.form.proofs.both_passes.Tie as tie
-use Rattle.form.proofs.both_passes.Reads as reads
-use Rattle.form.proofs.both_passes.Lts as lts
-use Rattle.pass.proofs.first_pass.Reads as first-pass-reads
 
 sub-first-pass : tie.Need-sub-first-pass
 sub-first-pass c = search needs

@@ -1,3 +1,5 @@
+-- The first pass, then what follows it.
+-- Assumes nothing.
 use borrow.Author.Needs.{needs}
 use mathlib.Core.List.{List}
 use Prim.Native.Nat.{ℕ}
@@ -5,10 +7,6 @@ use Rattle.view.specs.View.{spliced}
 use Rattle.form.proofs.Accepting.{memo-fresh, check-indexed, check-later, check-passed}
 use Rattle.form.proofs.check.Statement.{statement}
 use Rattle.form.proofs.check.Tie as tie
-use Rattle.form.proofs.check.Reads as reads
-use Rattle.form.proofs.check.Lts as lts
-use Rattle.form.proofs.both_passes.Reads as both-passes-reads
-use Rattle.form.proofs.later.Reads as later-reads
 
 both-passes-requires : tie.Need-both-passes-requires
 both-passes-requires c κs = search needs

@@ -1,3 +1,5 @@
+-- In the loop no lower class was refused, and the memo is right.
+-- Assumes nothing.
 use borrow.Author.Needs.{needs}
 use Prim.Native.Nat.{_-_}
 use native.Mathlib.Omega.{arith}
@@ -7,10 +9,6 @@ use Rattle.view.specs.View.{spliced}
 use Rattle.form.proofs.Deeming.{Deeming, library-class, deem-begin, deem-stop, deem-on, deem-end}
 use Rattle.form.proofs.deemed.Statement.{statement}
 use Rattle.form.proofs.deemed.Tie as tie
-use Rattle.form.proofs.deemed.Reads as reads
-use Rattle.form.proofs.deemed.Lts as lts
-use Rattle.form.proofs.deemed_breaks.Reads as deemed-breaks-reads
-use Rattle.overlay.proofs.overlay.Reads as overlay-reads
 
 abbrev Inv-loop : tie.InvT-loop
 Inv-loop library user group cut starts nlib n memo₀ c₀ memo c = Deeming (groupOf library (spliced user group cut)) nlib memo c

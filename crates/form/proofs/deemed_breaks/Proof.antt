@@ -1,10 +1,9 @@
+-- Markers that clash, or class 0 with any.
+-- Assumes nothing.
 use borrow.Author.Needs.{needs}
 use Rattle.form.proofs.Deeming.{breaks-clash, breaks-zero, breaks-other}
 use Rattle.form.proofs.deemed_breaks.Statement.{statement}
 use Rattle.form.proofs.deemed_breaks.Tie as tie
-use Rattle.form.proofs.deemed_breaks.Reads as reads
-use Rattle.form.proofs.deemed_breaks.Lts as lts
-use Rattle.markers.proofs.clash.Reads as clash-reads
 
 clash-requires : tie.Need-clash-requires
 clash-requires c κs = search needs

@@ -1,3 +1,5 @@
+-- The lengths first, then the sheets.
+-- Assumes nothing.
 use borrow.Author.Needs.{needs}
 use native.Mathlib.Nat.{le-refl}
 use native.Mathlib.Omega.{arith}
@@ -7,9 +9,6 @@ use Rattle.view.proofs.Splice.{plain}
 use Rattle.form.proofs.Accepting.{library-long, used-long, used-past, present-is}
 use Rattle.form.proofs.present.Statement.{statement}
 use Rattle.form.proofs.present.Tie as tie
-use Rattle.form.proofs.present.Reads as reads
-use Rattle.form.proofs.present.Lts as lts
-use Rattle.form.proofs.check.Reads as check-reads
 
 returns : tie.Need-returns
 returns c = library-long _ _ _ (omega arith)

@@ -9,61 +9,47 @@ use borrow.Author.Needs.{needs}
 use Rattle.groups.proofs.word_of.Statement.{statement}
 use Rattle.groups.proofs.word_of.Tie as tie
 
--- src/lib.rt:48:9
 word-at-requires : tie.Need-word-at-requires
 word-at-requires c κs = search needs
 
--- src/lib.rt:48:9
 returns : tie.Need-returns
 returns c =
     let a = c .before .before .before .before .before .args in
     c .word-at .ensures ∙ ap (λ (s : List ℕ). u16 s (a .i)) (sym (user-sheet _ _ _ (c .before .if1 .taken)))
 
--- src/lib.rt:50:8
 add-if2 : tie.Need-add-if2
 add-if2 c = search needs
 
--- src/lib.rt:51:26
 shared-slice-read-byte-wide : tie.Need-shared-slice-read-byte-wide
 shared-slice-read-byte-wide c = search needs
 
--- src/lib.rt:51:16
 byte-wide-requires : tie.Need-byte-wide-requires
 byte-wide-requires c κs = search needs
 
--- src/lib.rt:51:64
 add-byte-wide : tie.Need-add-byte-wide
 add-byte-wide c = search needs
 
--- src/lib.rt:51:56
 shared-slice-read-byte-wide-2 : tie.Need-shared-slice-read-byte-wide-2
 shared-slice-read-byte-wide-2 c = search needs
 
--- src/lib.rt:51:46
 byte-wide-requires-2 : tie.Need-byte-wide-requires-2
 byte-wide-requires-2 c κs = search needs
 
--- src/lib.rt:51:40
 mul-result : tie.Need-mul-result
 mul-result c = search needs
 
--- src/lib.rt:51:16
 add-result : tie.Need-add-result
 add-result c = search needs
 
--- src/lib.rt:51:9
 returns-2 : tie.Need-returns-2
 returns-2 c = library-word _ _ _ (c .before .before .before .before .before .if1 .left) _ (c .before .before .byte-wide .ensures .0) (c .byte-wide2 .ensures .0)
 
--- src/lib.rt:53:15
 byte-of-requires : tie.Need-byte-of-requires
 byte-of-requires c κs = search needs
 
--- src/lib.rt:53:5
 byte-wide-requires-3 : tie.Need-byte-wide-requires-3
 byte-wide-requires-3 c κs = search needs
 
--- src/lib.rt:42:1
 returns-3 : tie.Need-returns-3
 returns-3 c = library-last _ _ _ (c .before .before .before .if1 .left) _ (c .before .before .if2 .left) (c .byte-wide3 .ensures .0 ∙ c .before .byte-of .ensures)
 

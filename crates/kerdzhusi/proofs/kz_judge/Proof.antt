@@ -15,20 +15,16 @@ use Rattle.kerdzhusi.proofs.kz_judge.Lts as lts
 use Rattle.kerdzhusi.proofs.refusal.Reads as refusal-reads
 use Rattle.verifier.proofs.judge.Reads as judge-reads
 
--- src/lib.rt:40:9
 judge-requires : tie.Need-judge-requires
 judge-requires c κs = search needs
 
--- src/lib.rt:42:25
 enum-known-answer : tie.Need-enum-known-answer
 enum-known-answer c = search needs
 
--- src/lib.rt:42:49
 refusal-requires : tie.Need-refusal-requires
 refusal-requires c κs =
     judges-low (c .before .before .before .before .before .before .before .judge .ensures) (ap judgedAnswer (c .before .answer .given .1))
 
--- src/lib.rt:43:22
 enum-known-answer-2 : tie.Need-enum-known-answer-2
 enum-known-answer-2 c = search needs
 
@@ -36,36 +32,28 @@ enum-known-answer-2 c = search needs
 few : (c : lts.After-known-told2 (judge-reads.Asked, judge-reads.Learnt, refusal-reads.Asked, refusal-reads.Learnt) reads.Pre reads.Post) → (c .before .answer2 .given .0 .0 ≤ 256) × (c .before .answer2 .given .0 .1 .0 ≤ c .before .answer2 .given .0 .0)
 few c = judges-few (c .before .before .before .before .before .before .before .judge .ensures) (ap judgedAnswer (c .before .answer2 .given .1))
 
--- src/lib.rt:45:37
 mul-t19 : tie.Need-mul-t19
 mul-t19 c = omega (arith, few c)
 
--- src/lib.rt:45:20
 add-t20 : tie.Need-add-t20
 add-t20 c = omega (arith, few c)
 
--- src/lib.rt:30:1
 same-length : tie.Need-same-length
 same-length c = search needs
 
--- src/lib.rt:30:1
 same-length-2 : tie.Need-same-length-2
 same-length-2 c = search needs
 
--- src/lib.rt:30:1
 returns : tie.Need-returns
 returns c =
     refused-replies countsValue _ (c .before .before .before .before .before .before .before .before .judge .ensures) (ap judgedAnswer (c .before .before .answer .given .1)) (c .refusal .ensures)
 
--- src/lib.rt:30:1
 same-length-3 : tie.Need-same-length-3
 same-length-3 c = search needs
 
--- src/lib.rt:30:1
 same-length-4 : tie.Need-same-length-4
 same-length-4 c = search needs
 
--- src/lib.rt:30:1
 returns-2 : tie.Need-returns-2
 unfolding countsValue
 returns-2 c =

@@ -9,33 +9,26 @@ use borrow.Author.Needs.{needs}
 use Rattle.kerdzhusi.proofs.kz_marks.Statement.{statement}
 use Rattle.kerdzhusi.proofs.kz_marks.Tie as tie
 
--- src/lib.rt:111:9
 marks-requires : tie.Need-marks-requires
 marks-requires c κs = search needs
 
--- src/lib.rt:113:25
 enum-known-answer : tie.Need-enum-known-answer
 enum-known-answer c = search needs
 
--- src/lib.rt:113:49
 refusal-requires : tie.Need-refusal-requires
 refusal-requires c κs =
     query-low _ _ _ _ _ (c .before .before .before .marks .ensures .answered) (ap markedAnswer (c .before .answer .given .1))
 
--- src/lib.rt:114:22
 enum-known-answer-2 : tie.Need-enum-known-answer-2
 enum-known-answer-2 c = search needs
 
--- src/lib.rt:116:20
 cast-t11 : tie.Need-cast-t11
 cast-t11 c = search needs
 
--- src/lib.rt:107:1
 returns : tie.Need-returns
 returns c =
     refused-replies plainValue _ (c .before .before .before .before .marks .ensures) (ap markedAnswer (c .before .before .answer .given .1)) (c .refusal .ensures)
 
--- src/lib.rt:107:1
 returns-2 : tie.Need-returns-2
 unfolding plainValue
 returns-2 c =

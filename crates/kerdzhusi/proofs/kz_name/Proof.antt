@@ -16,24 +16,19 @@ use Rattle.kerdzhusi.proofs.kz_name.Lts as lts
 use Rattle.kerdzhusi.proofs.refusal.Reads as refusal-reads
 use Rattle.verifier.proofs.name_place.Reads as name-place-reads
 
--- src/lib.rt:97:9
 name-place-requires : tie.Need-name-place-requires
 name-place-requires c κs = search needs
 
--- src/lib.rt:99:25
 enum-known-answer : tie.Need-enum-known-answer
 enum-known-answer c = search needs
 
--- src/lib.rt:99:49
 refusal-requires : tie.Need-refusal-requires
 refusal-requires c κs =
     query-low _ _ _ _ _ (c .before .before .before .name-place .ensures .answered) (ap placedAnswer (c .before .answer .given .1))
 
--- src/lib.rt:100:20
 enum-known-answer-2 : tie.Need-enum-known-answer-2
 enum-known-answer-2 c = search needs
 
--- src/lib.rt:102:20
 cast-t13 : tie.Need-cast-t13
 cast-t13 c = search needs
 
@@ -41,28 +36,22 @@ cast-t13 c = search needs
 low : (c : lts.After-known-told2 (name-place-reads.Asked, name-place-reads.Learnt, refusal-reads.Asked, refusal-reads.Learnt) reads.Pre reads.Post) → c .before .answer2 .given .0 .1 .0 + c .before .answer2 .given .0 .1 .1 .0 ≤ 32768
 low c = small _ _ _ _ (c .before .before .before .name-place .ensures) (c .before .answer2 .given .1)
 
--- src/lib.rt:102:35
 mul-t15 : tie.Need-mul-t15
 mul-t15 c = omega (arith, low c)
 
--- src/lib.rt:102:20
 add-t16 : tie.Need-add-t16
 add-t16 c = omega (arith, low c)
 
--- src/lib.rt:102:58
 mul-t18 : tie.Need-mul-t18
 mul-t18 c = omega (arith, low c)
 
--- src/lib.rt:102:20
 add-t19 : tie.Need-add-t19
 add-t19 c = omega (arith, low c)
 
--- src/lib.rt:93:1
 returns : tie.Need-returns
 returns c =
     refused-replies partValue _ (c .before .before .before .before .name-place .ensures) (ap placedAnswer (c .before .before .answer .given .1)) (c .refusal .ensures)
 
--- src/lib.rt:93:1
 returns-2 : tie.Need-returns-2
 unfolding partValue
 returns-2 c =

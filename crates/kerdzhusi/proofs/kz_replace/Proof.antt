@@ -9,53 +9,41 @@ use borrow.Author.Needs.{needs}
 use Rattle.kerdzhusi.proofs.kz_replace.Statement.{statement}
 use Rattle.kerdzhusi.proofs.kz_replace.Tie as tie
 
--- src/lib.rt:83:9
 replace-requires : tie.Need-replace-requires
 replace-requires c κs = search needs
 
--- src/lib.rt:85:27
 enum-known-answer : tie.Need-enum-known-answer
 enum-known-answer c = search needs
 
--- src/lib.rt:85:51
 refusal-requires : tie.Need-refusal-requires
 refusal-requires c κs =
     replaces-low _ _ (c .before .before .before .before .before .before .before .before .before .replace .ensures) (ap replacedAnswer (c .before .answer .given .1))
 
--- src/lib.rt:86:24
 enum-known-answer-2 : tie.Need-enum-known-answer-2
 enum-known-answer-2 c = search needs
 
--- src/lib.rt:71:1
 same-length : tie.Need-same-length
 same-length c = search needs
 
--- src/lib.rt:71:1
 same-length-2 : tie.Need-same-length-2
 same-length-2 c = search needs
 
--- src/lib.rt:71:1
 same-length-3 : tie.Need-same-length-3
 same-length-3 c = search needs
 
--- src/lib.rt:71:1
 returns : tie.Need-returns
 returns c =
     refused-replies plainValue _ (c .before .before .before .before .before .before .before .before .before .before .replace .ensures) (ap replacedAnswer (c .before .before .answer .given .1)) (c .refusal .ensures)
 
--- src/lib.rt:71:1
 same-length-4 : tie.Need-same-length-4
 same-length-4 c = search needs
 
--- src/lib.rt:71:1
 same-length-5 : tie.Need-same-length-5
 same-length-5 c = search needs
 
--- src/lib.rt:71:1
 same-length-6 : tie.Need-same-length-6
 same-length-6 c = search needs
 
--- src/lib.rt:71:1
 returns-2 : tie.Need-returns-2
 unfolding plainValue
 returns-2 c =

@@ -6,23 +6,18 @@ use borrow.Author.Needs.{needs}
 use Rattle.kerdzhusi.proofs.refusal.Statement.{statement}
 use Rattle.kerdzhusi.proofs.refusal.Tie as tie
 
--- src/lib.rt:25:33
 mul-t6 : tie.Need-mul-t6
 mul-t6 c = search needs
 
--- src/lib.rt:25:17
 add-t7 : tie.Need-add-t7
 add-t7 c = search needs
 
--- src/lib.rt:25:56
 mul-t9 : tie.Need-mul-t9
 mul-t9 c = search needs
 
--- src/lib.rt:25:17
 add-t10 : tie.Need-add-t10
 add-t10 c = search needs
 
--- src/lib.rt:20:1
 returns : tie.Need-returns
 unfolding replyOf refusalCode
 returns c = refl

@@ -5,8 +5,6 @@ use native.Mathlib.Omega.{arith}
 use Rattle.lanes.proofs.Filling.{FilledTo, fill-start, fill-long, fill-next, fill-end}
 use Rattle.lanes.proofs.fill.Statement.{statement}
 use Rattle.lanes.proofs.fill.Tie as tie
-use Rattle.lanes.proofs.fill.Reads as reads
-use Rattle.lanes.proofs.fill.Lts as lts
 
 abbrev Inv-loop : tie.InvT-loop
 Inv-loop row₀ k x i₀ row i = FilledTo x row₀ row k i
@@ -14,31 +12,24 @@ Inv-loop row₀ k x i₀ row i = FilledTo x row₀ row k i
 abbrev μ-loop : tie.MeasureT-loop
 μ-loop row₀ k x i₀ row i = k - i
 
--- src/lib.rt:20:5
 loop-holds : tie.Need-loop-holds Inv-loop μ-loop
 loop-holds c = fill-start _ _ _
 
--- src/lib.rt:21:9
 slice-write-row : tie.Need-slice-write-row Inv-loop μ-loop
 slice-write-row c = omega (arith, fill-long (c .before .loop .inv) (c .before .before .pre), c .before .before .pre)
 
--- src/lib.rt:22:9
 add-i : tie.Need-add-i Inv-loop μ-loop
 add-i c = omega arith
 
--- src/lib.rt:20:5
 loop-less : tie.Need-loop-less Inv-loop μ-loop
 loop-less c = omega arith
 
--- src/lib.rt:20:5
 loop-again : tie.Need-loop-again Inv-loop μ-loop
 loop-again c = fill-next (c .before .loop .inv) (c .before .before .pre) (omega arith)
 
--- src/lib.rt:15:1
 same-length : tie.Need-same-length Inv-loop μ-loop
 same-length c = fill-long (c .before .loop .inv) (c .before .before .pre)
 
--- src/lib.rt:15:1
 returns : tie.Need-returns Inv-loop μ-loop
 returns c = fill-end (c .before .loop .inv) (c .before .before .pre) (omega arith)
 

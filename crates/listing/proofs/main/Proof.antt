@@ -6,94 +6,67 @@ use lib.Seq.{length-take-le}
 use borrow.Author.Needs.{needs}
 use Rattle.listing.proofs.main.Statement.{statement}
 use Rattle.listing.proofs.main.Tie as tie
-use Rattle.listing.proofs.main.Reads as reads
-use Rattle.listing.proofs.main.Lts as lts
-use Rattle.io.proofs.large_buffer.Reads as large-buffer-reads
-use Rattle.io.proofs.write_all.Reads as write-all-reads
-use Rattle.listing.proofs.read.Reads as read-reads
-use Rattle.listing_text.proofs.listing_text.Reads as listing-text-reads
 
--- src/main.rt:21:23
 large-buffer-requires : tie.Need-large-buffer-requires
 large-buffer-requires c κs = search needs
 
--- src/main.rt:22:20
 large-buffer-requires-2 : tie.Need-large-buffer-requires-2
 large-buffer-requires-2 c κs = search needs
 
--- src/main.rt:23:23
 large-buffer-requires-3 : tie.Need-large-buffer-requires-3
 large-buffer-requires-3 c κs = search needs
 
--- src/main.rt:24:19
 large-buffer-requires-4 : tie.Need-large-buffer-requires-4
 large-buffer-requires-4 c κs = search needs
 
--- src/main.rt:25:22
 slice-aggregate-read : tie.Need-slice-aggregate-read
 slice-aggregate-read c = search needs
 
--- src/main.rt:25:40
 slice-aggregate-read-2 : tie.Need-slice-aggregate-read-2
 slice-aggregate-read-2 c = search needs
 
--- src/main.rt:25:9
 read-requires : tie.Need-read-requires
 read-requires c κs = search needs
 
--- src/main.rt:26:23
 slice-aggregate-read-3 : tie.Need-slice-aggregate-read-3
 slice-aggregate-read-3 c = search needs
 
--- src/main.rt:26:38
 slice-aggregate-read-4 : tie.Need-slice-aggregate-read-4
 slice-aggregate-read-4 c = search needs
 
--- src/main.rt:26:9
 read-requires-2 : tie.Need-read-requires-2
 read-requires-2 c κs = search needs
 
--- src/main.rt:27:29
 array-share-prefix-library : tie.Need-array-share-prefix-library
 array-share-prefix-library c = search needs
 
--- src/main.rt:27:29
 slice-aggregate-listing-text : tie.Need-slice-aggregate-listing-text
 slice-aggregate-listing-text c = search needs
 
--- src/main.rt:27:48
 slice-aggregate-listing-text-2 : tie.Need-slice-aggregate-listing-text-2
 slice-aggregate-listing-text-2 c = search needs
 
--- src/main.rt:27:63
 slice-aggregate-listing-text-3 : tie.Need-slice-aggregate-listing-text-3
 slice-aggregate-listing-text-3 c = search needs
 
--- src/main.rt:27:77
 slice-aggregate-listing-text-4 : tie.Need-slice-aggregate-listing-text-4
 slice-aggregate-listing-text-4 c = search needs
 
--- src/main.rt:27:9
 listing-text-requires : tie.Need-listing-text-requires
 listing-text-requires c κs = search needs
 
--- src/main.rt:29:38
 array-share-prefix-out : tie.Need-array-share-prefix-out
 array-share-prefix-out c = search needs
 
--- src/main.rt:29:38
 slice-aggregate-write-all : tie.Need-slice-aggregate-write-all
 slice-aggregate-write-all c = sym (length-take-le _ _ (omega (arith, c .before .before .before .before .listing-text .kept .1 .1 .1 .1 .0, c .before .before .before .before .before .before .before .before .before .before .before .before .before .before .before .before .before .large-buffer4 .ensures)))
 
--- src/main.rt:29:9
 write-all-requires : tie.Need-write-all-requires
 write-all-requires c κs = search needs
 
--- src/main.rt:20:1
 returns : tie.Need-returns
 returns c = search needs
 
--- src/main.rt:20:1
 returns-2 : tie.Need-returns-2
 returns-2 c = search needs
 

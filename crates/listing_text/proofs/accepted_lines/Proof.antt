@@ -6,51 +6,37 @@ use Rattle.verifier.proofs.Asking.{used-there, present-refused, indexed}
 use borrow.Author.Needs.{needs}
 use Rattle.listing_text.proofs.accepted_lines.Statement.{statement}
 use Rattle.listing_text.proofs.accepted_lines.Tie as tie
-use Rattle.listing_text.proofs.accepted_lines.Reads as reads
-use Rattle.listing_text.proofs.accepted_lines.Lts as lts
-use Rattle.form.proofs.present.Reads as present-reads
-use Rattle.listing_text.proofs.class_lines.Reads as class-lines-reads
 
--- src/lib.rt:163:48
 slice-aggregate-present : tie.Need-slice-aggregate-present
 slice-aggregate-present c = search needs
 
--- src/lib.rt:163:61
 slice-aggregate-present-2 : tie.Need-slice-aggregate-present-2
 slice-aggregate-present-2 c = search needs
 
--- src/lib.rt:163:9
 present-requires : tie.Need-present-requires
 present-requires c κs = search needs
 
--- src/lib.rt:164:23
 enum-known-checked : tie.Need-enum-known-checked
 enum-known-checked c = search needs
 
--- src/lib.rt:165:9
 enum-told : tie.Need-enum-told
 enum-told c = search needs
 
--- src/lib.rt:165:9
 returns : tie.Need-returns
 returns c = let a = c .before .before .before .before .before .before .before .before .before .before .before .args in absurd (some≢none _ (sym (present-refused (a .library .now) (a .user .now) (a .used) (c .before .before .before .before .present .ensures) (c .enum-told .given .1)) ∙ c .before .before .before .before .before .before .before .before .before .before .before .pre .0))
 
--- src/lib.rt:167:38
 slice-aggregate-class-lines : tie.Need-slice-aggregate-class-lines
 slice-aggregate-class-lines c = search needs
 
--- src/lib.rt:167:5
 class-lines-requires : tie.Need-class-lines-requires
 class-lines-requires c κs =
     let a = c .before .before .before .before .before .before .before .before .before .before .before .before .before .before .args in
     let p = c .before .before .before .before .before .before .before .before .before .before .before .before .before .before .pre in
     (used-there (a .library .now) (a .user .now) (a .used) (p .0), (indexed (a .library .now) (a .user .now) (a .used) (c .before .before .before .before .before .before .before .present .ensures) (c .before .before .before .checked .given .1) refl, (p .1 .0, p .1 .1)))
 
--- src/lib.rt:148:1
 same-length : tie.Need-same-length
 same-length c = search needs
 
--- src/lib.rt:148:1
 returns-2 : tie.Need-returns-2
 returns-2 c = search needs
 

@@ -11,52 +11,34 @@ use Rattle.listing_text.proofs.ClassText.{line-is, row-room}
 use borrow.Author.Needs.{needs}
 use Rattle.listing_text.proofs.class_line.Statement.{statement}
 use Rattle.listing_text.proofs.class_line.Tie as tie
-use Rattle.listing_text.proofs.class_line.Reads as reads
-use Rattle.listing_text.proofs.class_line.Lts as lts
-use Rattle.groups.proofs.group_start.Reads as group-start-reads
-use Rattle.groups.proofs.word_of.Reads as word-of-reads
-use Rattle.listing_text.proofs.put_verdict.Reads as put-verdict-reads
-use Rattle.listing_text.proofs.wide.Reads as wide-reads
-use Rattle.listing_text.proofs.wide_word.Reads as wide-word-reads
-use Rattle.text.proofs.put.Reads as put-reads
-use Rattle.text.proofs.put_number.Reads as put-number-reads
-use Rattle.text.proofs.put_part.Reads as put-part-reads
 
--- src/lib.rt:106:16
 sub-none : tie.Need-sub-none
 sub-none c = search needs
 
--- src/lib.rt:106:16
 part-none-start : tie.Need-part-none-start
 part-none-start c = search needs
 
--- src/lib.rt:106:16
 part-none-end : tie.Need-part-none-end
 part-none-end c = search needs
 
--- src/lib.rt:107:17
 add-class : tie.Need-add-class
 add-class c = search needs
 
--- src/lib.rt:108:9
 group-start-requires : tie.Need-group-start-requires
 group-start-requires c κs =
     let a = c .before .before .before .before .before .before .args in
     let p = c .before .before .before .before .before .before .pre in
     (record { ordered = omega arith; within = omega arith; there = p .0 }, (rw (plain (a .user .now) (a .used)) (p .1 .0), p .1 .1 .1 .0))
 
--- src/lib.rt:109:9
 word-of-requires : tie.Need-word-of-requires
 word-of-requires c κs =
     let a = c .before .before .before .before .before .before .before .args in
     let p = c .before .before .before .before .before .before .before .pre in
     (record { ordered = omega arith; within = omega arith; there = p .0 }, start-low (a .user .now) (a .used) (p .1 .0) {c = a .nlib + a .i} (omega arith) (p .1 .1 .1 .0) (c .group-start .ensures))
 
--- src/lib.rt:110:23
 wide-word-requires : tie.Need-wide-word-requires
 wide-word-requires c κs = search needs
 
--- src/lib.rt:110:15
 add-end : tie.Need-add-end
 add-end c =
     let a = c .before .before .before .before .before .before .before .before .before .args in
@@ -64,61 +46,51 @@ add-end c =
     let q = name-at (a .user .now) (a .used) (p .1 .0) {c = a .nlib + a .i} (omega arith) (p .1 .1 .1 .0) (p .0) (c .before .before .group-start .ensures) (c .wide-word .ensures ∙ c .before .word-of .ensures) in
     omega (arith, q .low)
 
--- src/lib.rt:111:30
 mul-wide : tie.Need-mul-wide
 mul-wide c =
     let a = c .before .before .before .before .before .before .before .before .before .args in
     let p = c .before .before .before .before .before .before .before .before .before .pre in
     omega (arith, row-room (p .1 .0) (a .i) (p .1 .1 .1 .0) (p .1 .1 .0))
 
--- src/lib.rt:111:21
 shared-slice-read-wide : tie.Need-shared-slice-read-wide
 shared-slice-read-wide c =
     let a = c .before .before .before .before .before .before .before .before .before .before .args in
     let p = c .before .before .before .before .before .before .before .before .before .before .pre in
     omega (arith, row-room (p .1 .0) (a .i) (p .1 .1 .1 .0) (p .1 .1 .0))
 
--- src/lib.rt:111:9
 wide-requires : tie.Need-wide-requires
 wide-requires c κs = search needs
 
--- src/lib.rt:112:31
 mul-wide-2 : tie.Need-mul-wide-2
 mul-wide-2 c =
     let a = c .before .before .before .before .before .before .before .before .before .before .before .args in
     let p = c .before .before .before .before .before .before .before .before .before .before .before .pre in
     omega (arith, row-room (p .1 .0) (a .i) (p .1 .1 .1 .0) (p .1 .1 .0))
 
--- src/lib.rt:112:31
 add-wide : tie.Need-add-wide
 add-wide c =
     let a = c .before .before .before .before .before .before .before .before .before .before .before .args in
     let p = c .before .before .before .before .before .before .before .before .before .before .before .pre in
     omega (arith, row-room (p .1 .0) (a .i) (p .1 .1 .1 .0) (p .1 .1 .0))
 
--- src/lib.rt:112:22
 shared-slice-read-wide-2 : tie.Need-shared-slice-read-wide-2
 shared-slice-read-wide-2 c =
     let a = c .before .before .before .before .before .before .before .before .before .before .before .before .args in
     let p = c .before .before .before .before .before .before .before .before .before .before .before .before .pre in
     omega (arith, row-room (p .1 .0) (a .i) (p .1 .1 .1 .0) (p .1 .1 .0))
 
--- src/lib.rt:112:9
 wide-requires-2 : tie.Need-wide-requires-2
 wide-requires-2 c κs = search needs
 
--- src/lib.rt:113:9
 put-number-requires : tie.Need-put-number-requires
 put-number-requires c κs = search needs
 
--- src/lib.rt:114:9
 put-requires : tie.Need-put-requires
 put-requires c κs =
     let a = c .before .before .before .before .before .before .before .before .before .before .before .before .before .before .before .before .before .before .args in
     let p = c .before .before .before .before .before .before .before .before .before .before .before .before .before .before .before .before .before .before .pre in
     omega (arith, decimal-length (a .nlib + a .i), c .before .before .before .put-number .ensures .0)
 
--- src/lib.rt:115:45
 add-put-part : tie.Need-add-put-part
 add-put-part c =
     let a = c .before .before .before .before .before .before .before .before .before .before .before .before .before .before .before .before .before .before .before .before .before .before .args in
@@ -126,7 +98,6 @@ add-put-part c =
     let q = name-at (a .user .now) (a .used) (p .1 .0) {c = a .nlib + a .i} (omega arith) (p .1 .1 .1 .0) (p .0) (c .before .before .before .before .before .before .before .before .before .before .before .before .before .before .before .group-start .ensures) (c .before .before .before .before .before .before .before .before .before .before .before .before .before .wide-word .ensures ∙ c .before .before .before .before .before .before .before .before .before .before .before .before .before .before .word-of .ensures) in
     omega (arith, q .low)
 
--- src/lib.rt:115:9
 put-part-requires : tie.Need-put-part-requires
 put-part-requires c κs =
     let a = c .before .before .before .before .before .before .before .before .before .before .before .before .before .before .before .before .before .before .before .before .before .before .args in
@@ -134,7 +105,6 @@ put-part-requires c κs =
     let q = name-at (a .user .now) (a .used) (p .1 .0) {c = a .nlib + a .i} (omega arith) (p .1 .1 .1 .0) (p .0) (c .before .before .before .before .before .before .before .before .before .before .before .before .before .before .before .group-start .ensures) (c .before .before .before .before .before .before .before .before .before .before .before .before .before .wide-word .ensures ∙ c .before .before .before .before .before .before .before .before .before .before .before .before .before .before .word-of .ensures) in
     (omega (arith, decimal-length (a .nlib + a .i), c .before .before .before .before .before .before .before .put-number .ensures .0, c .before .before .before .put .ensures .0), omega (arith, q .long), q .within, omega (arith, q .low))
 
--- src/lib.rt:116:9
 put-requires-2 : tie.Need-put-requires-2
 put-requires-2 c κs =
     let a = c .before .before .before .before .before .before .before .before .before .before .before .before .before .before .before .before .before .before .before .before .before .before .before .before .before .before .args in
@@ -142,7 +112,6 @@ put-requires-2 c κs =
     let q = name-at (a .user .now) (a .used) (p .1 .0) {c = a .nlib + a .i} (omega arith) (p .1 .1 .1 .0) (p .0) (c .before .before .before .before .before .before .before .before .before .before .before .before .before .before .before .before .before .before .before .group-start .ensures) (c .before .before .before .before .before .before .before .before .before .before .before .before .before .before .before .before .before .wide-word .ensures ∙ c .before .before .before .before .before .before .before .before .before .before .before .before .before .before .before .before .before .before .word-of .ensures) in
     omega (arith, decimal-length (a .nlib + a .i), c .before .before .before .before .before .before .before .before .before .before .before .put-number .ensures .0, c .before .before .before .before .before .before .before .put .ensures .0, c .before .before .before .put-part .ensures .0, q .short)
 
--- src/lib.rt:117:5
 put-verdict-requires : tie.Need-put-verdict-requires
 put-verdict-requires c κs =
     let a = c .before .before .before .before .before .before .before .before .before .before .before .before .before .before .before .before .before .before .before .before .before .before .before .before .before .before .before .before .before .before .args in
@@ -150,11 +119,9 @@ put-verdict-requires c κs =
     let q = name-at (a .user .now) (a .used) (p .1 .0) {c = a .nlib + a .i} (omega arith) (p .1 .1 .1 .0) (p .0) (c .before .before .before .before .before .before .before .before .before .before .before .before .before .before .before .before .before .before .before .before .before .before .before .group-start .ensures) (c .before .before .before .before .before .before .before .before .before .before .before .before .before .before .before .before .before .before .before .before .before .wide-word .ensures ∙ c .before .before .before .before .before .before .before .before .before .before .before .before .before .before .before .before .before .before .before .before .before .before .word-of .ensures) in
     omega (arith, decimal-length (a .nlib + a .i), c .before .before .before .before .before .before .before .before .before .before .before .before .before .before .before .put-number .ensures .0, c .before .before .before .before .before .before .before .before .before .before .before .put .ensures .0, c .before .before .before .before .before .before .before .put-part .ensures .0, q .short, c .before .before .before .put2 .ensures .0)
 
--- src/lib.rt:83:1
 same-length : tie.Need-same-length
 same-length c = search needs
 
--- src/lib.rt:83:1
 returns : tie.Need-returns
 returns c =
     let a = c .before .before .before .before .before .before .before .before .before .before .before .before .before .before .before .before .before .before .before .before .before .before .before .before .before .before .before .before .before .before .before .before .before .args in

@@ -9,9 +9,6 @@ use Rattle.listing_text.proofs.ClassText.{Lines, lines-start, lines-nex
 -- Assumes nothing.
 use Rattle.listing_text.proofs.class_lines.Statement.{statement}
 use Rattle.listing_text.proofs.class_lines.Tie as tie
-use Rattle.listing_text.proofs.class_lines.Reads as reads
-use Rattle.listing_text.proofs.class_lines.Lts as lts
-use Rattle.listing_text.proofs.class_line.Reads as class-line-reads
 
 abbrev Inv-loop : tie.InvT-loop
 Inv-loop library user used starts nlib n verdicts out₀ at i₀ then₀ out i then = Lines library (take used user) (n - nlib) out₀ at out i then
@@ -19,40 +16,32 @@ Inv-loop library user used starts nlib n verdicts out₀ at i₀ then₀ out i t
 abbrev μ-loop : tie.MeasureT-loop
 μ-loop library user used starts nlib n verdicts out₀ at i₀ then₀ out i then = n - nlib - i
 
--- src/lib.rt:140:5
 loop-holds : tie.Need-loop-holds Inv-loop μ-loop
 loop-holds c = lines-start
 
--- src/lib.rt:140:15
 sub-loop : tie.Need-sub-loop Inv-loop μ-loop
 sub-loop c = omega (arith, classes-ordered (c .before .before .before .before .before .before .pre .1 .0))
 
--- src/lib.rt:141:9
 class-line-requires : tie.Need-class-line-requires Inv-loop μ-loop
 class-line-requires c κs =
     let p = c .before .before .before .before .before .before .before .before .pre in
     let f = c .before .before .loop .inv in
     (p .0, (p .1 .0, (p .1 .1 .0, (omega arith, omega (arith, f .short, f .high, p .1 .0 .few, p .1 .1 .1)))))
 
--- src/lib.rt:142:9
 add-i : tie.Need-add-i Inv-loop μ-loop
 add-i c = omega arith
 
--- src/lib.rt:140:5
 loop-less : tie.Need-loop-less Inv-loop μ-loop
 loop-less c = omega arith
 
--- src/lib.rt:140:5
 loop-again : tie.Need-loop-again Inv-loop μ-loop
 loop-again c =
     let p = c .before .before .before .before .before .before .before .before .before .before .before .pre in
     lines-next (p .1 .0) (c .before .before .before .before .before .loop .inv) (omega arith) (omega arith) (c .before .before .class-line .ensures)
 
--- src/lib.rt:121:1
 same-length : tie.Need-same-length Inv-loop μ-loop
 same-length c = same-size (c .before .loop .inv .text)
 
--- src/lib.rt:121:1
 returns : tie.Need-returns Inv-loop μ-loop
 returns c = lines-end (c .before .before .before .before .before .before .before .pre .1 .0) (c .before .loop .inv) refl (omega arith)
 

@@ -7,45 +7,31 @@ use Rattle.listing_text.proofs.Texts.{one-byte, a-number, then}
 use borrow.Author.Needs.{needs}
 use Rattle.listing_text.proofs.counts_line.Statement.{statement}
 use Rattle.listing_text.proofs.counts_line.Tie as tie
-use Rattle.listing_text.proofs.counts_line.Reads as reads
-use Rattle.listing_text.proofs.counts_line.Lts as lts
-use Rattle.listing_text.proofs.put_word.Reads as put-word-reads
-use Rattle.text.proofs.put.Reads as put-reads
-use Rattle.text.proofs.put_number.Reads as put-number-reads
 
--- src/lib.rt:64:35
 slice-aggregate-put-word : tie.Need-slice-aggregate-put-word
 slice-aggregate-put-word c = search needs
 
--- src/lib.rt:64:9
 put-word-requires : tie.Need-put-word-requires
 put-word-requires c κs = search needs
 
--- src/lib.rt:65:9
 put-number-requires : tie.Need-put-number-requires
 put-number-requires c κs = search needs
 
--- src/lib.rt:66:35
 slice-aggregate-put-word-2 : tie.Need-slice-aggregate-put-word-2
 slice-aggregate-put-word-2 c = search needs
 
--- src/lib.rt:66:9
 put-word-requires-2 : tie.Need-put-word-requires-2
 put-word-requires-2 c κs = (omega (arith, c .before .before .before .before .before .before .before .before .put-word .ensures .place, decimal-length (c .before .before .before .before .before .before .before .before .before .before .before .before .args .classes), c .before .before .before .before .put-number .ensures .0), omega arith)
 
--- src/lib.rt:67:9
 put-number-requires-2 : tie.Need-put-number-requires-2
 put-number-requires-2 c κs = omega (arith, c .before .before .before .before .before .before .before .before .before .before .before .before .put-word .ensures .place, decimal-length (c .before .before .before .before .before .before .before .before .before .before .before .before .before .before .before .before .args .classes), c .before .before .before .before .before .before .before .before .put-number .ensures .0, c .before .before .before .put-word2 .ensures .place)
 
--- src/lib.rt:68:5
 put-requires : tie.Need-put-requires
 put-requires c κs = omega (arith, c .before .before .before .before .before .before .before .before .before .before .before .before .before .before .before .before .put-word .ensures .place, decimal-length (c .before .before .before .before .before .before .before .before .before .before .before .before .before .before .before .before .before .before .before .before .args .classes), c .before .before .before .before .before .before .before .before .before .before .before .before .put-number .ensures .0, c .before .before .before .before .before .before .before .put-word2 .ensures .place, decimal-length (c .before .before .before .before .before .before .before .before .before .before .before .before .before .before .before .before .before .before .before .before .args .faulted), c .before .before .before .put-number2 .ensures .0)
 
--- src/lib.rt:61:1
 same-length : tie.Need-same-length
 same-length c = search needs
 
--- src/lib.rt:61:1
 returns : tie.Need-returns
 unfolding classesWord faultedWord countsText
 returns c = then (c .before .before .before .before .before .before .before .before .before .before .before .before .before .before .before .before .before .before .before .put-word .ensures) (then (a-number (c .before .before .before .before .before .before .before .before .before .before .before .before .before .before .before .before .before .before .before .before .before .before .before .args .classes) (c .before .before .before .before .before .before .before .before .before .before .before .before .before .before .before .put-number .ensures)) (then (c .before .before .before .before .before .before .before .before .before .before .put-word2 .ensures) (then (a-number (c .before .before .before .before .before .before .before .before .before .before .before .before .before .before .before .before .before .before .before .before .before .before .before .args .faulted) (c .before .before .before .before .before .before .put-number2 .ensures)) (one-byte (c .before .before .put .ensures)))))

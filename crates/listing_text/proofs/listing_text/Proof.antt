@@ -6,51 +6,34 @@ use Rattle.listing_text.proofs.Answered.{counts-short, scratch-after, r
 use borrow.Author.Needs.{needs}
 use Rattle.listing_text.proofs.listing_text.Statement.{statement}
 use Rattle.listing_text.proofs.listing_text.Tie as tie
-use Rattle.listing_text.proofs.listing_text.Reads as reads
-use Rattle.listing_text.proofs.listing_text.Lts as lts
-use Rattle.listing_text.proofs.accepted_lines.Reads as accepted-lines-reads
-use Rattle.listing_text.proofs.counts_line.Reads as counts-line-reads
-use Rattle.listing_text.proofs.refusal_line.Reads as refusal-line-reads
-use Rattle.listing_text.proofs.wide.Reads as wide-reads
-use Rattle.verifier.proofs.judge.Reads as judge-reads
 
--- src/lib.rt:183:45
 slice-aggregate-judge : tie.Need-slice-aggregate-judge
 slice-aggregate-judge c = search needs
 
--- src/lib.rt:183:9
 judge-requires : tie.Need-judge-requires
 judge-requires c κs = search needs
 
--- src/lib.rt:185:25
 enum-known-judged : tie.Need-enum-known-judged
 enum-known-judged c = search needs
 
--- src/lib.rt:186:31
 wide-requires : tie.Need-wide-requires
 wide-requires c κs = search needs
 
--- src/lib.rt:186:45
 wide-requires-2 : tie.Need-wide-requires-2
 wide-requires-2 c κs = search needs
 
--- src/lib.rt:186:13
 refusal-line-requires : tie.Need-refusal-line-requires
 refusal-line-requires c κs = search needs
 
--- src/lib.rt:188:22
 enum-known-judged-2 : tie.Need-enum-known-judged-2
 enum-known-judged-2 c = search needs
 
--- src/lib.rt:189:17
 counts-line-requires : tie.Need-counts-line-requires
 counts-line-requires c κs = search needs
 
--- src/lib.rt:190:49
 slice-aggregate-accepted-lines : tie.Need-slice-aggregate-accepted-lines
 slice-aggregate-accepted-lines c = search needs
 
--- src/lib.rt:190:13
 accepted-lines-requires : tie.Need-accepted-lines-requires
 accepted-lines-requires c κs =
     let a = c .before .before .before .before .before .before .before .before .before .before .before .before .before .before .before .before .before .before .before .args in
@@ -58,15 +41,12 @@ accepted-lines-requires c κs =
     let f = c .before .before .before .before .before .before .before .judged2 .given .1 in
     (accepted-sheets (a .library .now) (a .user .now) (a .used) _ (a .scratch .now) refl (c .before .before .before .before .before .before .before .before .before .before .before .before .judge .result) j f, (row-holds (a .library .now) (a .user .now) (a .used) _ (a .scratch .now) refl (c .before .before .before .before .before .before .before .before .before .before .before .before .judge .result) j f, omega (arith, c .before .before .before .before .counts-line .ensures .place, counts-short (record { classes = c .before .before .before .before .before .before .before .judged2 .given .0 .0; faulted = c .before .before .before .before .before .before .before .judged2 .given .0 .1 .0 }))))
 
--- src/lib.rt:171:1
 same-length : tie.Need-same-length
 same-length c = search needs
 
--- src/lib.rt:171:1
 same-length-2 : tie.Need-same-length-2
 same-length-2 c = search needs
 
--- src/lib.rt:171:1
 returns : tie.Need-returns
 returns c =
     let a = c .before .before .before .before .before .before .before .before .before .before .before .before .before .before .before .before .before .before .before .args in
@@ -74,15 +54,12 @@ returns c =
     let r = refused-listing (a .library .now) (a .user .now) (a .used) _ (a .scratch .now) refl (c .before .before .before .before .before .before .before .before .before .before .before .before .judge .result) j (c .before .before .before .before .before .before .before .judged .given .1) (c .before .before .before .before .wide .ensures) (c .before .before .before .wide2 .ensures) (c .before .before .refusal-line .ensures) in
     (r .0, (r .1, scratch-after (a .library .now) (a .user .now) (a .used) _ (a .scratch .now) refl (c .before .before .before .before .before .before .before .before .before .before .before .before .judge .result) j))
 
--- src/lib.rt:171:1
 same-length-3 : tie.Need-same-length-3
 same-length-3 c = search needs
 
--- src/lib.rt:171:1
 same-length-4 : tie.Need-same-length-4
 same-length-4 c = search needs
 
--- src/lib.rt:171:1
 returns-2 : tie.Need-returns-2
 returns-2 c =
     let a = c .before .before .before .before .before .before .before .before .before .before .before .before .before .before .before .before .before .before .before .before .before .before .args in

@@ -6,32 +6,22 @@ use Rattle.listing_text.proofs.Texts.{one-byte, a-number, then}
 use borrow.Author.Needs.{needs}
 use Rattle.listing_text.proofs.put_verdict.Statement.{statement}
 use Rattle.listing_text.proofs.put_verdict.Tie as tie
-use Rattle.listing_text.proofs.put_verdict.Reads as reads
-use Rattle.listing_text.proofs.put_verdict.Lts as lts
-use Rattle.text.proofs.put.Reads as put-reads
-use Rattle.text.proofs.put_number.Reads as put-number-reads
 
--- src/lib.rt:76:9
 put-number-requires : tie.Need-put-number-requires
 put-number-requires c κs = search needs
 
--- src/lib.rt:77:9
 put-requires : tie.Need-put-requires
 put-requires c κs = omega (arith, decimal-length (c .before .before .before .before .before .before .args .rule), c .before .before .before .put-number .ensures .0)
 
--- src/lib.rt:78:9
 put-number-requires-2 : tie.Need-put-number-requires-2
 put-number-requires-2 c κs = omega (arith, decimal-length (c .before .before .before .before .before .before .before .before .before .before .args .rule), c .before .before .before .before .before .before .before .put-number .ensures .0, c .before .before .before .put .ensures .0)
 
--- src/lib.rt:79:5
 put-requires-2 : tie.Need-put-requires-2
 put-requires-2 c κs = omega (arith, decimal-length (c .before .before .before .before .before .before .before .before .before .before .before .before .before .before .args .rule), c .before .before .before .before .before .before .before .before .before .before .before .put-number .ensures .0, c .before .before .before .before .before .before .before .put .ensures .0, decimal-length (c .before .before .before .before .before .before .before .before .before .before .before .before .before .before .args .place), c .before .before .before .put-number2 .ensures .0)
 
--- src/lib.rt:72:1
 same-length : tie.Need-same-length
 same-length c = search needs
 
--- src/lib.rt:72:1
 returns : tie.Need-returns
 returns c = then (a-number (c .before .before .before .before .before .before .before .before .before .before .before .before .before .before .before .before .before .args .rule) (c .before .before .before .before .before .before .before .before .before .before .before .before .before .before .put-number .ensures)) (then (one-byte (c .before .before .before .before .before .before .before .before .before .before .put .ensures)) (then (a-number (c .before .before .before .before .before .before .before .before .before .before .before .before .before .before .before .before .before .args .place) (c .before .before .before .before .before .before .put-number2 .ensures)) (one-byte (c .before .before .put2 .ensures))))
 

@@ -4,10 +4,7 @@ use mathlib.Core.Path.{refl}
 use Rattle.spec.specs.Markers.{union as unionOf}
 use Rattle.markers.proofs.union.Statement.{statement}
 use Rattle.markers.proofs.union.Tie as tie
-use Rattle.markers.proofs.union.Reads as reads
-use Rattle.markers.proofs.union.Lts as lts
 
--- src/lib.rt:273:1
 returns : tie.Need-returns
 returns c = unfold unionOf in refl
 

@@ -4,19 +4,15 @@ use borrow.Author.Needs.{needs}
 use Rattle.named.proofs.first_named.Statement.{statement}
 use Rattle.named.proofs.first_named.Tie as tie
 
--- src/lib.rt:85:9
 built-requires : tie.Need-built-requires
 built-requires c κs = search needs
 
--- src/lib.rt:85:9
 returns : tie.Need-returns
 returns c = rw (c .before .if1 .taken) (c .built .ensures)
 
--- src/lib.rt:87:5
 any-named-requires : tie.Need-any-named-requires
 any-named-requires c κs = search needs
 
--- src/lib.rt:70:1
 returns-2 : tie.Need-returns-2
 returns-2 c = rw (c .before .if1 .left) (c .any-named .ensures)
 

@@ -7,36 +7,28 @@ use borrow.Author.Needs.{needs}
 use Rattle.named.proofs.second_named.Statement.{statement}
 use Rattle.named.proofs.second_named.Tie as tie
 
--- src/lib.rt:96:9
 returns : tie.Need-returns
 unfolding secondNamed
 returns c = rw (c .if1 .taken)
 
--- src/lib.rt:98:50
 add-word-of : tie.Need-add-word-of
 add-word-of c = search needs
 
--- src/lib.rt:98:8
 word-of-requires : tie.Need-word-of-requires
 word-of-requires c κs = search needs
 
--- src/lib.rt:99:63
 add-word-of-2 : tie.Need-add-word-of-2
 add-word-of-2 c = search needs
 
--- src/lib.rt:99:21
 word-of-requires-2 : tie.Need-word-of-requires-2
 word-of-requires-2 c κs = search needs
 
--- src/lib.rt:99:9
 wide-requires : tie.Need-wide-requires
 wide-requires c κs = search needs
 
--- src/lib.rt:99:9
 returns-2 : tie.Need-returns-2
 returns-2 c = rw (c .before .before .before .before .if1 .left) (second-class (c .before .before .before .before .before .before .before .before .pre .1 .0) (c .before .before .before .word-of .ensures) (c .before .before .if2 .taken) (c .wide .ensures .0 ∙ c .before .word-of2 .ensures))
 
--- src/lib.rt:81:1
 returns-3 : tie.Need-returns-3
 returns-3 c = rw (c .before .before .if1 .left) (second-none (c .before .before .before .before .before .before .pre .1 .0) (c .before .word-of .ensures) (c .if2 .left))
 

@@ -6,31 +6,24 @@ use borrow.Author.Needs.{needs}
 use Rattle.named.proofs.type_named.Statement.{statement}
 use Rattle.named.proofs.type_named.Tie as tie
 
--- src/lib.rt:27:50
 add-byte-of : tie.Need-add-byte-of
 add-byte-of c = search needs
 
--- src/lib.rt:27:8
 byte-of-requires : tie.Need-byte-of-requires
 byte-of-requires c κs = search needs
 
--- src/lib.rt:28:63
 add-word-of : tie.Need-add-word-of
 add-word-of c = search needs
 
--- src/lib.rt:28:21
 word-of-requires : tie.Need-word-of-requires
 word-of-requires c κs = search needs
 
--- src/lib.rt:28:9
 wide-requires : tie.Need-wide-requires
 wide-requires c κs = search needs
 
--- src/lib.rt:28:9
 returns : tie.Need-returns
 returns c = type-class _ (c .before .before .before .before .before .before .before .args .i) (c .before .before .before .byte-of .ensures) (c .before .before .if1 .taken) (c .wide .ensures .0 ∙ c .before .word-of .ensures)
 
--- src/lib.rt:22:1
 returns-2 : tie.Need-returns-2
 returns-2 c = type-primitive _ (c .before .before .before .before .before .args .i) (c .before .byte-of .ensures) (c .if1 .left)
 

@@ -1,3 +1,5 @@
+-- Each call asks lower numbers only, and what the memo gains is right.
+-- Assumes nothing.
 use borrow.Author.Needs.{needs}
 use mathlib.Core.Path.{sym, _∙_}
 use mathlib.Core.Logic.{⊎-elim}

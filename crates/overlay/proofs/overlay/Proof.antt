@@ -1,3 +1,5 @@
+-- What is gathered, closed.
+-- Assumes nothing.
 use mathlib.Core.Path.{_∙_, ap}
 use Rattle.spec.specs.Markers.{closure}
 use Rattle.spec.specs.Classes.{overlay}
@@ -5,24 +7,16 @@ use Rattle.overlay.specs.Memo.{raw}
 use borrow.Author.Needs.{needs}
 use Rattle.overlay.proofs.overlay.Statement.{statement}
 use Rattle.overlay.proofs.overlay.Tie as tie
-use Rattle.overlay.proofs.overlay.Reads as reads
-use Rattle.overlay.proofs.overlay.Lts as lts
-use Rattle.markers.proofs.closure.Reads as closure-reads
-use Rattle.overlay.proofs.gathered.Reads as gathered-reads
 
--- src/lib.rt:153:13
 gathered-requires : tie.Need-gathered-requires
 gathered-requires c κs = search needs
 
--- src/lib.rt:153:5
 closure-requires : tie.Need-closure-requires
 closure-requires c κs = search needs
 
--- src/lib.rt:134:1
 same-length : tie.Need-same-length
 same-length c = search needs
 
--- src/lib.rt:134:1
 returns : tie.Need-returns
 unfolding overlay raw
 returns c = (c .closure .ensures ∙ ap closure (c .before .before .before .gathered .ensures .0), c .before .before .before .gathered .ensures .1)

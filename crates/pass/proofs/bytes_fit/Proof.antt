@@ -14,35 +14,27 @@ Inv-loop bytes from to i₀ i = Along bytes from to i
 abbrev μ-loop : tie.MeasureT-loop
 μ-loop bytes from to i₀ i = to - i
 
--- src/lib.rt:92:5
 loop-holds : tie.Need-loop-holds Inv-loop μ-loop
 loop-holds c = begins _ _ _ (omega arith)
 
--- src/lib.rt:93:17
 shared-slice-read-b : tie.Need-shared-slice-read-b Inv-loop μ-loop
 shared-slice-read-b c = omega arith
 
--- src/lib.rt:95:13
 returns : tie.Need-returns Inv-loop μ-loop
 returns c = stops (c .before .before .before .loop .inv) (omega arith) (omega arith) refl (rw (lt-leb _ _ (c .if1 .taken)))
 
--- src/lib.rt:98:13
 returns-2 : tie.Need-returns-2 Inv-loop μ-loop
 returns-2 c = stops (c .before .before .before .before .loop .inv) (omega arith) (omega arith) refl (rw (le-leb _ _ (c .before .if1 .left), lt-leb _ _ (c .if2 .taken)))
 
--- src/lib.rt:100:9
 add-i : tie.Need-add-i Inv-loop μ-loop
 add-i c = omega arith
 
--- src/lib.rt:92:5
 loop-less : tie.Need-loop-less Inv-loop μ-loop
 loop-less c = omega arith
 
--- src/lib.rt:92:5
 loop-again : tie.Need-loop-again Inv-loop μ-loop
 loop-again c = goes-on (c .before .before .before .before .loop .inv) (omega arith) (omega arith) refl (rw (le-leb _ _ (c .before .if1 .left), le-leb _ _ (c .if2 .left)))
 
--- src/lib.rt:87:1
 returns-3 : tie.Need-returns-3 Inv-loop μ-loop
 returns-3 c = ends (c .before .loop .inv) (omega arith)
 

@@ -1,27 +1,23 @@
+-- By the sheet.
+-- Assumes nothing.
 use native.Mathlib.Omega.{arith}
 use borrow.Author.Tests.{ne-eqb}
 use Rattle.spec.specs.Record.{classFlagsFit}
 use Rattle.pass.proofs.Tables.{low-flags}
 use Rattle.pass.proofs.class_flags_fit.Statement.{statement}
 use Rattle.pass.proofs.class_flags_fit.Tie as tie
-use Rattle.pass.proofs.class_flags_fit.Reads as reads
-use Rattle.pass.proofs.class_flags_fit.Lts as lts
 
--- src/lib.rt:60:13
 returns : tie.Need-returns
 returns c = rw (c .before .if1 .taken) (low-flags _ (c .if2 .taken))
 
--- src/lib.rt:63:13
 returns-2 : tie.Need-returns-2
 unfolding classFlagsFit
 returns-2 c = rw (c .before .before .if1 .taken, c .if3 .taken)
 
--- src/lib.rt:65:9
 returns-3 : tie.Need-returns-3
 unfolding classFlagsFit
 returns-3 c = rw (c .before .before .if1 .taken, ne-eqb (c .before .before .before .args .flags) 0 (λ e. omega arith), ne-eqb (c .before .before .before .args .flags) 1 (λ e. omega arith), ne-eqb _ _ (c .if3 .left))
 
--- src/lib.rt:54:1
 returns-4 : tie.Need-returns-4
 unfolding classFlagsFit
 returns-4 c = rw (ne-eqb _ _ (c .if1 .left), classFlagsFit)

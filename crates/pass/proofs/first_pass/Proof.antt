@@ -1,3 +1,5 @@
+-- In the loop the records before `at` have passed, and the row holds their starts.
+-- Assumes nothing.
 use borrow.Author.Needs.{needs}
 use Prim.Native.Nat.{ℕ, _-_}
 use mathlib.Core.Path.{sym, _∙_}
@@ -8,11 +10,6 @@ use Rattle.view.specs.View.{spliced}
 use Rattle.pass.proofs.Going.{Passed, passed, Going, begin, ends, stops, class-on, other-on}
 use Rattle.pass.proofs.first_pass.Statement.{statement}
 use Rattle.pass.proofs.first_pass.Tie as tie
-use Rattle.pass.proofs.first_pass.Reads as reads
-use Rattle.pass.proofs.first_pass.Lts as lts
-use Rattle.pass.proofs.record_number.Reads as record-number-reads
-use Rattle.view.proofs.view_len.Reads as view-len-reads
-use Rattle.view.proofs.word_at.Reads as word-at-reads
 
 abbrev Inv-loop : tie.InvT-loop
 Inv-loop user group cut sheet base starts₀ end at₀ c₀ k₀ starts at c k = Going sheet (spliced user group cut) base starts₀ starts at c k

@@ -18,45 +18,35 @@ Inv-loop user group cut from to i₀ i = Along (spliced user group cut) from to 
 abbrev μ-loop : tie.MeasureT-loop
 μ-loop user group cut from to i₀ i = to - i
 
--- src/lib.rt:112:9
 bytes-fit-requires : tie.Need-bytes-fit-requires Inv-loop μ-loop
 bytes-fit-requires c κs = omega (arith, c .before .before .before .before .pre .0 .ordered, c .before .before .before .before .pre .0 .within, c .before .before .before .before .pre .0 .there)
 
--- src/lib.rt:112:9
 returns : tie.Need-returns Inv-loop μ-loop
 returns c =
     let a = c .before .before .before .before .before .args in
     c .bytes-fit .ensures ∙ ap nameFits (part-in-head _ _ _ (c .before .before .before .before .before .pre .0) (a .from) (a .to) (omega arith) (omega arith))
 
--- src/lib.rt:115:5
 loop-holds : tie.Need-loop-holds Inv-loop μ-loop
 loop-holds c = begins _ _ _ (omega arith)
 
--- src/lib.rt:116:13
 byte-at-requires : tie.Need-byte-at-requires Inv-loop μ-loop
 byte-at-requires c κs = search needs
 
--- src/lib.rt:118:13
 returns-2 : tie.Need-returns-2 Inv-loop μ-loop
 returns-2 c = stops (c .before .before .before .loop .inv) (omega arith) (omega arith) (c .before .byte-at .ensures) (rw (lt-leb _ _ (c .if2 .taken)))
 
--- src/lib.rt:121:13
 returns-3 : tie.Need-returns-3 Inv-loop μ-loop
 returns-3 c = stops (c .before .before .before .before .loop .inv) (omega arith) (omega arith) (c .before .before .byte-at .ensures) (rw (le-leb _ _ (c .before .if2 .left), lt-leb _ _ (c .if3 .taken)))
 
--- src/lib.rt:123:9
 add-i : tie.Need-add-i Inv-loop μ-loop
 add-i c = omega arith
 
--- src/lib.rt:115:5
 loop-less : tie.Need-loop-less Inv-loop μ-loop
 loop-less c = omega arith
 
--- src/lib.rt:115:5
 loop-again : tie.Need-loop-again Inv-loop μ-loop
 loop-again c = goes-on (c .before .before .before .before .loop .inv) (omega arith) (omega arith) (c .before .before .byte-at .ensures) (rw (le-leb _ _ (c .before .if2 .left), le-leb _ _ (c .if3 .left)))
 
--- src/lib.rt:106:1
 returns-4 : tie.Need-returns-4 Inv-loop μ-loop
 returns-4 c = ends (c .before .loop .inv) (omega arith)
 

@@ -1,3 +1,5 @@
+-- The tests in their order.
+-- Assumes nothing.
 use mathlib.Core.Path.{_≡_, sym, _∙_}
 use native.Mathlib.Omega.{arith}
 use borrow.Author.Tests.{ne-eqb, le-leb, lt-leb}
@@ -8,61 +10,43 @@ use Rattle.pass.proofs.Numbers.{torn, full, late, order-size, by-order,
 use borrow.Author.Needs.{needs}
 use Rattle.pass.proofs.record_number.Statement.{statement}
 use Rattle.pass.proofs.record_number.Tie as tie
-use Rattle.pass.proofs.record_number.Reads as reads
-use Rattle.pass.proofs.record_number.Lts as lts
-use Rattle.pass.proofs.body_fits.Reads as body-fits-reads
-use Rattle.pass.proofs.order_number.Reads as order-number-reads
-use Rattle.view.proofs.word_at.Reads as word-at-reads
 
--- src/lib.rt:192:8
 sub-if1 : tie.Need-sub-if1
 sub-if1 c = search needs
 
--- src/lib.rt:193:9
 returns : tie.Need-returns
 returns c = torn _ _ _ _ _ (λ w. omega arith)
 
--- src/lib.rt:195:9
 word-at-requires : tie.Need-word-at-requires
 word-at-requires c κs = search needs
 
--- src/lib.rt:197:9
 returns-2 : tie.Need-returns-2
 returns-2 c = torn _ _ _ _ _ (λ w. omega arith)
 
--- src/lib.rt:199:13
 cast-n : tie.Need-cast-n
 cast-n c = search needs
 
--- src/lib.rt:200:8
 sub-if3 : tie.Need-sub-if3
 sub-if3 c = search needs
 
--- src/lib.rt:201:9
 returns-3 : tie.Need-returns-3
 returns-3 c = torn _ _ _ _ _ (λ w. omega arith)
 
--- src/lib.rt:203:42
 add-word-at : tie.Need-add-word-at
 add-word-at c = search needs
 
--- src/lib.rt:203:16
 word-at-requires-2 : tie.Need-word-at-requires-2
 word-at-requires-2 c κs = search needs
 
--- src/lib.rt:203:16
 cast-kind : tie.Need-cast-kind
 cast-kind c = search needs
 
--- src/lib.rt:204:9
 order-number-requires : tie.Need-order-number-requires
 order-number-requires c κs = search needs
 
--- src/lib.rt:206:9
 returns-4 : tie.Need-returns-4
 returns-4 c = by-order _ _ (record { left = omega arith; four = omega arith; ends = omega arith }) (omega arith) (c .before .before .before .before .before .word-at .ensures) (c .before .before .word-at2 .ensures) (c .before .order-number .ensures) (c .if4 .taken)
 
--- src/lib.rt:208:8
 body-fits-requires : tie.Need-body-fits-requires
 body-fits-requires c κs = (c .before .before .before .before .before .before .before .before .before .pre .0, ((omega arith, omega arith), order-size _ _ _ _ (sym (c .before .order-number .ensures) ∙ c .if4 .left)))
 
@@ -70,23 +54,18 @@ body-fits-requires c κs = (c .before .before .before .before .before .before .b
 from-body : (c : tie.After-body-fits) → recordNumber (c .before .before .before .before .before .before .before .before .before .before .args .sheet) (spliced (c .before .before .before .before .before .before .before .before .before .before .args .user .now) (c .before .before .before .before .before .before .before .before .before .before .args .group .now) (c .before .before .before .before .before .before .before .before .before .before .args .cut)) (c .before .before .before .before .before .before .before .before .before .before .args .at) (c .before .before .before .before .before .before .before .before .before .before .args .c) (c .before .before .before .before .before .before .before .before .before .before .args .k) ≡ late (c .body-fits .result) (full (eqb (c .before .before .before .word-at2 .result) 1) (c .before .before .before .before .before .before .before .before .before .before .args .c) (c .before .before .before .before .before .before .before .before .before .before .args .k))
 from-body c = rw (c .body-fits .ensures) (by-body _ _ (record { left = omega arith; four = omega arith; ends = omega arith }) (omega arith) (c .before .before .before .before .before .before .word-at .ensures) (c .before .before .before .word-at2 .ensures) (c .before .before .order-number .ensures) (c .before .if4 .left))
 
--- src/lib.rt:211:17
 returns-5 : tie.Need-returns-5
 returns-5 c = rw (from-body (c .before .before .before), c .before .before .if5 .taken, c .before .if6 .taken, c .if7 .taken)
 
--- src/lib.rt:213:13
 returns-6 : tie.Need-returns-6
 returns-6 c = rw (from-body (c .before .before .before), c .before .before .if5 .taken, c .before .if6 .taken, lt-leb 256 (c .before .before .before .before .before .before .before .before .before .before .before .before .before .args .c) (omega arith))
 
--- src/lib.rt:216:13
 returns-7 : tie.Need-returns-7
 returns-7 c = rw (from-body (c .before .before .before), c .before .before .if5 .taken, ne-eqb _ _ (c .before .if6 .left), le-leb _ _ (c .if8 .taken))
 
--- src/lib.rt:218:9
 returns-8 : tie.Need-returns-8
 returns-8 c = rw (from-body (c .before .before .before), c .before .before .if5 .taken, ne-eqb _ _ (c .before .if6 .left), lt-leb 255 (c .before .before .before .before .before .before .before .before .before .before .before .before .before .args .k) (omega arith))
 
--- src/lib.rt:177:1
 returns-9 : tie.Need-returns-9
 returns-9 c = rw (from-body (c .before), c .if5 .left)
 

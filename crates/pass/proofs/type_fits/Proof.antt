@@ -1,40 +1,31 @@
+-- A class, or a primitive that names none.
+-- Assumes nothing.
 use borrow.Author.Tests.{le-leb, lt-leb, ne-eqb}
 use Rattle.spec.specs.Record.{u8, tyFits, tyAt}
 use borrow.Author.Needs.{needs}
 use Rattle.pass.proofs.type_fits.Statement.{statement}
 use Rattle.pass.proofs.type_fits.Tie as tie
-use Rattle.pass.proofs.type_fits.Reads as reads
-use Rattle.pass.proofs.type_fits.Lts as lts
-use Rattle.view.proofs.byte_at.Reads as byte-at-reads
-use Rattle.view.proofs.word_at.Reads as word-at-reads
 
--- src/lib.rt:76:42
 add-byte-at : tie.Need-add-byte-at
 add-byte-at c = search needs
 
--- src/lib.rt:76:9
 byte-at-requires : tie.Need-byte-at-requires
 byte-at-requires c κs = search needs
 
--- src/lib.rt:78:9
 returns : tie.Need-returns
 unfolding u8 tyFits tyAt
 returns c = rw (← c .before .byte-at .ensures, c .if1 .taken)
 
--- src/lib.rt:81:9
 returns-2 : tie.Need-returns-2
 unfolding u8 tyFits tyAt
 returns-2 c = rw (← c .before .before .byte-at .ensures, lt-leb _ _ (c .if2 .taken))
 
--- src/lib.rt:83:31
 add-word-at : tie.Need-add-word-at
 add-word-at c = search needs
 
--- src/lib.rt:83:5
 word-at-requires : tie.Need-word-at-requires
 word-at-requires c κs = search needs
 
--- src/lib.rt:71:1
 returns-3 : tie.Need-returns-3
 unfolding u8 tyFits tyAt
 returns-3 c = rw (← c .before .before .before .byte-at .ensures, ← c .word-at .ensures, le-leb _ _ (c .before .if2 .left), ne-eqb _ _ (c .before .before .if1 .left))

@@ -9,9 +9,6 @@ use Rattle.lanes.proofs.Closing.{CloseAt, close-start, close-next, close-end}
 use Rattle.reach.specs.Reach.{stepsOf, outerOf}
 use Rattle.reach.proofs.close.Statement.{statement}
 use Rattle.reach.proofs.close.Tie as tie
-use Rattle.reach.proofs.close.Reads as reads
-use Rattle.reach.proofs.close.Lts as lts
-use Rattle.reach.proofs.sweep.Reads as sweep-reads
 
 abbrev Inv-loop : tie.InvT-loop
 Inv-loop library user group cut starts nlib n builds lanes row₀ up₀ added₀ row up added =
@@ -20,29 +17,23 @@ Inv-loop library user group cut starts nlib n builds lanes row₀ up₀ added₀
 abbrev μ-loop : tie.MeasureT-loop
 μ-loop library user group cut starts nlib n builds lanes row₀ up₀ added₀ row up added = sumOf row + min added 1
 
--- src/lib.rt:142:5
 loop-holds : tie.Need-loop-holds Inv-loop μ-loop
 loop-holds c = close-start _ _ _ _ _ (c .before .before .before .before .before .pre .1 .1 .1)
 
--- src/lib.rt:143:9
 sweep-requires : tie.Need-sweep-requires Inv-loop μ-loop
 sweep-requires c κs =
     let p = c .before .before .before .before .before .before .before .before .pre in
     (p .0, (p .1 .0, omega (arith, p .1 .1 .0, c .before .before .loop .inv .long)))
 
--- src/lib.rt:142:5
 loop-less : tie.Need-loop-less Inv-loop μ-loop
 loop-less c = omega (arith, c .before .before .sweep .ensures .less)
 
--- src/lib.rt:142:5
 loop-again : tie.Need-loop-again Inv-loop μ-loop
 loop-again c = close-next (c .before .before .before .before .before .loop .inv) (c .before .before .sweep .ensures) (c .before .before .sweep .kept .1 .1 .1 .1 .1 .1 .1 .1 .1 .1 .0)
 
--- src/lib.rt:122:1
 same-length : tie.Need-same-length Inv-loop μ-loop
 same-length c = c .before .loop .inv .long
 
--- src/lib.rt:122:1
 returns : tie.Need-returns Inv-loop μ-loop
 returns c = close-end (c .before .before .before .before .before .before .before .pre .1 .0 .few) (c .before .loop .inv) (omega arith)
 

@@ -7,33 +7,24 @@ use Rattle.reach.proofs.Depending.{emptied, seeds-fit, found}
 use borrow.Author.Needs.{needs}
 use Rattle.reach.proofs.dependents.Statement.{statement}
 use Rattle.reach.proofs.dependents.Tie as tie
-use Rattle.reach.proofs.dependents.Reads as reads
-use Rattle.reach.proofs.dependents.Lts as lts
-use Rattle.reach.proofs.close.Reads as close-reads
-use Rattle.lanes.proofs.fill.Reads as fill-reads
 
--- src/lib.rt:204:5
 fill-requires : tie.Need-fill-requires
 fill-requires c κs = search needs
 
--- src/lib.rt:205:5
 slice-write-row : tie.Need-slice-write-row
 slice-write-row c = search needs
 
--- src/lib.rt:206:5
 close-requires : tie.Need-close-requires
 close-requires c κs =
     let p = c .before .before .before .before .before .before .before .before .before .before .pre in
     let f = emptied (c .before .before .before .before .before .before .before .before .before .before .args .row .now) (p .1 .1 .1 .1) (c .before .before .before .fill .ensures) in
     (p .0, (p .1 .0, (simp length-set (omega (arith, f .long, p .1 .1 .1)), seeds-fit f (omega (arith, p .1 .0 .few, p .1 .1 .1)) (p .1 .1 .1 .1) _ _ (p .1 .0 .few))))
 
--- src/lib.rt:187:1
 same-length : tie.Need-same-length
 same-length c =
     let p = c .before .before .before .before .before .before .before .before .before .before .before .before .before .pre in
     c .before .before .close .kept .1 .1 .1 .1 .1 .1 .1 .1 .1 .0 ∙ simp length-set (emptied (c .before .before .before .before .before .before .before .before .before .before .before .before .before .args .row .now) (p .1 .1 .1 .1) (c .before .before .before .before .before .before .fill .ensures) .long)
 
--- src/lib.rt:187:1
 returns : tie.Need-returns
 returns c =
     let p = c .before .before .before .before .before .before .before .before .before .before .before .before .before .pre in

@@ -9,10 +9,6 @@ use Rattle.reach.specs.Reach.{outerOf}
 use Rattle.reach.proofs.Scanning.{outer-is}
 use Rattle.reach.proofs.enclosers.Statement.{statement}
 use Rattle.reach.proofs.enclosers.Tie as tie
-use Rattle.reach.proofs.enclosers.Reads as reads
-use Rattle.reach.proofs.enclosers.Lts as lts
-use Rattle.groups.proofs.class_word.Reads as class-word-reads
-use Rattle.reach.proofs.wide.Reads as wide-reads
 
 abbrev Inv-loop : tie.InvT-loop
 Inv-loop library user group cut starts nlib n m marks₀ c₀ e₀ marks c e = Up (outerOf (groupOf library (spliced user group cut))) m marks₀ marks c e
@@ -20,43 +16,33 @@ Inv-loop library user group cut starts nlib n m marks₀ c₀ e₀ marks c e = U
 abbrev μ-loop : tie.MeasureT-loop
 μ-loop library user group cut starts nlib n m marks₀ c₀ e₀ marks c e = c
 
--- src/lib.rt:46:22
 class-word-requires : tie.Need-class-word-requires Inv-loop μ-loop
 class-word-requires c κs = let p = c .before .before .before .before .before .pre in (p .0, (p .1 .0, (p .1 .1 .0, omega arith)))
 
--- src/lib.rt:46:9
 wide-requires : tie.Need-wide-requires Inv-loop μ-loop
 wide-requires c κs = search needs
 
--- src/lib.rt:47:5
 loop-holds : tie.Need-loop-holds Inv-loop μ-loop
 loop-holds c = up-start _ _ _ _ (c .before .before .before .before .before .before .before .pre .1 .1 .2) (outer-is _ _ (c .wide .ensures .0) (c .before .class-word .ensures))
 
--- src/lib.rt:48:9
 slice-write-marks : tie.Need-slice-write-marks Inv-loop μ-loop
 slice-write-marks c = omega (arith, c .before .before .before .before .before .before .before .before .before .pre .1 .1 .1, c .before .loop .inv .low, c .before .loop .inv .long)
 
--- src/lib.rt:50:18
 class-word-requires-2 : tie.Need-class-word-requires-2 Inv-loop μ-loop
 class-word-requires-2 c κs = let p = c .before .before .before .before .before .before .before .before .before .pre in (p .0, (p .1 .0, (omega (arith, p .1 .1 .0, c .before .loop .inv .low), omega arith)))
 
--- src/lib.rt:50:9
 wide-requires-2 : tie.Need-wide-requires-2 Inv-loop μ-loop
 wide-requires-2 c κs = search needs
 
--- src/lib.rt:47:5
 loop-less : tie.Need-loop-less Inv-loop μ-loop
 loop-less c = omega arith
 
--- src/lib.rt:47:5
 loop-again : tie.Need-loop-again Inv-loop μ-loop
 loop-again c = up-next (c .before .before .before .loop .inv) (omega arith) (c .before .before .before .before .before .before .before .before .before .before .before .pre .1 .1 .1) (outer-is _ _ (c .wide2 .ensures .0) (c .before .class-word2 .ensures))
 
--- src/lib.rt:29:1
 same-length : tie.Need-same-length Inv-loop μ-loop
 same-length c = c .before .loop .inv .long
 
--- src/lib.rt:29:1
 returns : tie.Need-returns Inv-loop μ-loop
 returns c = up-end (c .before .loop .inv) (omega arith)
 

@@ -9,11 +9,6 @@ use Rattle.lanes.proofs.Sweeping.{SweepAt, sweep-start, sweep-next, sweep-end}
 use Rattle.reach.specs.Reach.{stepsOf, outerOf}
 use Rattle.reach.proofs.sweep.Statement.{statement}
 use Rattle.reach.proofs.sweep.Tie as tie
-use Rattle.reach.proofs.sweep.Reads as reads
-use Rattle.reach.proofs.sweep.Lts as lts
-use Rattle.lanes.proofs.either.Reads as either-reads
-use Rattle.lanes.proofs.place.Reads as place-reads
-use Rattle.reach.proofs.visit.Reads as visit-reads
 
 abbrev Inv-loop : tie.InvT-loop
 Inv-loop library user group cut starts nlib n builds lanes up row₀ added₀ i₀ row added i =
@@ -22,41 +17,32 @@ Inv-loop library user group cut starts nlib n builds lanes up row₀ added₀ i�
 abbrev μ-loop : tie.MeasureT-loop
 μ-loop library user group cut starts nlib n builds lanes up row₀ added₀ i₀ row added i = n - i
 
--- src/lib.rt:112:5
 loop-holds : tie.Need-loop-holds Inv-loop μ-loop
 loop-holds c = sweep-start _ _ _ _ _ _
 
--- src/lib.rt:113:13
 place-requires : tie.Need-place-requires Inv-loop μ-loop
 place-requires c κs = omega arith
 
--- src/lib.rt:114:13
 visit-requires : tie.Need-visit-requires Inv-loop μ-loop
 visit-requires c κs =
     let p = c .before .before .before .before .before .before .before .before .before .pre in
     (p .0, (p .1 .0, omega (arith, p .1 .1, c .before .before .before .loop .inv .long, c .before .place .ensures)))
 
--- src/lib.rt:115:9
 either-requires : tie.Need-either-requires Inv-loop μ-loop
 either-requires c κs = search needs
 
--- src/lib.rt:116:9
 add-i : tie.Need-add-i Inv-loop μ-loop
 add-i c = omega arith
 
--- src/lib.rt:112:5
 loop-less : tie.Need-loop-less Inv-loop μ-loop
 loop-less c = omega arith
 
--- src/lib.rt:112:5
 loop-again : tie.Need-loop-again Inv-loop μ-loop
 loop-again c = sweep-next (c .before .before .before .before .before .before .before .loop .inv) (c .before .before .before .before .before .place .ensures .0) (c .before .before .before .visit .ensures) (c .either .ensures) (c .before .before .before .visit .kept .1 .1 .1 .1 .1 .1 .1 .1 .1 .1 .0)
 
--- src/lib.rt:92:1
 same-length : tie.Need-same-length Inv-loop μ-loop
 same-length c = c .before .loop .inv .long
 
--- src/lib.rt:92:1
 returns : tie.Need-returns Inv-loop μ-loop
 returns c = sweep-end (c .before .loop .inv) (omega arith)
 

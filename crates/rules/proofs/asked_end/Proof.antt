@@ -5,54 +5,37 @@ use Rattle.rules.proofs.Stepping.{end-first, end-all, start-low}
 use borrow.Author.Needs.{needs}
 use Rattle.rules.proofs.asked_end.Statement.{statement}
 use Rattle.rules.proofs.asked_end.Tie as tie
-use Rattle.rules.proofs.asked_end.Reads as reads
-use Rattle.rules.proofs.asked_end.Lts as lts
-use Rattle.groups.proofs.group_end.Reads as group-end-reads
-use Rattle.groups.proofs.group_start.Reads as group-start-reads
-use Rattle.groups.proofs.sheet_of.Reads as sheet-of-reads
-use Rattle.groups.proofs.word_of.Reads as word-of-reads
-use Rattle.rules.proofs.first_only.Reads as first-only-reads
-use Rattle.rules.proofs.wide.Reads as wide-reads
 
--- src/lib.rt:135:8
 first-only-requires : tie.Need-first-only-requires
 first-only-requires c κs = search needs
 
--- src/lib.rt:136:13
 group-start-requires : tie.Need-group-start-requires
 group-start-requires c κs = search needs
 
--- src/lib.rt:137:59
 sheet-of-requires : tie.Need-sheet-of-requires
 sheet-of-requires c κs = search needs
 
--- src/lib.rt:137:24
 word-of-requires : tie.Need-word-of-requires
 word-of-requires c κs =
     let p = c .before .before .before .before .before .before .before .before .pre in
     (p .0, omega (arith, start-low (p .1 .0) (p .1 .1) 0 (c .before .group-start .ensures)))
 
--- src/lib.rt:137:13
 wide-requires : tie.Need-wide-requires
 wide-requires c κs = search needs
 
--- src/lib.rt:138:16
 add-result : tie.Need-add-result
 add-result c =
     let p = c .before .before .before .before .before .before .before .before .before .before .pre in
     omega (arith, start-low (p .1 .0) (p .1 .1) 0 (c .before .before .before .group-start .ensures), c .wide .ensures .1)
 
--- src/lib.rt:138:9
 returns : tie.Need-returns
 returns c =
     let p = c .before .before .before .before .before .before .before .before .before .before .pre in
     end-first (p .1 .0) (p .1 .1) _ (c .before .before .before .before .before .first-only .ensures) (c .before .before .before .before .if1 .taken) (c .before .before .sheet-of .ensures) (c .before .before .before .group-start .ensures) (c .wide .ensures .0) (c .before .word-of .ensures)
 
--- src/lib.rt:140:5
 group-end-requires : tie.Need-group-end-requires
 group-end-requires c κs = search needs
 
--- src/lib.rt:119:1
 returns-2 : tie.Need-returns-2
 returns-2 c =
     let p = c .before .before .before .before .before .before .before .pre in

@@ -5,22 +5,16 @@ use native.Mathlib.Omega.{arith}
 use Rattle.rules.proofs.Stepping.{only-library, only-three, only-four, only-last}
 use Rattle.rules.proofs.first_only.Statement.{statement}
 use Rattle.rules.proofs.first_only.Tie as tie
-use Rattle.rules.proofs.first_only.Reads as reads
-use Rattle.rules.proofs.first_only.Lts as lts
 
--- src/lib.rt:107:9
 returns : tie.Need-returns
 returns c = sym (only-library _ _ _ (omega arith))
 
--- src/lib.rt:110:9
 returns-2 : tie.Need-returns-2
 returns-2 c = sym (only-three _ _ _ (omega arith))
 
--- src/lib.rt:113:9
 returns-3 : tie.Need-returns-3
 returns-3 c = sym (only-four _ _ _ (omega arith))
 
--- src/lib.rt:103:1
 returns-4 : tie.Need-returns-4
 returns-4 c = only-last _ _ _ (omega arith) (λ e. omega arith) (λ e. omega arith)
 

@@ -5,18 +5,13 @@ use Rattle.rules.proofs.Stepping.{place-here, place-there}
 use borrow.Author.Needs.{needs}
 use Rattle.rules.proofs.place.Statement.{statement}
 use Rattle.rules.proofs.place.Tie as tie
-use Rattle.rules.proofs.place.Reads as reads
-use Rattle.rules.proofs.place.Lts as lts
 
--- src/lib.rt:148:17
 cast-result : tie.Need-cast-result
 cast-result c = search needs
 
--- src/lib.rt:144:1
 returns : tie.Need-returns
 returns c = place-here _ _ _ (omega arith)
 
--- src/lib.rt:144:1
 returns-2 : tie.Need-returns-2
 returns-2 c = place-there _ _ _ (λ e. omega arith)
 

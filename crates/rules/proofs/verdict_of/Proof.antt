@@ -15,17 +15,6 @@ use Rattle.rules.proofs.Stepping.{only-three, only-six}
 use Rattle.rules.proofs.Judging.{RuleAt, ClassAt, RecordAt, rule-start, rule-end, class-start, class-end, record-start, record-end, record-low, record-first, record-sized, record-at, record-length, record-next, record-hit}
 use Rattle.rules.proofs.verdict_of.Statement.{statement}
 use Rattle.rules.proofs.verdict_of.Tie as tie
-use Rattle.rules.proofs.verdict_of.Reads as reads
-use Rattle.rules.proofs.verdict_of.Lts as lts
-use Rattle.groups.proofs.group_start.Reads as group-start-reads
-use Rattle.groups.proofs.sheet_of.Reads as sheet-of-reads
-use Rattle.groups.proofs.word_of.Reads as word-of-reads
-use Rattle.rules.proofs.asked_end.Reads as asked-end-reads
-use Rattle.breaks.proofs.breaks.Reads as breaks-reads
-use Rattle.rules.proofs.first_class.Reads as first-class-reads
-use Rattle.rules.proofs.next_class.Reads as next-class-reads
-use Rattle.rules.proofs.place.Reads as place-reads
-use Rattle.rules.proofs.wide.Reads as wide-reads
 
 abbrev Inv-loop2 : tie.InvT-loop2
 Inv-loop2 library user group cut starts nlib n markers row c rule t sheet end at₀ k₀ at k = RecordAt library (spliced user group cut) nlib n c rule t (sheetOf library (spliced user group cut) (sheetNumber nlib t)) end at k
@@ -45,49 +34,41 @@ Inv-judged library user group cut starts nlib n markers row c rule₀ rule = Rul
 abbrev μ-judged : tie.MeasureT-judged
 μ-judged library user group cut starts nlib n markers row c rule₀ rule = 11 - rule
 
--- src/lib.rt:173:9
 judged-holds : tie.Need-judged-holds Inv-loop2 μ-loop2 Inv-loop μ-loop Inv-judged μ-judged
 judged-holds c = rule-start _ _ _
 
--- src/lib.rt:177:13
 first-class-requires :
     tie.Need-first-class-requires Inv-loop2 μ-loop2 Inv-loop μ-loop Inv-judged μ-judged
 first-class-requires c κs =
     let p = c .before .before .before .before .before .before .before .before .pre in
     (p .0, (p .1 .0, (p .1 .1 .1 .0, p .1 .1 .1 .1 .1 .1)))
 
--- src/lib.rt:178:9
 loop-holds : tie.Need-loop-holds Inv-loop2 μ-loop2 Inv-loop μ-loop Inv-judged μ-judged
 loop-holds c =
     let p = c .before .before .before .before .before .before .before .before .before .pre in
     class-start (ground (p .1 .0) (p .1 .1 .0)) (p .1 .1 .1 .1 .1 .0) (p .1 .1 .1 .1 .1 .1) (c .before .before .judged .inv) (c .first-class .ensures)
 
--- src/lib.rt:179:17
 sheet-of-requires :
     tie.Need-sheet-of-requires Inv-loop2 μ-loop2 Inv-loop μ-loop Inv-judged μ-judged
 sheet-of-requires c κs = search needs
 
--- src/lib.rt:180:17
 asked-end-requires :
     tie.Need-asked-end-requires Inv-loop2 μ-loop2 Inv-loop μ-loop Inv-judged μ-judged
 asked-end-requires c κs =
     let p = c .before .before .before .before .before .before .before .before .before .before .before .before .pre in
     (p .0, (p .1 .0, omega arith))
 
--- src/lib.rt:181:17
 group-start-requires :
     tie.Need-group-start-requires Inv-loop2 μ-loop2 Inv-loop μ-loop Inv-judged μ-judged
 group-start-requires c κs =
     let p = c .before .before .before .before .before .before .before .before .before .before .before .before .before .pre in
     (p .0, (p .1 .0, omega arith))
 
--- src/lib.rt:183:13
 loop2-holds : tie.Need-loop2-holds Inv-loop2 μ-loop2 Inv-loop μ-loop Inv-judged μ-judged
 loop2-holds c =
     let p = c .before .before .before .before .before .before .before .before .before .before .before .before .before .before .pre in
     record-start (p .1 .0) (ground (p .1 .0) (p .1 .1 .0)) (p .1 .1 .1 .1 .1 .0) (p .1 .1 .1 .1 .1 .1) (c .before .before .before .before .loop .inv) (omega arith) refl (c .before .asked-end .ensures) (c .group-start .ensures)
 
--- src/lib.rt:184:20
 breaks-requires : tie.Need-breaks-requires Inv-loop2 μ-loop2 Inv-loop μ-loop Inv-judged μ-judged
 breaks-requires c κs =
     let p = c .before .before .before .before .before .before .before .before .before .before .before .before .before .before .before .before .pre in
@@ -114,84 +95,69 @@ breaks-requires c κs =
       ),
     )
 
--- src/lib.rt:202:33
 place-requires : tie.Need-place-requires Inv-loop2 μ-loop2 Inv-loop μ-loop Inv-judged μ-judged
 place-requires c κs =
     let p = c .before .before .before .before .before .before .before .before .before .before .before .before .before .before .before .before .before .before .pre in
     omega (arith, record-low (p .1 .0) (ground (p .1 .0) (p .1 .1 .0)) (p .1 .1 .1 .1 .1 .0) (p .1 .1 .1 .1 .1 .1) (c .before .before .before .loop2 .inv) (omega arith))
 
--- src/lib.rt:205:28
 word-of-requires : tie.Need-word-of-requires Inv-loop2 μ-loop2 Inv-loop μ-loop Inv-judged μ-judged
 word-of-requires c κs =
     let p = c .before .before .before .before .before .before .before .before .before .before .before .before .before .before .before .before .before .before .pre in
     (p .0, omega (arith, c .before .before .before .loop2 .inv .place .small))
 
--- src/lib.rt:205:23
 wide-requires : tie.Need-wide-requires Inv-loop2 μ-loop2 Inv-loop μ-loop Inv-judged μ-judged
 wide-requires c κs = search needs
 
--- src/lib.rt:205:17
 add-at : tie.Need-add-at Inv-loop2 μ-loop2 Inv-loop μ-loop Inv-judged μ-judged
 add-at c = omega (arith, c .before .before .before .before .before .loop2 .inv .place .small, c .wide .ensures .1)
 
--- src/lib.rt:206:17
 add-k : tie.Need-add-k Inv-loop2 μ-loop2 Inv-loop μ-loop Inv-judged μ-judged
 add-k c =
     let p = c .before .before .before .before .before .before .before .before .before .before .before .before .before .before .before .before .before .before .before .before .pre in
     omega (arith, record-low (p .1 .0) (ground (p .1 .0) (p .1 .1 .0)) (p .1 .1 .1 .1 .1 .0) (p .1 .1 .1 .1 .1 .1) (c .before .before .before .before .before .loop2 .inv) (omega arith))
 
--- src/lib.rt:183:13
 loop2-less : tie.Need-loop2-less Inv-loop2 μ-loop2 Inv-loop μ-loop Inv-judged μ-judged
 loop2-less c =
     let p = c .before .before .before .before .before .before .before .before .before .before .before .before .before .before .before .before .before .before .before .before .pre in
     omega (arith, walk-on (c .before .before .before .before .before .loop2 .inv .place) (omega arith), record-length (p .1 .0) (ground (p .1 .0) (p .1 .1 .0)) (p .1 .1 .1 .1 .1 .0) (p .1 .1 .1 .1 .1 .1) (c .before .before .before .before .before .loop2 .inv) (c .wide .ensures .0) (c .before .word-of .ensures) (c .before .before .before .before .before .before .before .before .sheet-of .ensures))
 
--- src/lib.rt:183:13
 loop2-again : tie.Need-loop2-again Inv-loop2 μ-loop2 Inv-loop μ-loop Inv-judged μ-judged
 loop2-again c =
     let p = c .before .before .before .before .before .before .before .before .before .before .before .before .before .before .before .before .before .before .before .before .pre in
     record-next (p .1 .0) (ground (p .1 .0) (p .1 .1 .0)) (p .1 .1 .1 .1 .1 .0) (p .1 .1 .1 .1 .1 .1) (c .before .before .before .before .before .loop2 .inv) (omega arith) (record-length (p .1 .0) (ground (p .1 .0) (p .1 .1 .0)) (p .1 .1 .1 .1 .1 .0) (p .1 .1 .1 .1 .1 .1) (c .before .before .before .before .before .loop2 .inv) (c .wide .ensures .0) (c .before .word-of .ensures) (c .before .before .before .before .before .before .before .before .sheet-of .ensures)) (sym (c .before .before .before .breaks .ensures) ∙ c .before .before .if2 .left)
 
--- src/lib.rt:208:13
 next-class-requires :
     tie.Need-next-class-requires Inv-loop2 μ-loop2 Inv-loop μ-loop Inv-judged μ-judged
 next-class-requires c κs =
     let p = c .before .before .before .before .before .before .before .before .before .before .before .before .before .before .before .before .pre in
     (p .0, (p .1 .0, omega arith))
 
--- src/lib.rt:178:9
 loop-less : tie.Need-loop-less Inv-loop2 μ-loop2 Inv-loop μ-loop Inv-judged μ-judged
 loop-less c =
     let p = c .before .before .before .before .before .before .before .before .before .before .before .before .before .before .before .before .before .pre in
     record-end (p .1 .0) (ground (p .1 .0) (p .1 .1 .0)) (p .1 .1 .1 .1 .1 .0) (p .1 .1 .1 .1 .1 .1) (c .before .before .loop2 .inv) (omega arith) (omega arith) (c .next-class .ensures) .1
 
--- src/lib.rt:178:9
 loop-again : tie.Need-loop-again Inv-loop2 μ-loop2 Inv-loop μ-loop Inv-judged μ-judged
 loop-again c =
     let p = c .before .before .before .before .before .before .before .before .before .before .before .before .before .before .before .before .before .pre in
     record-end (p .1 .0) (ground (p .1 .0) (p .1 .1 .0)) (p .1 .1 .1 .1 .1 .0) (p .1 .1 .1 .1 .1 .1) (c .before .before .loop2 .inv) (omega arith) (omega arith) (c .next-class .ensures) .0
 
--- src/lib.rt:210:9
 add-rule : tie.Need-add-rule Inv-loop2 μ-loop2 Inv-loop μ-loop Inv-judged μ-judged
 add-rule c = omega arith
 
--- src/lib.rt:173:9
 judged-less : tie.Need-judged-less Inv-loop2 μ-loop2 Inv-loop μ-loop Inv-judged μ-judged
 judged-less c = omega arith
 
--- src/lib.rt:173:9
 judged-again : tie.Need-judged-again Inv-loop2 μ-loop2 Inv-loop μ-loop Inv-judged μ-judged
 judged-again c =
     let p = c .before .before .before .before .before .before .before .before .before .before .before .pre in
     class-end (ground (p .1 .0) (p .1 .1 .0)) (p .1 .1 .1 .1 .1 .0) (p .1 .1 .1 .1 .1 .1) (omega arith) (c .before .loop .inv) (omega arith)
 
--- src/lib.rt:152:1
 returns : tie.Need-returns Inv-loop2 μ-loop2 Inv-loop μ-loop Inv-judged μ-judged
 returns c =
     let p = c .before .before .before .before .before .before .before .before .pre in
     sym (rule-end (ground (p .1 .0) (p .1 .1 .0)) (p .1 .1 .1 .1 .1 .0) (p .1 .1 .1 .1 .1 .1) (c .before .judged .inv) (omega arith))
 
--- src/lib.rt:152:1
 returns-2 : tie.Need-returns-2 Inv-loop2 μ-loop2 Inv-loop μ-loop Inv-judged μ-judged
 returns-2 c =
     let p = c .before .before .before .before .before .before .before .before .before .before .before .before .before .before .before .before .before .before .before .pre in

@@ -5,15 +5,11 @@ use Rattle.second.specs.Second.{thereOrNone}
 use Rattle.second.proofs.ByKind.{past-last}
 use Rattle.second.proofs.absent.Statement.{statement}
 use Rattle.second.proofs.absent.Tie as tie
-use Rattle.second.proofs.absent.Reads as reads
-use Rattle.second.proofs.absent.Lts as lts
 
--- src/lib.rt:197:9
 returns : tie.Need-returns
 unfolding thereOrNone
 returns c = rw (c .if1 .taken, thereOrNone)
 
--- src/lib.rt:193:1
 returns-2 : tie.Need-returns-2
 unfolding thereOrNone
 returns-2 c = rw (ne-eqb _ _ (c .if1 .left), thereOrNone) (past-last (c .before .args .n) (c .before .args .d))

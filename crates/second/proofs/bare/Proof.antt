@@ -4,14 +4,10 @@ use borrow.Author.Tests.{ne-eqb}
 use Rattle.second.proofs.Leaves.{odd-bit}
 use Rattle.second.proofs.bare.Statement.{statement}
 use Rattle.second.proofs.bare.Tie as tie
-use Rattle.second.proofs.bare.Reads as reads
-use Rattle.second.proofs.bare.Lts as lts
 
--- src/lib.rt:207:9
 returns : tie.Need-returns
 returns c = rw (c .if1 .taken)
 
--- src/lib.rt:203:1
 returns-2 : tie.Need-returns-2
 returns-2 c = rw (ne-eqb _ _ (c .if1 .left)) (odd-bit _)
 

@@ -7,97 +7,67 @@ use Rattle.second.proofs.Positions.{at-low}
 use Rattle.second.proofs.Deciding.{refused, passed, none-left, class-tests}
 use Rattle.second.proofs.class_number.Statement.{statement}
 use Rattle.second.proofs.class_number.Tie as tie
-use Rattle.second.proofs.class_number.Reads as reads
-use Rattle.second.proofs.class_number.Lts as lts
-use Rattle.groups.proofs.word_of.Reads as word-of-reads
-use Rattle.second.proofs.absent.Reads as absent-reads
-use Rattle.second.proofs.encloser_breaks.Reads as encloser-breaks-reads
-use Rattle.second.proofs.name_met.Reads as name-met-reads
-use Rattle.second.proofs.superclass_breaks.Reads as superclass-breaks-reads
-use Rattle.second.proofs.wide.Reads as wide-reads
-use Rattle.second.proofs.zero_breaks.Reads as zero-breaks-reads
 
--- src/lib.rt:287:61
 add-word-of : tie.Need-add-word-of
 add-word-of c = let p = c .before .before .before .before .before .pre .1 in omega (arith, at-low (p .0) (c .before .before .before .before .before .args .sheet) (p .1 .1 .1 .0))
 
--- src/lib.rt:287:19
 word-of-requires : tie.Need-word-of-requires
 word-of-requires c κs = let p = c .before .before .before .before .before .pre .1 in (c .before .before .before .before .before .pre .0, omega (arith, at-low (p .0) (c .before .before .before .before .before .args .sheet) (p .1 .1 .1 .0)))
 
--- src/lib.rt:287:9
 wide-requires : tie.Need-wide-requires
 wide-requires c κs = search needs
 
--- src/lib.rt:288:8
 absent-requires : tie.Need-absent-requires
 absent-requires c κs = search needs
 
--- src/lib.rt:289:9
 returns : tie.Need-returns
 returns c = let p = c .before .before .before .before .before .before .before .before .before .pre .1 in refused (class-tests _ _ _ _ (p .1 .1 .1 .0) (p .1 .1 .1 .1 .0) (c .before .before .wide .ensures .0) (c .before .before .before .word-of .ensures) refl refl refl) (c .before .absent .ensures) (c .if1 .taken)
 
--- src/lib.rt:291:64
 add-word-of-2 : tie.Need-add-word-of-2
 add-word-of-2 c = let p = c .before .before .before .before .before .before .before .before .before .pre .1 in omega (arith, at-low (p .0) (c .before .before .before .before .before .before .before .before .before .args .sheet) (p .1 .1 .1 .0))
 
--- src/lib.rt:291:22
 word-of-requires-2 : tie.Need-word-of-requires-2
 word-of-requires-2 c κs = let p = c .before .before .before .before .before .before .before .before .before .pre .1 in (c .before .before .before .before .before .before .before .before .before .pre .0, omega (arith, at-low (p .0) (c .before .before .before .before .before .before .before .before .before .args .sheet) (p .1 .1 .1 .0)))
 
--- src/lib.rt:291:9
 wide-requires-2 : tie.Need-wide-requires-2
 wide-requires-2 c κs = search needs
 
--- src/lib.rt:292:8
 absent-requires-2 : tie.Need-absent-requires-2
 absent-requires-2 c κs = search needs
 
--- src/lib.rt:293:9
 returns-2 : tie.Need-returns-2
 returns-2 c = let p = c .before .before .before .before .before .before .before .before .before .before .before .before .before .pre .1 in refused (passed (class-tests _ _ _ _ (p .1 .1 .1 .0) (p .1 .1 .1 .1 .0) (c .before .before .before .before .before .before .wide .ensures .0) (c .before .before .before .before .before .before .before .word-of .ensures) (c .before .before .wide2 .ensures .0) (c .before .before .before .word-of2 .ensures) refl) (c .before .before .before .before .before .absent .ensures) (c .before .before .before .before .if1 .left)) (c .before .absent2 .ensures) (c .if2 .taken)
 
--- src/lib.rt:295:59
 add-word-of-3 : tie.Need-add-word-of-3
 add-word-of-3 c = let p = c .before .before .before .before .before .before .before .before .before .before .before .before .before .pre .1 in omega (arith, at-low (p .0) (c .before .before .before .before .before .before .before .before .before .before .before .before .before .args .sheet) (p .1 .1 .1 .0))
 
--- src/lib.rt:295:9
 word-of-requires-3 : tie.Need-word-of-requires-3
 word-of-requires-3 c κs = let p = c .before .before .before .before .before .before .before .before .before .before .before .before .before .pre .1 in (c .before .before .before .before .before .before .before .before .before .before .before .before .before .pre .0, omega (arith, at-low (p .0) (c .before .before .before .before .before .before .before .before .before .before .before .before .before .args .sheet) (p .1 .1 .1 .0)))
 
--- src/lib.rt:296:8
 zero-breaks-requires : tie.Need-zero-breaks-requires
 zero-breaks-requires c κs = search needs
 
--- src/lib.rt:297:9
 returns-3 : tie.Need-returns-3
 returns-3 c = let p = c .before .before .before .before .before .before .before .before .before .before .before .before .before .before .before .before .pre .1 in refused (passed (passed (class-tests _ _ _ _ (p .1 .1 .1 .0) (p .1 .1 .1 .1 .0) (c .before .before .before .before .before .before .before .before .before .wide .ensures .0) (c .before .before .before .before .before .before .before .before .before .before .word-of .ensures) (c .before .before .before .before .before .wide2 .ensures .0) (c .before .before .before .before .before .before .word-of2 .ensures) (c .before .before .word-of3 .ensures)) (c .before .before .before .before .before .before .before .before .absent .ensures) (c .before .before .before .before .before .before .before .if1 .left)) (c .before .before .before .before .absent2 .ensures) (c .before .before .before .if2 .left)) (c .before .zero-breaks .ensures) (c .if3 .taken)
 
--- src/lib.rt:299:8
 superclass-breaks-requires : tie.Need-superclass-breaks-requires
 superclass-breaks-requires c κs = let p = c .before .before .before .before .before .before .before .before .before .before .before .before .before .before .before .before .pre in (p .0, (p .1 .0, p .1 .1 .1 .0))
 
--- src/lib.rt:300:9
 returns-4 : tie.Need-returns-4
 returns-4 c = let p = c .before .before .before .before .before .before .before .before .before .before .before .before .before .before .before .before .before .before .pre .1 in refused (passed (passed (passed (class-tests _ _ _ _ (p .1 .1 .1 .0) (p .1 .1 .1 .1 .0) (c .before .before .before .before .before .before .before .before .before .before .before .wide .ensures .0) (c .before .before .before .before .before .before .before .before .before .before .before .before .word-of .ensures) (c .before .before .before .before .before .before .before .wide2 .ensures .0) (c .before .before .before .before .before .before .before .before .word-of2 .ensures) (c .before .before .before .before .word-of3 .ensures)) (c .before .before .before .before .before .before .before .before .before .before .absent .ensures) (c .before .before .before .before .before .before .before .before .before .if1 .left)) (c .before .before .before .before .before .before .absent2 .ensures) (c .before .before .before .before .before .if2 .left)) (c .before .before .before .zero-breaks .ensures) (c .before .before .if3 .left)) (c .before .superclass-breaks .ensures) (c .if4 .taken)
 
--- src/lib.rt:302:8
 encloser-breaks-requires : tie.Need-encloser-breaks-requires
 encloser-breaks-requires c κs = search needs
 
--- src/lib.rt:303:9
 returns-5 : tie.Need-returns-5
 returns-5 c = let p = c .before .before .before .before .before .before .before .before .before .before .before .before .before .before .before .before .before .before .before .before .pre .1 in refused (passed (passed (passed (passed (class-tests _ _ _ _ (p .1 .1 .1 .0) (p .1 .1 .1 .1 .0) (c .before .before .before .before .before .before .before .before .before .before .before .before .before .wide .ensures .0) (c .before .before .before .before .before .before .before .before .before .before .before .before .before .before .word-of .ensures) (c .before .before .before .before .before .before .before .before .before .wide2 .ensures .0) (c .before .before .before .before .before .before .before .before .before .before .word-of2 .ensures) (c .before .before .before .before .before .before .word-of3 .ensures)) (c .before .before .before .before .before .before .before .before .before .before .before .before .absent .ensures) (c .before .before .before .before .before .before .before .before .before .before .before .if1 .left)) (c .before .before .before .before .before .before .before .before .absent2 .ensures) (c .before .before .before .before .before .before .before .if2 .left)) (c .before .before .before .before .before .zero-breaks .ensures) (c .before .before .before .before .if3 .left)) (c .before .before .before .superclass-breaks .ensures) (c .before .before .if4 .left)) (c .before .encloser-breaks .ensures) (c .if5 .taken)
 
--- src/lib.rt:305:8
 name-met-requires : tie.Need-name-met-requires
 name-met-requires c κs = let p = c .before .before .before .before .before .before .before .before .before .before .before .before .before .before .before .before .before .before .before .before .pre .1 in (c .before .before .before .before .before .before .before .before .before .before .before .before .before .before .before .before .before .before .before .before .pre .0, (p .0, (p .1 .0, (omega arith, (p .1 .1 .1 .0, p .1 .1 .1 .1 .1)))))
 
--- src/lib.rt:318:9
 returns-6 : tie.Need-returns-6
 returns-6 c = let p = c .before .before .before .before .before .before .before .before .before .before .before .before .before .before .before .before .before .before .before .before .before .before .pre .1 in refused (passed (passed (passed (passed (passed (class-tests _ _ _ _ (p .1 .1 .1 .0) (p .1 .1 .1 .1 .0) (c .before .before .before .before .before .before .before .before .before .before .before .before .before .before .before .wide .ensures .0) (c .before .before .before .before .before .before .before .before .before .before .before .before .before .before .before .before .word-of .ensures) (c .before .before .before .before .before .before .before .before .before .before .before .wide2 .ensures .0) (c .before .before .before .before .before .before .before .before .before .before .before .before .word-of2 .ensures) (c .before .before .before .before .before .before .before .before .word-of3 .ensures)) (c .before .before .before .before .before .before .before .before .before .before .before .before .before .before .absent .ensures) (c .before .before .before .before .before .before .before .before .before .before .before .before .before .if1 .left)) (c .before .before .before .before .before .before .before .before .before .before .absent2 .ensures) (c .before .before .before .before .before .before .before .before .before .if2 .left)) (c .before .before .before .before .before .before .before .zero-breaks .ensures) (c .before .before .before .before .before .before .if3 .left)) (c .before .before .before .before .before .superclass-breaks .ensures) (c .before .before .before .before .if4 .left)) (c .before .before .before .encloser-breaks .ensures) (c .before .before .if5 .left)) (c .before .name-met .ensures) (c .if6 .taken)
 
--- src/lib.rt:266:1
 returns-7 : tie.Need-returns-7
 returns-7 c = let p = c .before .before .before .before .before .before .before .before .before .before .before .before .before .before .before .before .before .before .before .before .before .before .pre .1 in none-left (passed (passed (passed (passed (passed (passed (class-tests _ _ _ _ (p .1 .1 .1 .0) (p .1 .1 .1 .1 .0) (c .before .before .before .before .before .before .before .before .before .before .before .before .before .before .before .wide .ensures .0) (c .before .before .before .before .before .before .before .before .before .before .before .before .before .before .before .before .word-of .ensures) (c .before .before .before .before .before .before .before .before .before .before .before .wide2 .ensures .0) (c .before .before .before .before .before .before .before .before .before .before .before .before .word-of2 .ensures) (c .before .before .before .before .before .before .before .before .word-of3 .ensures)) (c .before .before .before .before .before .before .before .before .before .before .before .before .before .before .absent .ensures) (c .before .before .before .before .before .before .before .before .before .before .before .before .before .if1 .left)) (c .before .before .before .before .before .before .before .before .before .before .absent2 .ensures) (c .before .before .before .before .before .before .before .before .before .if2 .left)) (c .before .before .before .before .before .before .before .zero-breaks .ensures) (c .before .before .before .before .before .before .if3 .left)) (c .before .before .before .before .before .superclass-breaks .ensures) (c .before .before .before .before .if4 .left)) (c .before .before .before .encloser-breaks .ensures) (c .before .before .if5 .left)) (c .before .name-met .ensures) (c .if6 .left))
 

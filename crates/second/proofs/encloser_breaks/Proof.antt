@@ -8,25 +8,19 @@ use Rattle.second.specs.Second.{encloserOk}
 use Rattle.second.proofs.ByKind.{past-last}
 use Rattle.second.proofs.encloser_breaks.Statement.{statement}
 use Rattle.second.proofs.encloser_breaks.Tie as tie
-use Rattle.second.proofs.encloser_breaks.Reads as reads
-use Rattle.second.proofs.encloser_breaks.Lts as lts
 
--- src/lib.rt:254:9
 returns : tie.Need-returns
 unfolding encloserOk bit
 returns c = rw (c .if1 .taken, encloserOk) (sym (Bool·not-not _))
 
--- src/lib.rt:257:9
 returns-2 : tie.Need-returns-2
 unfolding encloserOk
 returns-2 c = rw (ne-eqb _ _ (c .before .if1 .left), lt-leb _ _ (c .if2 .taken), encloserOk)
 
--- src/lib.rt:260:9
 returns-3 : tie.Need-returns-3
 unfolding encloserOk
 returns-3 c = rw (ne-eqb _ _ (c .before .before .if1 .left), le-leb _ _ (c .before .if2 .left), lt-leb _ _ (c .if3 .taken), encloserOk)
 
--- src/lib.rt:250:1
 returns-4 : tie.Need-returns-4
 unfolding encloserOk
 returns-4 c = rw (ne-eqb _ _ (c .before .before .if1 .left), le-leb _ _ (c .before .if2 .left), le-leb _ _ (c .if3 .left), encloserOk) (past-last (c .before .before .before .args .c) (c .before .before .before .args .outer))

@@ -9,10 +9,6 @@ use Rattle.view.specs.View.{spliced}
 use Rattle.second.proofs.Enclosing.{Rising, rising-start, rising-found, rising-step, rising-stop, rising-end}
 use Rattle.second.proofs.encloses.Statement.{statement}
 use Rattle.second.proofs.encloses.Tie as tie
-use Rattle.second.proofs.encloses.Reads as reads
-use Rattle.second.proofs.encloses.Lts as lts
-use Rattle.groups.proofs.class_word.Reads as class-word-reads
-use Rattle.second.proofs.wide.Reads as wide-reads
 
 abbrev Inv-loop : tie.InvT-loop
 Inv-loop library user group cut starts nlib n c t e₀ left₀ e left = Rising library (spliced user group cut) n c t e left
@@ -20,48 +16,37 @@ Inv-loop library user group cut starts nlib n c t e₀ left₀ e left = Rising l
 abbrev μ-loop : tie.MeasureT-loop
 μ-loop library user group cut starts nlib n c t e₀ left₀ e left = left
 
--- src/lib.rt:174:9
 returns : tie.Need-returns Inv-loop μ-loop
 unfolding elem any
 returns c = rw (eq-eqb _ _ (c .if1 .taken))
 
--- src/lib.rt:177:20
 add-left : tie.Need-add-left Inv-loop μ-loop
 add-left c = omega arith
 
--- src/lib.rt:178:5
 loop-holds : tie.Need-loop-holds Inv-loop μ-loop
 loop-holds c = rising-start (omega arith) (c .if1 .left)
 
--- src/lib.rt:179:23
 class-word-requires : tie.Need-class-word-requires Inv-loop μ-loop
 class-word-requires c κs = search needs
 
--- src/lib.rt:179:13
 wide-requires : tie.Need-wide-requires Inv-loop μ-loop
 wide-requires c κs = search needs
 
--- src/lib.rt:181:13
 returns-2 : tie.Need-returns-2 Inv-loop μ-loop
 returns-2 c = rising-found (c .before .before .before .before .before .before .before .before .before .before .pre .1 .0) (c .before .before .before .before .loop .inv) (c .before .before .before .loop-test .taken) (c .before .wide .ensures .0 ∙ c .before .before .class-word .ensures) (omega arith) (c .if2 .taken)
 
--- src/lib.rt:184:13
 returns-3 : tie.Need-returns-3 Inv-loop μ-loop
 returns-3 c = rising-stop (c .before .before .before .before .before .before .before .before .before .before .before .pre .1 .0) (c .before .before .before .before .before .loop .inv) (c .before .before .before .before .loop-test .taken) (c .before .before .wide .ensures .0 ∙ c .before .before .before .class-word .ensures) (c .if3 .taken) (c .before .if2 .left)
 
--- src/lib.rt:187:9
 sub-left : tie.Need-sub-left Inv-loop μ-loop
 sub-left c = omega arith
 
--- src/lib.rt:178:5
 loop-less : tie.Need-loop-less Inv-loop μ-loop
 loop-less c = omega arith
 
--- src/lib.rt:178:5
 loop-again : tie.Need-loop-again Inv-loop μ-loop
 loop-again c = rising-step (c .before .before .before .before .before .before .before .before .before .before .before .pre .1 .0) (c .before .before .before .before .before .loop .inv) (c .before .before .before .before .loop-test .taken) (c .before .before .wide .ensures .0 ∙ c .before .before .before .class-word .ensures) (omega arith) (c .before .if2 .left)
 
--- src/lib.rt:157:1
 returns-4 : tie.Need-returns-4 Inv-loop μ-loop
 returns-4 c = rising-end (c .before .loop .inv) (c .loop-test .left)
 

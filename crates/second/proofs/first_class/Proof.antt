@@ -4,15 +4,11 @@ use borrow.Author.Tests.{ne-eqb}
 use Rattle.second.specs.Second.{firstClass}
 use Rattle.second.proofs.first_class.Statement.{statement}
 use Rattle.second.proofs.first_class.Tie as tie
-use Rattle.second.proofs.first_class.Reads as reads
-use Rattle.second.proofs.first_class.Lts as lts
 
--- src/lib.rt:548:9
 returns : tie.Need-returns
 unfolding firstClass
 returns c = rw (c .if1 .taken, firstClass)
 
--- src/lib.rt:544:1
 returns-2 : tie.Need-returns-2
 unfolding firstClass
 returns-2 c = rw (ne-eqb _ _ (c .if1 .left), firstClass)

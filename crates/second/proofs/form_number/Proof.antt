@@ -10,134 +10,94 @@ use Rattle.second.proofs.ByPlace.{class-at, field-at, local-at, member-
 use borrow.Author.Needs.{needs}
 use Rattle.second.proofs.form_number.Statement.{statement}
 use Rattle.second.proofs.form_number.Tie as tie
-use Rattle.second.proofs.form_number.Reads as reads
-use Rattle.second.proofs.form_number.Lts as lts
-use Rattle.groups.proofs.word_of.Reads as word-of-reads
-use Rattle.second.proofs.class_number.Reads as class-number-reads
-use Rattle.second.proofs.field_number.Reads as field-number-reads
-use Rattle.second.proofs.implements_number.Reads as implements-number-reads
-use Rattle.second.proofs.refers_number.Reads as refers-number-reads
-use Rattle.second.proofs.type_absent.Reads as type-absent-reads
-use Rattle.second.proofs.uses_number.Reads as uses-number-reads
-use Rattle.second.proofs.wide.Reads as wide-reads
 
--- src/lib.rt:456:58
 add-word-of : tie.Need-add-word-of
 add-word-of c = let p = c .before .before .before .before .before .pre .1 in omega (arith, at-low (p .0) (c .before .before .before .before .before .args .sheet) (p .1 .1 .1))
 
--- src/lib.rt:456:9
 word-of-requires : tie.Need-word-of-requires
 word-of-requires c κs = let p = c .before .before .before .before .before .pre .1 in (c .before .before .before .before .before .pre .0, omega (arith, at-low (p .0) (c .before .before .before .before .before .args .sheet) (p .1 .1 .1)))
 
--- src/lib.rt:458:24
 word-of-requires-2 : tie.Need-word-of-requires-2
 word-of-requires-2 c κs = let p = c .before .before .before .before .before .before .before .pre .1 in (c .before .before .before .before .before .before .before .pre .0, omega (arith, at-low (p .0) (c .before .before .before .before .before .before .before .args .sheet) (p .1 .1 .1)))
 
--- src/lib.rt:458:13
 wide-requires : tie.Need-wide-requires
 wide-requires c κs = search needs
 
--- src/lib.rt:459:9
 class-number-requires : tie.Need-class-number-requires
 class-number-requires c κs = let p = c .before .before .before .before .before .before .before .before .before .pre .1 in (c .before .before .before .before .before .before .before .before .before .pre .0, (p .0, (p .1 .0, (p .1 .1 .0, (p .1 .1 .1, (class-here (whole (p .1 .1 .1)) (sym (c .before .before .before .word-of .ensures) ∙ c .before .before .if1 .taken), c .wide .ensures .0 ∙ c .before .word-of2 .ensures ∙ sym (length-here (whole (p .1 .1 .1)))))))))
 
--- src/lib.rt:459:9
 returns : tie.Need-returns
 returns c = let p = c .before .before .before .before .before .before .before .before .before .before .pre .1 in class-at _ _ _ _ (p .1 .1 .1) (c .before .before .before .before .word-of .ensures) (c .before .before .before .if1 .taken) (c .class-number .ensures)
 
--- src/lib.rt:474:9
 field-number-requires : tie.Need-field-number-requires
 field-number-requires c κs = let p = c .before .before .before .before .before .before .before .before .pre .1 in (c .before .before .before .before .before .before .before .before .pre .0, (p .0, (p .1 .1 .0, omega (arith, at-low (p .0) (c .before .before .before .before .before .before .before .before .args .sheet) (p .1 .1 .1)))))
 
--- src/lib.rt:474:9
 returns-2 : tie.Need-returns-2
 returns-2 c = let p = c .before .before .before .before .before .before .before .before .before .pre .1 in field-at _ _ _ _ (p .1 .1 .1) (c .before .before .before .word-of .ensures) (c .before .if2 .taken) (c .field-number .ensures)
 
--- src/lib.rt:477:75
 add-type-absent : tie.Need-add-type-absent
 add-type-absent c = let p = c .before .before .before .before .before .before .before .before .before .pre .1 in omega (arith, at-low (p .0) (c .before .before .before .before .before .before .before .before .before .args .sheet) (p .1 .1 .1))
 
--- src/lib.rt:477:12
 type-absent-requires : tie.Need-type-absent-requires
 type-absent-requires c κs = let p = c .before .before .before .before .before .before .before .before .before .pre .1 in (c .before .before .before .before .before .before .before .before .before .pre .0, omega (arith, at-low (p .0) (c .before .before .before .before .before .before .before .before .before .args .sheet) (p .1 .1 .1)))
 
--- src/lib.rt:478:13
 returns-3 : tie.Need-returns-3
 returns-3 c = let p = c .before .before .before .before .before .before .before .before .before .before .before .pre .1 in local-at _ _ _ _ (p .1 .1 .1) (c .before .before .before .before .before .word-of .ensures) (c .before .before .if3 .taken) (c .before .type-absent .ensures) true (c .if4 .taken)
 
--- src/lib.rt:480:9
 returns-4 : tie.Need-returns-4
 returns-4 c = let p = c .before .before .before .before .before .before .before .before .before .before .before .pre .1 in local-at _ _ _ _ (p .1 .1 .1) (c .before .before .before .before .before .word-of .ensures) (c .before .before .if3 .taken) (c .before .type-absent .ensures) false (c .if4 .left)
 
--- src/lib.rt:483:9
 returns-5 : tie.Need-returns-5
 returns-5 c = let p = c .before .before .before .before .before .before .before .before .before .before .pre .1 in member-at _ _ _ _ (p .1 .1 .1) (c .before .before .before .before .word-of .ensures) (c .if5 .taken)
 
--- src/lib.rt:485:60
 add-word-of-2 : tie.Need-add-word-of-2
 add-word-of-2 c = let p = c .before .before .before .before .before .before .before .before .before .before .pre .1 in omega (arith, at-low (p .0) (c .before .before .before .before .before .before .before .before .before .before .args .sheet) (p .1 .1 .1))
 
--- src/lib.rt:485:18
 word-of-requires-3 : tie.Need-word-of-requires-3
 word-of-requires-3 c κs = let p = c .before .before .before .before .before .before .before .before .before .before .pre .1 in (c .before .before .before .before .before .before .before .before .before .before .pre .0, omega (arith, at-low (p .0) (c .before .before .before .before .before .before .before .before .before .before .args .sheet) (p .1 .1 .1)))
 
--- src/lib.rt:485:9
 wide-requires-2 : tie.Need-wide-requires-2
 wide-requires-2 c κs = search needs
 
--- src/lib.rt:487:9
 implements-number-requires : tie.Need-implements-number-requires
 implements-number-requires c κs = search needs
 
--- src/lib.rt:487:9
 returns-6 : tie.Need-returns-6
 returns-6 c = let p = c .before .before .before .before .before .before .before .before .before .before .before .before .before .before .pre .1 in implements-at _ _ _ _ (p .1 .1 .1) (c .before .before .before .before .before .before .before .before .word-of .ensures) (c .before .before .wide2 .ensures .0) (c .before .before .before .word-of3 .ensures) (c .before .if6 .taken) (c .implements-number .ensures)
 
--- src/lib.rt:500:60
 add-word-of-3 : tie.Need-add-word-of-3
 add-word-of-3 c = let p = c .before .before .before .before .before .before .before .before .before .before .before .before .before .before .pre .1 in omega (arith, at-low (p .0) (c .before .before .before .before .before .before .before .before .before .before .before .before .before .before .args .sheet) (p .1 .1 .1))
 
--- src/lib.rt:500:18
 word-of-requires-4 : tie.Need-word-of-requires-4
 word-of-requires-4 c κs = let p = c .before .before .before .before .before .before .before .before .before .before .before .before .before .before .pre .1 in (c .before .before .before .before .before .before .before .before .before .before .before .before .before .before .pre .0, omega (arith, at-low (p .0) (c .before .before .before .before .before .before .before .before .before .before .before .before .before .before .args .sheet) (p .1 .1 .1)))
 
--- src/lib.rt:500:13
 wide-requires-3 : tie.Need-wide-requires-3
 wide-requires-3 c κs = search needs
 
--- src/lib.rt:490:9
 uses-number-requires : tie.Need-uses-number-requires
 uses-number-requires c κs = search needs
 
--- src/lib.rt:490:9
 returns-7 : tie.Need-returns-7
 returns-7 c = let p = c .before .before .before .before .before .before .before .before .before .before .before .before .before .before .before .before .before .pre .1 in uses-at _ _ _ _ (p .1 .1 .1) (c .before .before .before .before .before .before .before .before .before .before .before .word-of .ensures) (c .before .before .before .before .before .wide2 .ensures .0) (c .before .before .before .before .before .before .word-of3 .ensures) (c .before .wide3 .ensures .0) (c .before .before .word-of4 .ensures) (c .before .before .before .if7 .taken) (c .uses-number .ensures)
 
--- src/lib.rt:513:60
 add-word-of-4 : tie.Need-add-word-of-4
 add-word-of-4 c = let p = c .before .before .before .before .before .before .before .before .before .before .before .before .before .before .before .pre .1 in omega (arith, at-low (p .0) (c .before .before .before .before .before .before .before .before .before .before .before .before .before .before .before .args .sheet) (p .1 .1 .1))
 
--- src/lib.rt:513:18
 word-of-requires-5 : tie.Need-word-of-requires-5
 word-of-requires-5 c κs = let p = c .before .before .before .before .before .before .before .before .before .before .before .before .before .before .before .pre .1 in (c .before .before .before .before .before .before .before .before .before .before .before .before .before .before .before .pre .0, omega (arith, at-low (p .0) (c .before .before .before .before .before .before .before .before .before .before .before .before .before .before .before .args .sheet) (p .1 .1 .1)))
 
--- src/lib.rt:513:13
 wide-requires-4 : tie.Need-wide-requires-4
 wide-requires-4 c κs = search needs
 
--- src/lib.rt:504:9
 refers-number-requires : tie.Need-refers-number-requires
 refers-number-requires c κs = search needs
 
--- src/lib.rt:504:9
 returns-8 : tie.Need-returns-8
 returns-8 c = let p = c .before .before .before .before .before .before .before .before .before .before .before .before .before .before .before .before .before .before .pre .1 in refers-at _ _ _ _ (p .1 .1 .1) (c .before .before .before .before .before .before .before .before .before .before .before .before .word-of .ensures) (c .before .before .before .before .before .before .wide2 .ensures .0) (c .before .before .before .before .before .before .before .word-of3 .ensures) (c .before .wide4 .ensures .0) (c .before .before .word-of5 .ensures) (c .before .before .before .if8 .taken) (c .refers-number .ensures)
 
--- src/lib.rt:517:9
 returns-9 : tie.Need-returns-9
 returns-9 c = let p = c .before .before .before .before .before .before .before .before .before .before .before .before .before .before .before .before .pre .1 in builds-at _ _ _ _ (p .1 .1 .1) (c .before .before .before .before .before .before .before .before .before .before .word-of .ensures) (c .before .before .before .before .wide2 .ensures .0) (c .before .before .before .before .before .word-of3 .ensures) (c .before .before .before .before .before .before .before .before .before .if1 .left) (c .before .before .before .before .before .before .before .before .if2 .left) (c .before .before .before .before .before .before .before .if3 .left) (c .before .before .before .before .before .before .if5 .left) (c .before .before .before .if6 .left) (c .before .before .if7 .left) (c .before .if8 .left) true (le-leb _ _ (c .if9 .taken))
 
--- src/lib.rt:438:1
 returns-10 : tie.Need-returns-10
 returns-10 c = let p = c .before .before .before .before .before .before .before .before .before .before .before .before .before .before .before .before .pre .1 in builds-at _ _ _ _ (p .1 .1 .1) (c .before .before .before .before .before .before .before .before .before .before .word-of .ensures) (c .before .before .before .before .wide2 .ensures .0) (c .before .before .before .before .before .word-of3 .ensures) (c .before .before .before .before .before .before .before .before .before .if1 .left) (c .before .before .before .before .before .before .before .before .if2 .left) (c .before .before .before .before .before .before .before .if3 .left) (c .before .before .before .before .before .before .if5 .left) (c .before .before .before .if6 .left) (c .before .before .if7 .left) (c .before .if8 .left) false (lt-leb _ _ (c .if9 .left))
 

@@ -6,15 +6,10 @@ use Rattle.spec.specs.Sheet.{isInterface}
 use Rattle.second.proofs.Leaves.{odd-bit}
 use Rattle.second.proofs.is_interface.Statement.{statement}
 use Rattle.second.proofs.is_interface.Tie as tie
-use Rattle.second.proofs.is_interface.Reads as reads
-use Rattle.second.proofs.is_interface.Lts as lts
-use Rattle.groups.proofs.class_word.Reads as class-word-reads
 
--- src/lib.rt:50:5
 class-word-requires : tie.Need-class-word-requires
 class-word-requires c κs = search needs
 
--- src/lib.rt:35:1
 returns : tie.Need-returns
 unfolding isInterface flags
 returns c = rw (c .class-word .ensures) (odd-bit _)

@@ -5,19 +5,14 @@ use borrow.Author.Needs.{needs}
 use Rattle.second.specs.Second.{openedBy}
 use Rattle.second.proofs.opened.Statement.{statement}
 use Rattle.second.proofs.opened.Tie as tie
-use Rattle.second.proofs.opened.Reads as reads
-use Rattle.second.proofs.opened.Lts as lts
 
--- src/lib.rt:559:16
 add-result : tie.Need-add-result
 add-result c = search needs
 
--- src/lib.rt:559:9
 returns : tie.Need-returns
 unfolding openedBy
 returns c = rw (c .if1 .taken, openedBy)
 
--- src/lib.rt:554:1
 returns-2 : tie.Need-returns-2
 unfolding openedBy
 returns-2 c = rw (ne-eqb _ _ (c .if1 .left), openedBy)

@@ -5,25 +5,18 @@ use borrow.Author.Needs.{needs}
 use Rattle.second.specs.Second.{nineUnless, refersNumber}
 use Rattle.second.proofs.refers_number.Statement.{statement}
 use Rattle.second.proofs.refers_number.Tie as tie
-use Rattle.second.proofs.refers_number.Reads as reads
-use Rattle.second.proofs.refers_number.Lts as lts
-use Rattle.groups.proofs.count_of.Reads as count-of-reads
 
--- src/lib.rt:429:9
 returns : tie.Need-returns
 unfolding nineUnless refersNumber
 returns c = rw (le-ltb _ _ (c .if1 .taken), nineUnless)
 
--- src/lib.rt:431:8
 count-of-requires : tie.Need-count-of-requires
 count-of-requires c κs = search needs
 
--- src/lib.rt:432:9
 returns-2 : tie.Need-returns-2
 unfolding nineUnless refersNumber
 returns-2 c = rw (lt-ltb _ _ (c .before .before .if1 .left), ← c .before .count-of .ensures, le-ltb _ _ (c .if2 .taken), nineUnless)
 
--- src/lib.rt:413:1
 returns-3 : tie.Need-returns-3
 unfolding nineUnless refersNumber
 returns-3 c = rw (lt-ltb _ _ (c .before .before .if1 .left), ← c .before .count-of .ensures, lt-ltb _ _ (c .if2 .left), nineUnless)

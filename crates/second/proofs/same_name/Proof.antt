@@ -12,13 +12,6 @@ use Rattle.groups.proofs.Classes.{sheet-low}
 use Rattle.second.proofs.Names.{Comparing, compared, differs, compares-on, lengths-differ, compares}
 use Rattle.second.proofs.same_name.Statement.{statement}
 use Rattle.second.proofs.same_name.Tie as tie
-use Rattle.second.proofs.same_name.Reads as reads
-use Rattle.second.proofs.same_name.Lts as lts
-use Rattle.groups.proofs.byte_of.Reads as byte-of-reads
-use Rattle.groups.proofs.group_start.Reads as group-start-reads
-use Rattle.groups.proofs.sheet_of.Reads as sheet-of-reads
-use Rattle.groups.proofs.word_of.Reads as word-of-reads
-use Rattle.second.proofs.wide.Reads as wide-reads
 
 abbrev Inv-loop : tie.InvT-loop
 Inv-loop library user group cut starts nlib n d sheet at len other from j₀ j = Comparing (sheetOf library (spliced user group cut) other) (sheetOf library (spliced user group cut) sheet) from at len (classRecord (groupOf library (spliced user group cut) d)) (recordAt (sheetOf library (spliced user group cut) sheet) at) j
@@ -26,63 +19,48 @@ Inv-loop library user group cut starts nlib n d sheet at len other from j₀ j =
 abbrev μ-loop : tie.MeasureT-loop
 μ-loop library user group cut starts nlib n d sheet at len other from j₀ j = len - j
 
--- src/lib.rt:97:9
 sheet-of-requires : tie.Need-sheet-of-requires Inv-loop μ-loop
 sheet-of-requires c κs = search needs
 
--- src/lib.rt:98:9
 group-start-requires : tie.Need-group-start-requires Inv-loop μ-loop
 group-start-requires c κs = search needs
 
--- src/lib.rt:99:13
 word-of-requires : tie.Need-word-of-requires Inv-loop μ-loop
 word-of-requires c κs = let p = c .before .before .before .before .before .before .pre in (p .0, omega (arith, class-low (p .1 .0) (p .1 .1 .0), c .group-start .ensures))
 
--- src/lib.rt:99:8
 wide-requires : tie.Need-wide-requires Inv-loop μ-loop
 wide-requires c κs = search needs
 
--- src/lib.rt:100:9
 returns : tie.Need-returns Inv-loop μ-loop
 returns c = let p = c .before .before .before .before .before .before .before .before .before .pre .1 in lengths-differ (p .0) (p .1 .0) (p .1 .1 .0) (c .before .before .before .before .sheet-of .ensures) (c .before .before .before .group-start .ensures) (c .before .wide .ensures .0) (c .before .before .word-of .ensures) (p .1 .1 .1) (c .if1 .taken)
 
--- src/lib.rt:103:5
 loop-holds : tie.Need-loop-holds Inv-loop μ-loop
 loop-holds c = let p = c .before .before .before .before .before .before .before .before .before .pre .1 in compares (p .0) (p .1 .0) (p .1 .1 .0) (c .before .before .before .before .sheet-of .ensures) (c .before .before .before .group-start .ensures) (c .before .wide .ensures .0) (c .before .before .word-of .ensures) (p .1 .1 .1) (sheet-low (p .0) (c .before .before .before .before .before .before .before .before .before .args .sheet)) (c .if1 .left)
 
--- src/lib.rt:104:59
 add-byte-of : tie.Need-add-byte-of Inv-loop μ-loop
 add-byte-of c = omega arith
 
--- src/lib.rt:104:13
 byte-of-requires : tie.Need-byte-of-requires Inv-loop μ-loop
 byte-of-requires c κs = search needs
 
--- src/lib.rt:105:59
 add-byte-of-2 : tie.Need-add-byte-of-2 Inv-loop μ-loop
 add-byte-of-2 c = omega arith
 
--- src/lib.rt:105:17
 byte-of-requires-2 : tie.Need-byte-of-requires-2 Inv-loop μ-loop
 byte-of-requires-2 c κs = search needs
 
--- src/lib.rt:106:13
 returns-2 : tie.Need-returns-2 Inv-loop μ-loop
 returns-2 c = differs (c .before .before .before .before .loop .inv) (omega arith) (c .before .before .byte-of .ensures) (c .before .byte-of2 .ensures) (c .if2 .taken)
 
--- src/lib.rt:108:9
 add-j : tie.Need-add-j Inv-loop μ-loop
 add-j c = omega arith
 
--- src/lib.rt:103:5
 loop-less : tie.Need-loop-less Inv-loop μ-loop
 loop-less c = omega arith
 
--- src/lib.rt:103:5
 loop-again : tie.Need-loop-again Inv-loop μ-loop
 loop-again c = compares-on (c .before .before .before .before .loop .inv) (omega arith) (c .before .before .byte-of .ensures) (c .before .byte-of2 .ensures) (c .if2 .left)
 
--- src/lib.rt:77:1
 returns-3 : tie.Need-returns-3 Inv-loop μ-loop
 returns-3 c = compared (c .before .loop .inv) (c .loop-test .left)
 

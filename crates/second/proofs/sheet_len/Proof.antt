@@ -5,19 +5,13 @@ use borrow.Author.Needs.{needs}
 use Rattle.theory.specs.Claims.{sheetOf}
 use Rattle.second.proofs.sheet_len.Statement.{statement}
 use Rattle.second.proofs.sheet_len.Tie as tie
-use Rattle.second.proofs.sheet_len.Reads as reads
-use Rattle.second.proofs.sheet_len.Lts as lts
-use Rattle.view.proofs.view_len.Reads as view-len-reads
 
--- src/lib.rt:538:9
 returns : tie.Need-returns
 returns c = rw (c .if1 .taken)
 
--- src/lib.rt:540:5
 view-len-requires : tie.Need-view-len-requires
 view-len-requires c κs = search needs
 
--- src/lib.rt:523:1
 returns-2 : tie.Need-returns-2
 returns-2 c = rw (ne-eqb _ _ (c .before .if1 .left), sheetOf) (c .view-len .ensures)
 

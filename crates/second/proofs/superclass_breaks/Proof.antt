@@ -8,30 +8,21 @@ use native.Mathlib.Omega.{arith}
 use Rattle.second.specs.Second.{superclassOk}
 use Rattle.second.proofs.superclass_breaks.Statement.{statement}
 use Rattle.second.proofs.superclass_breaks.Tie as tie
-use Rattle.second.proofs.superclass_breaks.Reads as reads
-use Rattle.second.proofs.superclass_breaks.Lts as lts
-use Rattle.second.proofs.bare.Reads as bare-reads
-use Rattle.second.proofs.is_interface.Reads as is-interface-reads
 
--- src/lib.rt:240:8
 bare-requires : tie.Need-bare-requires
 bare-requires c κs = search needs
 
--- src/lib.rt:241:9
 returns : tie.Need-returns
 unfolding superclassOk
 returns c = rw (sym (c .before .bare .ensures) ∙ c .if1 .taken, superclassOk)
 
--- src/lib.rt:244:9
 is-interface-requires : tie.Need-is-interface-requires
 is-interface-requires c κs = let p = c .before .before .before .before .before .before .before .pre in (p .0, (p .1 .0, omega arith))
 
--- src/lib.rt:244:9
 returns-2 : tie.Need-returns-2
 unfolding superclassOk
 returns-2 c = rw (sym (c .before .before .before .bare .ensures) ∙ c .before .before .if1 .left, lt-ltb _ _ (c .before .if2 .taken), ← c .is-interface .ensures, superclassOk) (sym (Bool·not-not _))
 
--- src/lib.rt:223:1
 returns-3 : tie.Need-returns-3
 unfolding superclassOk
 returns-3 c = rw (sym (c .before .before .bare .ensures) ∙ c .before .if1 .left, le-ltb _ _ (c .if2 .left), superclassOk)

@@ -4,37 +4,25 @@ use borrow.Author.Needs.{needs}
 use Rattle.second.proofs.Leaves.{class-absent, type-plain}
 use Rattle.second.proofs.type_absent.Statement.{statement}
 use Rattle.second.proofs.type_absent.Tie as tie
-use Rattle.second.proofs.type_absent.Reads as reads
-use Rattle.second.proofs.type_absent.Lts as lts
-use Rattle.groups.proofs.byte_of.Reads as byte-of-reads
-use Rattle.groups.proofs.word_of.Reads as word-of-reads
-use Rattle.second.proofs.wide.Reads as wide-reads
 
--- src/lib.rt:70:50
 add-byte-of : tie.Need-add-byte-of
 add-byte-of c = search needs
 
--- src/lib.rt:70:8
 byte-of-requires : tie.Need-byte-of-requires
 byte-of-requires c κs = search needs
 
--- src/lib.rt:71:68
 add-word-of : tie.Need-add-word-of
 add-word-of c = search needs
 
--- src/lib.rt:71:26
 word-of-requires : tie.Need-word-of-requires
 word-of-requires c κs = search needs
 
--- src/lib.rt:71:21
 wide-requires : tie.Need-wide-requires
 wide-requires c κs = search needs
 
--- src/lib.rt:71:9
 returns : tie.Need-returns
 returns c = let s = c .before .before .before .before .before .before .before in class-absent _ (s .args .n) (s .args .i) (c .before .before .before .byte-of .ensures) (c .before .before .if1 .taken) (c .before .word-of .ensures) (c .wide .ensures .0)
 
--- src/lib.rt:54:1
 returns-2 : tie.Need-returns-2
 returns-2 c = let s = c .before .before .before .before .before in type-plain _ (s .args .n) (s .args .i) (c .before .byte-of .ensures) (c .if1 .left)
 

@@ -6,35 +6,25 @@ use mathlib.Core.Path.{sym, _∙_}
 use Rattle.second.specs.Second.{nineUnless, eightUnless, usesNumber}
 use Rattle.second.proofs.uses_number.Statement.{statement}
 use Rattle.second.proofs.uses_number.Tie as tie
-use Rattle.second.proofs.uses_number.Reads as reads
-use Rattle.second.proofs.uses_number.Lts as lts
-use Rattle.groups.proofs.count_of.Reads as count-of-reads
-use Rattle.second.proofs.encloses.Reads as encloses-reads
 
--- src/lib.rt:401:9
 returns : tie.Need-returns
 unfolding nineUnless usesNumber
 returns c = rw (le-ltb _ _ (c .if1 .taken), nineUnless)
 
--- src/lib.rt:403:8
 count-of-requires : tie.Need-count-of-requires
 count-of-requires c κs = search needs
 
--- src/lib.rt:404:9
 returns-2 : tie.Need-returns-2
 unfolding nineUnless usesNumber
 returns-2 c = rw (lt-ltb _ _ (c .before .before .if1 .left), ← c .before .count-of .ensures, le-ltb _ _ (c .if2 .taken), nineUnless)
 
--- src/lib.rt:406:8
 encloses-requires : tie.Need-encloses-requires
 encloses-requires c κs = search needs
 
--- src/lib.rt:407:9
 returns-3 : tie.Need-returns-3
 unfolding nineUnless eightUnless usesNumber
 returns-3 c = rw (lt-ltb _ _ (c .before .before .before .before .if1 .left), ← c .before .before .before .count-of .ensures, lt-ltb _ _ (c .before .before .if2 .left), sym (c .before .encloses .ensures) ∙ c .if3 .taken, nineUnless, eightUnless)
 
--- src/lib.rt:383:1
 returns-4 : tie.Need-returns-4
 unfolding nineUnless eightUnless usesNumber
 returns-4 c = rw (lt-ltb _ _ (c .before .before .before .before .if1 .left), ← c .before .before .before .count-of .ensures, lt-ltb _ _ (c .before .before .if2 .left), sym (c .before .encloses .ensures) ∙ c .if3 .left, nineUnless, eightUnless)

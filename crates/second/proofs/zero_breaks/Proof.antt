@@ -4,14 +4,10 @@ use borrow.Author.Tests.{ne-eqb}
 use Rattle.second.proofs.Leaves.{odd-bit}
 use Rattle.second.proofs.zero_breaks.Statement.{statement}
 use Rattle.second.proofs.zero_breaks.Tie as tie
-use Rattle.second.proofs.zero_breaks.Reads as reads
-use Rattle.second.proofs.zero_breaks.Lts as lts
 
--- src/lib.rt:217:9
 returns : tie.Need-returns
 returns c = rw (c .if1 .taken) (odd-bit _)
 
--- src/lib.rt:213:1
 returns-2 : tie.Need-returns-2
 returns-2 c = rw (ne-eqb _ _ (c .if1 .left))
 

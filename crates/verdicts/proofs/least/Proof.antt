@@ -5,11 +5,9 @@ use Rattle.verdicts.proofs.Filling.{lower-first, lower-second}
 use Rattle.verdicts.proofs.least.Statement.{statement}
 use Rattle.verdicts.proofs.least.Tie as tie
 
--- src/lib.rt:53:9
 returns : tie.Need-returns
 returns c = lower-second _ _ (search needs)
 
--- src/lib.rt:49:1
 returns-2 : tie.Need-returns-2
 returns-2 c = lower-first _ _ (search needs)
 

@@ -5,15 +5,12 @@ use Rattle.verdicts.proofs.Filling.{drafts-are}
 use Rattle.verdicts.proofs.up_to.Statement.{statement}
 use Rattle.verdicts.proofs.up_to.Tie as tie
 
--- src/lib.rt:94:11
 least-requires : tie.Need-least-requires
 least-requires c κs = search needs
 
--- src/lib.rt:94:5
 least-requires-2 : tie.Need-least-requires-2
 least-requires-2 c κs = search needs
 
--- src/lib.rt:91:1
 returns : tie.Need-returns
 returns c = drafts-are _ _ _ (c .before .least .ensures) (c .least2 .ensures)
 

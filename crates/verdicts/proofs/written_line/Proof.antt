@@ -5,39 +5,30 @@ use Rattle.verdicts.proofs.Filling.{line-kept, line-drafted}
 use Rattle.verdicts.proofs.written_line.Statement.{statement}
 use Rattle.verdicts.proofs.written_line.Tie as tie
 
--- src/lib.rt:70:15
 mul-if1 : tie.Need-mul-if1
 mul-if1 c = search needs
 
--- src/lib.rt:70:8
 shared-slice-read-if1 : tie.Need-shared-slice-read-if1
 shared-slice-read-if1 c = search needs
 
--- src/lib.rt:71:9
 returns : tie.Need-returns
 returns c = line-kept _ _ _ (c .if1 .taken)
 
--- src/lib.rt:74:22
 mul-t4 : tie.Need-mul-t4
 mul-t4 c = search needs
 
--- src/lib.rt:74:15
 shared-slice-read-t6 : tie.Need-shared-slice-read-t6
 shared-slice-read-t6 c = search needs
 
--- src/lib.rt:75:24
 mul-t9 : tie.Need-mul-t9
 mul-t9 c = search needs
 
--- src/lib.rt:75:24
 add-t10 : tie.Need-add-t10
 add-t10 c = search needs
 
--- src/lib.rt:75:17
 shared-slice-read-t12 : tie.Need-shared-slice-read-t12
 shared-slice-read-t12 c = search needs
 
--- src/lib.rt:66:1
 returns-2 : tie.Need-returns-2
 returns-2 c = line-drafted _ _ _ (c .before .before .if1 .left)
 

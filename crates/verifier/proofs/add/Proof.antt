@@ -13,38 +13,26 @@ use Rattle.verifier.proofs.Editing.{add-present, added-is, add-plain, a
 use borrow.Author.Needs.{needs}
 use Rattle.verifier.proofs.add.Statement.{statement}
 use Rattle.verifier.proofs.add.Tie as tie
-use Rattle.verifier.proofs.add.Reads as reads
-use Rattle.verifier.proofs.add.Lts as lts
-use Rattle.admit.proofs.admit.Reads as admit-reads
-use Rattle.edit.proofs.write.Reads as write-reads
-use Rattle.flat.proofs.rejudge.Reads as rejudge-reads
-use Rattle.form.proofs.present.Reads as present-reads
 
 -- the sheet that the call would make
 abbrev new : tie.Start → List ℕ
 new c = spliced (c .args .user .now) (c .args .group .now) (record { from = c .args .used .now; to = c .args .used .now; used = c .args .used .now })
 
--- src/lib.rt:112:48
 slice-aggregate-present : tie.Need-slice-aggregate-present
 slice-aggregate-present c = search needs
 
--- src/lib.rt:112:61
 slice-aggregate-present-2 : tie.Need-slice-aggregate-present-2
 slice-aggregate-present-2 c = search needs
 
--- src/lib.rt:112:9
 present-requires : tie.Need-present-requires
 present-requires c κs = search needs
 
--- src/lib.rt:113:29
 enum-known-checked : tie.Need-enum-known-checked
 enum-known-checked c = search needs
 
--- src/lib.rt:114:9
 same-length : tie.Need-same-length
 same-length c = search needs
 
--- src/lib.rt:114:9
 returns : tie.Need-returns
 returns c =
     let a = c .before .before .before .before .before .before .before .before .before .before .before .before .before .before .before .args in
@@ -53,15 +41,12 @@ returns c =
 enum-told : tie.Need-enum-told
 enum-told c = search needs
 
--- src/lib.rt:130:9
 slice-aggregate-admit : tie.Need-slice-aggregate-admit
 slice-aggregate-admit c = search needs
 
--- src/lib.rt:131:9
 slice-aggregate-admit-2 : tie.Need-slice-aggregate-admit-2
 slice-aggregate-admit-2 c = search needs
 
--- src/lib.rt:123:9
 admit-requires : tie.Need-admit-requires
 admit-requires c κs =
     let a = c .before .before .before .before .before .before .before .before .before .before .before .before .before .before .before .before .before .args in
@@ -71,15 +56,12 @@ admit-requires c κs =
     let q = added-is (a .library .now) (a .user .now) (a .used .now) (a .verdicts .now) (a .scratch .now) (a .group .now) o in
     (fits (a .library .now) (a .user .now) (a .used .now) e f, (indexed (a .library .now) (a .user .now) (a .used .now) e f (plain (a .user .now) (a .used .now)) .library-size, ((e .1 o .long, refl), add-plain (a .library .now) (a .user .now) (a .used .now) (a .verdicts .now) (a .scratch .now) (a .group .now) o q)))
 
--- src/lib.rt:134:26
 enum-known-admitted : tie.Need-enum-known-admitted
 enum-known-admitted c = search needs
 
--- src/lib.rt:135:23
 enum-known-admitted-2 : tie.Need-enum-known-admitted-2
 enum-known-admitted-2 c = search needs
 
--- src/lib.rt:137:19
 sub-class : tie.Need-sub-class
 sub-class c =
     let a = c .before .before .before .before .before .before .before .before .before .before .before .before .before .before .before .before .before .before .before .before .before .before .before .args in
@@ -90,7 +72,6 @@ sub-class c =
     let w = admit-facts (a .library .now) (a .user .now) (a .group .now) (new (c .before .before .before .before .before .before .before .before .before .before .before .before .before .before .before .before .before .before .before .before .before .before .before)) (length (a .verdicts .now) / 2) (length (a .scratch .now)) (add-plain (a .library .now) (a .user .now) (a .used .now) (a .verdicts .now) (a .scratch .now) (a .group .now) o q) (c .before .before .before .before .before .admit .ensures) (c .before .admitted2 .given .1) in
     omega (arith, last-class (a .library .now) (a .user .now) (a .used .now) (a .verdicts .now) (a .scratch .now) (a .group .now) o q w)
 
--- src/lib.rt:137:13
 array-write-marks : tie.Need-array-write-marks
 array-write-marks c =
     let a = c .before .before .before .before .before .before .before .before .before .before .before .before .before .before .before .before .before .before .before .before .before .before .before .args in
@@ -101,19 +82,15 @@ array-write-marks c =
     let w = admit-facts (a .library .now) (a .user .now) (a .group .now) (new (c .before .before .before .before .before .before .before .before .before .before .before .before .before .before .before .before .before .before .before .before .before .before .before)) (length (a .verdicts .now) / 2) (length (a .scratch .now)) (add-plain (a .library .now) (a .user .now) (a .used .now) (a .verdicts .now) (a .scratch .now) (a .group .now) o q) (c .before .before .before .before .before .admit .ensures) (c .before .admitted2 .given .1) in
     omega (arith, last-class (a .library .now) (a .user .now) (a .used .now) (a .verdicts .now) (a .scratch .now) (a .group .now) o q w, w .indexed .few)
 
--- src/lib.rt:143:17
 slice-aggregate-rejudge : tie.Need-slice-aggregate-rejudge
 slice-aggregate-rejudge c = search needs
 
--- src/lib.rt:146:17
 slice-aggregate-rejudge-2 : tie.Need-slice-aggregate-rejudge-2
 slice-aggregate-rejudge-2 c = search needs
 
--- src/lib.rt:147:17
 slice-aggregate-rejudge-3 : tie.Need-slice-aggregate-rejudge-3
 slice-aggregate-rejudge-3 c = search needs
 
--- src/lib.rt:138:13
 rejudge-requires : tie.Need-rejudge-requires
 rejudge-requires c κs =
     let a = c .before .before .before .before .before .before .before .before .before .before .before .before .before .before .before .before .before .before .before .before .before .before .before .before .before .before .before .before .before .args in
@@ -124,7 +101,6 @@ rejudge-requires c κs =
     let w = admit-facts (a .library .now) (a .user .now) (a .group .now) (new (c .before .before .before .before .before .before .before .before .before .before .before .before .before .before .before .before .before .before .before .before .before .before .before .before .before .before .before .before .before)) (length (a .verdicts .now) / 2) (length (a .scratch .now)) (add-plain (a .library .now) (a .user .now) (a .used .now) (a .verdicts .now) (a .scratch .now) (a .group .now) o q) (c .before .before .before .before .before .before .before .before .before .before .before .admit .ensures) (c .before .before .before .before .before .before .before .admitted2 .given .1) in
     (fits (a .library .now) (a .user .now) (a .used .now) e f, (w .indexed, (w .form, (w .right, (marks-long (c .before .before .before .before .before .before .before .admitted2 .given .0 .1 .0 - 1), lines-room _ (w .room), w .enough)))))
 
--- src/lib.rt:151:13
 write-requires : tie.Need-write-requires
 write-requires c κs =
     let a = c .before .before .before .before .before .before .before .before .before .before .before .before .before .before .before .before .before .before .before .before .before .before .before .before .before .before .before .before .before .before .before .before .before .before .before .before .args in
@@ -135,7 +111,6 @@ write-requires c κs =
     let w = admit-facts (a .library .now) (a .user .now) (a .group .now) (new (c .before .before .before .before .before .before .before .before .before .before .before .before .before .before .before .before .before .before .before .before .before .before .before .before .before .before .before .before .before .before .before .before .before .before .before .before)) (length (a .verdicts .now) / 2) (length (a .scratch .now)) (add-plain (a .library .now) (a .user .now) (a .used .now) (a .verdicts .now) (a .scratch .now) (a .group .now) o q) (c .before .before .before .before .before .before .before .before .before .before .before .before .before .before .before .before .before .before .admit .ensures) (c .before .before .before .before .before .before .before .before .before .before .before .before .before .before .admitted2 .given .1) in
     (fits (a .library .now) (a .user .now) (a .used .now) e f, w .within)
 
--- src/lib.rt:152:21
 add-used : tie.Need-add-used
 add-used c =
     let a = c .before .before .before .before .before .before .before .before .before .before .before .before .before .before .before .before .before .before .before .before .before .before .before .before .before .before .before .before .before .before .before .before .before .before .before .before .before .before .before .args in
@@ -146,11 +121,9 @@ add-used c =
     let w = admit-facts (a .library .now) (a .user .now) (a .group .now) (new (c .before .before .before .before .before .before .before .before .before .before .before .before .before .before .before .before .before .before .before .before .before .before .before .before .before .before .before .before .before .before .before .before .before .before .before .before .before .before .before)) (length (a .verdicts .now) / 2) (length (a .scratch .now)) (add-plain (a .library .now) (a .user .now) (a .used .now) (a .verdicts .now) (a .scratch .now) (a .group .now) o q) (c .before .before .before .before .before .before .before .before .before .before .before .before .before .before .before .before .before .before .before .before .before .admit .ensures) (c .before .before .before .before .before .before .before .before .before .before .before .before .before .before .before .before .before .admitted2 .given .1) in
     omega (arith, w .within, length-spliced (a .user .now) (a .group .now) _ (fits (a .library .now) (a .user .now) (a .used .now) e f))
 
--- src/lib.rt:99:1
 same-length-2 : tie.Need-same-length-2
 same-length-2 c = search needs
 
--- src/lib.rt:99:1
 returns-2 : tie.Need-returns-2
 returns-2 c =
     let a = c .before .before .before .before .before .before .before .before .before .before .before .before .before .before .before .before .before .before .before .before .before .before .before .args in
@@ -160,19 +133,15 @@ returns-2 c =
     let q = added-is (a .library .now) (a .user .now) (a .used .now) (a .verdicts .now) (a .scratch .now) (a .group .now) o in
     add-turned (a .library .now) (a .user .now) (a .used .now) (a .verdicts .now) (a .scratch .now) (a .group .now) o q (admit-turned (a .library .now) (a .user .now) (a .group .now) (new (c .before .before .before .before .before .before .before .before .before .before .before .before .before .before .before .before .before .before .before .before .before .before .before)) (length (a .verdicts .now) / 2) (length (a .scratch .now)) (add-plain (a .library .now) (a .user .now) (a .used .now) (a .verdicts .now) (a .scratch .now) (a .group .now) o q) (c .before .before .before .before .before .admit .ensures) (c .before .admitted .given .1))
 
--- src/lib.rt:99:1
 same-length-3 : tie.Need-same-length-3
 same-length-3 c = search needs
 
--- src/lib.rt:99:1
 same-length-4 : tie.Need-same-length-4
 same-length-4 c = search needs
 
--- src/lib.rt:99:1
 same-length-5 : tie.Need-same-length-5
 same-length-5 c = search needs
 
--- src/lib.rt:99:1
 returns-3 : tie.Need-returns-3
 returns-3 c =
     let a = c .before .before .before .before .before .before .before .before .before .before .before .before .before .before .before .before .before .before .before .before .before .before .before .before .before .before .before .before .before .before .before .before .before .before .before .before .before .before .before .args in

@@ -10,66 +10,48 @@ use Rattle.verifier.proofs.Asking.{answer-refused, answer-fine, sheets-
 use borrow.Author.Needs.{needs}
 use Rattle.verifier.proofs.marks.Statement.{statement}
 use Rattle.verifier.proofs.marks.Tie as tie
-use Rattle.verifier.proofs.marks.Reads as reads
-use Rattle.verifier.proofs.marks.Lts as lts
-use Rattle.form.proofs.present.Reads as present-reads
-use Rattle.overlay.proofs.overlay.Reads as overlay-reads
 
--- src/lib.rt:30:48
 slice-aggregate-present : tie.Need-slice-aggregate-present
 slice-aggregate-present c = search needs
 
--- src/lib.rt:30:61
 slice-aggregate-present-2 : tie.Need-slice-aggregate-present-2
 slice-aggregate-present-2 c = search needs
 
--- src/lib.rt:30:9
 present-requires : tie.Need-present-requires
 present-requires c κs = search needs
 
--- src/lib.rt:32:26
 enum-known-checked : tie.Need-enum-known-checked
 enum-known-checked c = search needs
 
--- src/lib.rt:33:23
 enum-known-checked-2 : tie.Need-enum-known-checked-2
 enum-known-checked-2 c = search needs
 
--- src/lib.rt:35:17
 returns : tie.Need-returns
 returns c = record { answered = answer-refused _ (class-unused (c .before .before .before .before .before .before .before .before .before .before .before .args .library .now) (c .before .before .before .before .before .before .before .before .before .before .before .args .user .now) (c .before .before .before .before .before .before .before .before .before .before .before .args .used) (c .before .before .before .before .before .before .before .before .before .before .before .args .class) (c .before .before .before .before .before .before .present .ensures) (c .before .before .checked2 .given .1) (omega (arith, c .if1 .taken))) }
 
--- src/lib.rt:45:17
 sub-overlay : tie.Need-sub-overlay
 sub-overlay c = search needs
 
--- src/lib.rt:45:17
 part-overlay-start : tie.Need-part-overlay-start
 part-overlay-start c = search needs
 
--- src/lib.rt:45:17
 part-overlay-end : tie.Need-part-overlay-end
 part-overlay-end c = search needs
 
--- src/lib.rt:47:17
 slice-aggregate-overlay : tie.Need-slice-aggregate-overlay
 slice-aggregate-overlay c = search needs
 
--- src/lib.rt:51:17
 slice-aggregate-overlay-2 : tie.Need-slice-aggregate-overlay-2
 slice-aggregate-overlay-2 c = search needs
 
--- src/lib.rt:42:17
 overlay-requires : tie.Need-overlay-requires
 overlay-requires c κs =
     let q = plain (c .before .before .before .before .before .before .before .before .before .before .before .before .before .before .args .user .now) (c .before .before .before .before .before .before .before .before .before .before .before .before .before .before .args .used) in
     (fits (c .before .before .before .before .before .before .before .before .before .before .before .before .before .before .args .library .now) (c .before .before .before .before .before .before .before .before .before .before .before .before .before .before .args .user .now) (c .before .before .before .before .before .before .before .before .before .before .before .before .before .before .args .used) (c .before .before .before .before .before .before .before .before .before .present .ensures) (c .before .before .before .before .before .checked2 .given .1), (indexed (c .before .before .before .before .before .before .before .before .before .before .before .before .before .before .args .library .now) (c .before .before .before .before .before .before .before .before .before .before .before .before .before .before .args .user .now) (c .before .before .before .before .before .before .before .before .before .before .before .before .before .before .args .used) (c .before .before .before .before .before .before .before .before .before .present .ensures) (c .before .before .before .before .before .checked2 .given .1) q, (lower-numbers (c .before .before .before .before .before .before .before .before .before .before .before .before .before .before .args .library .now) (c .before .before .before .before .before .before .before .before .before .before .before .before .before .before .args .user .now) (c .before .before .before .before .before .before .before .before .before .before .before .before .before .before .args .used) (c .before .before .before .before .before .before .before .before .before .present .ensures) (c .before .before .before .before .before .checked2 .given .1) q, (omega (arith, c .before .before .before .if1 .left), right (c .before .before .before .before .before .before .before .before .before .before .before .before .before .before .args .library .now) (c .before .before .before .before .before .before .before .before .before .before .before .before .before .before .args .user .now) (c .before .before .before .before .before .before .before .before .before .before .before .before .before .before .args .used) (c .before .before .before .before .before .before .before .before .before .present .ensures) (c .before .before .before .before .before .checked2 .given .1) q))))
 
--- src/lib.rt:25:1
 returns-2 : tie.Need-returns-2
 returns-2 c = record { answered = answer-refused _ (sheets-refused (c .before .before .before .before .before .before .before .before .before .before .args .library .now) (c .before .before .before .before .before .before .before .before .before .before .args .user .now) (c .before .before .before .before .before .before .before .before .before .before .args .used) (c .before .before .before .before .before .before .before .before .before .before .args .class) (c .before .before .before .before .before .present .ensures) (c .before .checked .given .1)) }
 
--- src/lib.rt:25:1
 returns-3 : tie.Need-returns-3
 returns-3 c = record {
   answered = ap accepted (c .before .overlay .ensures .0 ∙ ap (λ s. overlayOf (groupOf (c .before .before .before .before .before .before .before .before .before .before .before .before .before .before .before .before .args .library .now) s) (c .before .before .before .before .before .before .before .before .before .before .before .before .before .before .before .before .args .class)) (plain (c .before .before .before .before .before .before .before .before .before .before .before .before .before .before .before .before .args .user .now) (c .before .before .before .before .before .before .before .before .before .before .before .before .before .before .before .before .args .used)))

@@ -5,75 +5,55 @@ use Rattle.verifier.proofs.Parts.{no-name, small, library-within, user-
 use borrow.Author.Needs.{needs}
 use Rattle.verifier.proofs.name.Statement.{statement}
 use Rattle.verifier.proofs.name.Tie as tie
-use Rattle.verifier.proofs.name.Reads as reads
-use Rattle.verifier.proofs.name.Lts as lts
-use Rattle.verifier.proofs.name_place.Reads as name-place-reads
 
--- src/lib.rt:87:9
 name-place-requires : tie.Need-name-place-requires
 name-place-requires c κs = search needs
 
--- src/lib.rt:88:20
 enum-known-placed : tie.Need-enum-known-placed
 enum-known-placed c = search needs
 
--- src/lib.rt:89:16
 enum-told : tie.Need-enum-told
 enum-told c = search needs
 
--- src/lib.rt:89:16
 sub-result : tie.Need-sub-result
 sub-result c = search needs
 
--- src/lib.rt:89:16
 part-result-start : tie.Need-part-result-start
 part-result-start c = search needs
 
--- src/lib.rt:89:16
 part-result-end : tie.Need-part-result-end
 part-result-end c = search needs
 
--- src/lib.rt:89:9
 returns : tie.Need-returns
 returns c = no-name (c .before .before .before .before .before .before .args .library .now) (c .before .before .before .before .before .before .args .user .now) (c .before .before .before .before .before .before .args .used) (c .before .before .before .before .before .before .args .class) (c .before .before .before .name-place .ensures) (c .before .enum-told .given .1)
 
--- src/lib.rt:92:32
 add-result : tie.Need-add-result
 add-result c = omega (arith, small (c .before .before .before .before .before .before .before .args .library .now) (c .before .before .before .before .before .before .before .args .user .now) (c .before .before .before .before .before .before .before .args .used) (c .before .before .before .before .before .before .before .args .class) (c .before .before .before .before .name-place .ensures) (c .before .before .placed .given .1))
 
--- src/lib.rt:92:16
 sub-result-2 : tie.Need-sub-result-2
 sub-result-2 c = search needs
 
--- src/lib.rt:92:16
 part-result-start-2 : tie.Need-part-result-start-2
 part-result-start-2 c = search needs
 
--- src/lib.rt:92:16
 part-result-end-2 : tie.Need-part-result-end-2
 part-result-end-2 c = library-within (c .before .before .before .before .before .before .before .args .library .now) (c .before .before .before .before .before .before .before .args .user .now) (c .before .before .before .before .before .before .before .args .used) (c .before .before .before .before .before .before .before .args .class) (c .before .before .before .before .name-place .ensures) (c .before .before .placed .given .1) (c .if1 .taken)
 
--- src/lib.rt:92:9
 returns-2 : tie.Need-returns-2
 returns-2 c = library-name (c .before .before .before .before .before .before .before .before .args .library .now) (c .before .before .before .before .before .before .before .before .args .user .now) (c .before .before .before .before .before .before .before .before .args .used) (c .before .before .before .before .before .before .before .before .args .class) (c .before .before .before .before .before .name-place .ensures) (c .before .before .before .placed .given .1) (c .before .if1 .taken)
 
--- src/lib.rt:94:18
 add-result-2 : tie.Need-add-result-2
 add-result-2 c = omega (arith, small (c .before .before .before .before .before .before .before .args .library .now) (c .before .before .before .before .before .before .before .args .user .now) (c .before .before .before .before .before .before .before .args .used) (c .before .before .before .before .before .before .before .args .class) (c .before .before .before .before .name-place .ensures) (c .before .before .placed .given .1))
 
--- src/lib.rt:94:5
 sub-result-3 : tie.Need-sub-result-3
 sub-result-3 c = search needs
 
--- src/lib.rt:94:5
 part-result-start-3 : tie.Need-part-result-start-3
 part-result-start-3 c = search needs
 
--- src/lib.rt:94:5
 part-result-end-3 : tie.Need-part-result-end-3
 part-result-end-3 c = user-within (c .before .before .before .before .before .before .before .args .library .now) (c .before .before .before .before .before .before .before .args .user .now) (c .before .before .before .before .before .before .before .args .used) (c .before .before .before .before .before .before .before .args .class) (c .before .before .before .before .name-place .ensures) (c .before .before .placed .given .1) (c .if1 .left)
 
--- src/lib.rt:84:1
 returns-3 : tie.Need-returns-3
 returns-3 c = user-name (c .before .before .before .before .before .before .before .before .args .library .now) (c .before .before .before .before .before .before .before .before .args .user .now) (c .before .before .before .before .before .before .before .before .args .used) (c .before .before .before .before .before .before .before .before .args .class) (c .before .before .before .before .before .name-place .ensures) (c .before .before .before .placed .given .1) (c .before .if1 .left)
 

@@ -10,88 +10,64 @@ use Rattle.verifier.proofs.Parts.{part-read, size-read}
 use borrow.Author.Needs.{needs}
 use Rattle.verifier.proofs.name_place.Statement.{statement}
 use Rattle.verifier.proofs.name_place.Tie as tie
-use Rattle.verifier.proofs.name_place.Reads as reads
-use Rattle.verifier.proofs.name_place.Lts as lts
-use Rattle.form.proofs.present.Reads as present-reads
-use Rattle.groups.proofs.group_start.Reads as group-start-reads
-use Rattle.groups.proofs.sheet_of.Reads as sheet-of-reads
-use Rattle.groups.proofs.word_of.Reads as word-of-reads
 
--- src/lib.rt:63:48
 slice-aggregate-present : tie.Need-slice-aggregate-present
 slice-aggregate-present c = search needs
 
--- src/lib.rt:63:61
 slice-aggregate-present-2 : tie.Need-slice-aggregate-present-2
 slice-aggregate-present-2 c = search needs
 
--- src/lib.rt:63:9
 present-requires : tie.Need-present-requires
 present-requires c κs = search needs
 
--- src/lib.rt:65:26
 enum-known-checked : tie.Need-enum-known-checked
 enum-known-checked c = search needs
 
--- src/lib.rt:66:23
 enum-known-checked-2 : tie.Need-enum-known-checked-2
 enum-known-checked-2 c = search needs
 
--- src/lib.rt:68:17
 returns : tie.Need-returns
 returns c = record { answered = answer-refused _ (class-unused (c .before .before .before .before .before .before .before .before .before .before .before .args .library .now) (c .before .before .before .before .before .before .before .before .before .before .before .args .user .now) (c .before .before .before .before .before .before .before .before .before .before .before .args .used) (c .before .before .before .before .before .before .before .before .before .before .before .args .class) (c .before .before .before .before .before .before .present .ensures) (c .before .before .checked2 .given .1) (omega (arith, c .if1 .taken))) }
 
--- src/lib.rt:75:24
 sub-none : tie.Need-sub-none
 sub-none c = search needs
 
--- src/lib.rt:75:24
 part-none-start : tie.Need-part-none-start
 part-none-start c = search needs
 
--- src/lib.rt:75:24
 part-none-end : tie.Need-part-none-end
 part-none-end c = search needs
 
--- src/lib.rt:76:17
 sheet-of-requires : tie.Need-sheet-of-requires
 sheet-of-requires c κs = search needs
 
--- src/lib.rt:77:60
 slice-aggregate-group-start : tie.Need-slice-aggregate-group-start
 slice-aggregate-group-start c = search needs
 
--- src/lib.rt:77:17
 group-start-requires : tie.Need-group-start-requires
 group-start-requires c κs = (fits (c .before .before .before .before .before .before .before .before .before .before .before .before .before .before .args .library .now) (c .before .before .before .before .before .before .before .before .before .before .before .before .before .before .args .user .now) (c .before .before .before .before .before .before .before .before .before .before .before .before .before .before .args .used) (c .before .before .before .before .before .before .before .before .before .present .ensures) (c .before .before .before .before .before .checked2 .given .1), (indexed (c .before .before .before .before .before .before .before .before .before .before .before .before .before .before .args .library .now) (c .before .before .before .before .before .before .before .before .before .before .before .before .before .before .args .user .now) (c .before .before .before .before .before .before .before .before .before .before .before .before .before .before .args .used) (c .before .before .before .before .before .before .before .before .before .present .ensures) (c .before .before .before .before .before .checked2 .given .1) (plain (c .before .before .before .before .before .before .before .before .before .before .before .before .before .before .args .user .now) (c .before .before .before .before .before .before .before .before .before .before .before .before .before .before .args .used)), omega (arith, c .before .before .before .if1 .left)))
 
--- src/lib.rt:78:17
 word-of-requires : tie.Need-word-of-requires
 word-of-requires c κs =
     let x = indexed (c .before .before .before .before .before .before .before .before .before .before .before .before .before .before .before .args .library .now) (c .before .before .before .before .before .before .before .before .before .before .before .before .before .before .before .args .user .now) (c .before .before .before .before .before .before .before .before .before .before .before .before .before .before .before .args .used) (c .before .before .before .before .before .before .before .before .before .before .present .ensures) (c .before .before .before .before .before .before .checked2 .given .1) (plain (c .before .before .before .before .before .before .before .before .before .before .before .before .before .before .before .args .user .now) (c .before .before .before .before .before .before .before .before .before .before .before .before .before .before .before .args .used)) in
     (fits (c .before .before .before .before .before .before .before .before .before .before .before .before .before .before .before .args .library .now) (c .before .before .before .before .before .before .before .before .before .before .before .before .before .before .before .args .user .now) (c .before .before .before .before .before .before .before .before .before .before .before .before .before .before .before .args .used) (c .before .before .before .before .before .before .before .before .before .before .present .ensures) (c .before .before .before .before .before .before .checked2 .given .1), omega (arith, c .group-start .ensures, class-low x {c = c .before .before .before .before .before .before .before .before .before .before .before .before .before .before .before .args .class} (omega (arith, c .before .before .before .before .if1 .left))))
 
--- src/lib.rt:79:31
 add-t25 : tie.Need-add-t25
 add-t25 c =
     let x = indexed (c .before .before .before .before .before .before .before .before .before .before .before .before .before .before .before .before .args .library .now) (c .before .before .before .before .before .before .before .before .before .before .before .before .before .before .before .before .args .user .now) (c .before .before .before .before .before .before .before .before .before .before .before .before .before .before .before .before .args .used) (c .before .before .before .before .before .before .before .before .before .before .before .present .ensures) (c .before .before .before .before .before .before .before .checked2 .given .1) (plain (c .before .before .before .before .before .before .before .before .before .before .before .before .before .before .before .before .args .user .now) (c .before .before .before .before .before .before .before .before .before .before .before .before .before .before .before .before .args .used)) in
     omega (arith, c .before .group-start .ensures, class-low x {c = c .before .before .before .before .before .before .before .before .before .before .before .before .before .before .before .before .args .class} (omega (arith, c .before .before .before .before .before .if1 .left)))
 
--- src/lib.rt:79:40
 cast-t29 : tie.Need-cast-t29
 cast-t29 c = search needs
 
--- src/lib.rt:79:40
 sub-t30 : tie.Need-sub-t30
 sub-t30 c =
     let x = indexed (c .before .before .before .before .before .before .before .before .before .before .before .before .before .before .before .before .args .library .now) (c .before .before .before .before .before .before .before .before .before .before .before .before .before .before .before .before .args .user .now) (c .before .before .before .before .before .before .before .before .before .before .before .before .before .before .before .before .args .used) (c .before .before .before .before .before .before .before .before .before .before .before .present .ensures) (c .before .before .before .before .before .before .before .checked2 .given .1) (plain (c .before .before .before .before .before .before .before .before .before .before .before .before .before .before .before .before .args .user .now) (c .before .before .before .before .before .before .before .before .before .before .before .before .before .before .before .before .args .used)) in
     omega (arith, size-read x {c = c .before .before .before .before .before .before .before .before .before .before .before .before .before .before .before .before .args .class} (omega (arith, c .before .before .before .before .before .if1 .left)) (c .before .before .before .sheet-of .ensures) (c .before .group-start .ensures) (c .word-of .ensures), class-long x {c = c .before .before .before .before .before .before .before .before .before .before .before .before .before .before .before .before .args .class} (omega (arith, c .before .before .before .before .before .if1 .left)))
 
--- src/lib.rt:58:1
 returns-2 : tie.Need-returns-2
 returns-2 c = record { answered = answer-refused _ (sheets-refused (c .before .before .before .before .before .before .before .before .before .before .args .library .now) (c .before .before .before .before .before .before .before .before .before .before .args .user .now) (c .before .before .before .before .before .before .before .before .before .before .args .used) (c .before .before .before .before .before .before .before .before .before .before .args .class) (c .before .before .before .before .before .present .ensures) (c .before .checked .given .1)) }
 
--- src/lib.rt:58:1
 returns-3 : tie.Need-returns-3
 returns-3 c = record {
   answered = ap accepted (part-read (indexed (c .before .before .before .before .before .before .before .before .before .before .before .before .before .before .before .before .args .library .now) (c .before .before .before .before .before .before .before .before .before .before .before .before .before .before .before .before .args .user .now) (c .before .before .before .before .before .before .before .before .before .before .before .before .before .before .before .before .args .used) (c .before .before .before .before .before .before .before .before .before .before .before .present .ensures) (c .before .before .before .before .before .before .before .checked2 .given .1) (plain (c .before .before .before .before .before .before .before .before .before .before .before .before .before .before .before .before .args .user .now) (c .before .before .before .before .before .before .before .before .before .before .before .before .before .before .before .before .args .used))) {c = c .before .before .before .before .before .before .before .before .before .before .before .before .before .before .before .before .args .class} (omega (arith, c .before .before .before .before .before .if1 .left)) (c .before .before .before .sheet-of .ensures) (c .before .group-start .ensures) (c .word-of .ensures))

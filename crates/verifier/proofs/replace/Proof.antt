@@ -12,38 +12,25 @@ use Rattle.verifier.proofs.Replacing.{replace-present, replace-missing}
 use borrow.Author.Needs.{needs}
 use Rattle.verifier.proofs.replace.Statement.{statement}
 use Rattle.verifier.proofs.replace.Tie as tie
-use Rattle.verifier.proofs.replace.Reads as reads
-use Rattle.verifier.proofs.replace.Lts as lts
-use Rattle.form.proofs.present.Reads as present-reads
-use Rattle.groups.proofs.group_end.Reads as group-end-reads
-use Rattle.groups.proofs.group_start.Reads as group-start-reads
-use Rattle.verifier.proofs.replace_at.Reads as replace-at-reads
 
--- src/lib.rt:246:48
 slice-aggregate-present : tie.Need-slice-aggregate-present
 slice-aggregate-present c = search needs
 
--- src/lib.rt:246:61
 slice-aggregate-present-2 : tie.Need-slice-aggregate-present-2
 slice-aggregate-present-2 c = search needs
 
--- src/lib.rt:246:9
 present-requires : tie.Need-present-requires
 present-requires c κs = search needs
 
--- src/lib.rt:248:26
 enum-known-checked : tie.Need-enum-known-checked
 enum-known-checked c = search needs
 
--- src/lib.rt:249:23
 enum-known-checked-2 : tie.Need-enum-known-checked-2
 enum-known-checked-2 c = search needs
 
--- src/lib.rt:251:17
 same-length : tie.Need-same-length
 same-length c = search needs
 
--- src/lib.rt:251:17
 returns : tie.Need-returns
 returns c =
     let a = c .before .before .before .before .before .before .before .before .before .before .before .before .before .before .before .before .args in
@@ -51,11 +38,9 @@ returns c =
     let f = c .before .before .checked2 .given .1 in
     replace-missing (a .library .now) (a .user .now) (a .used .now) (a .class) (a .verdicts .now) (a .scratch .now) (a .group .now) (told (a .library .now) (a .user .now) (a .used .now) e f .0) (indexed (a .library .now) (a .user .now) (a .used .now) e f refl) (inl (omega arith))
 
--- src/lib.rt:254:17
 same-length-2 : tie.Need-same-length-2
 same-length-2 c = search needs
 
--- src/lib.rt:254:17
 returns-2 : tie.Need-returns-2
 returns-2 c =
     let a = c .before .before .before .before .before .before .before .before .before .before .before .before .before .before .before .before .before .args in
@@ -63,23 +48,18 @@ returns-2 c =
     let f = c .before .before .before .checked2 .given .1 in
     replace-missing (a .library .now) (a .user .now) (a .used .now) (a .class) (a .verdicts .now) (a .scratch .now) (a .group .now) (told (a .library .now) (a .user .now) (a .used .now) e f .0) (indexed (a .library .now) (a .user .now) (a .used .now) e f refl) (inr (omega arith))
 
--- src/lib.rt:261:24
 sub-none : tie.Need-sub-none
 sub-none c = search needs
 
--- src/lib.rt:261:24
 part-none-start : tie.Need-part-none-start
 part-none-start c = search needs
 
--- src/lib.rt:261:24
 part-none-end : tie.Need-part-none-end
 part-none-end c = search needs
 
--- src/lib.rt:263:61
 slice-aggregate-group-start : tie.Need-slice-aggregate-group-start
 slice-aggregate-group-start c = search needs
 
--- src/lib.rt:263:23
 group-start-requires : tie.Need-group-start-requires
 group-start-requires c κs =
     let a = c .before .before .before .before .before .before .before .before .before .before .before .before .before .before .before .before .before .before .before .before .args in
@@ -87,11 +67,9 @@ group-start-requires c κs =
     let f = c .before .before .before .before .before .before .checked2 .given .1 in
     (fits (a .library .now) (a .user .now) (a .used .now) e f, (indexed (a .library .now) (a .user .now) (a .used .now) e f (plain (a .user .now) (a .used .now)), omega arith))
 
--- src/lib.rt:264:57
 slice-aggregate-group-end : tie.Need-slice-aggregate-group-end
 slice-aggregate-group-end c = search needs
 
--- src/lib.rt:264:21
 group-end-requires : tie.Need-group-end-requires
 group-end-requires c κs =
     let a = c .before .before .before .before .before .before .before .before .before .before .before .before .before .before .before .before .before .before .before .before .before .before .before .args in
@@ -99,11 +77,9 @@ group-end-requires c κs =
     let f = c .before .before .before .before .before .before .before .before .before .checked2 .given .1 in
     (fits (a .library .now) (a .user .now) (a .used .now) e f, (indexed (a .library .now) (a .user .now) (a .used .now) e f (plain (a .user .now) (a .used .now)), omega arith))
 
--- src/lib.rt:276:17
 slice-aggregate-replace-at : tie.Need-slice-aggregate-replace-at
 slice-aggregate-replace-at c = search needs
 
--- src/lib.rt:267:13
 replace-at-requires : tie.Need-replace-at-requires
 replace-at-requires c κs =
     let a = c .before .before .before .before .before .before .before .before .before .before .before .before .before .before .before .before .before .before .before .before .before .before .before .before .before .before .before .before .before .args in
@@ -112,29 +88,23 @@ replace-at-requires c κs =
     let q = plain (a .user .now) (a .used .now) in
     (told (a .library .now) (a .user .now) (a .used .now) e f .0, (indexed (a .library .now) (a .user .now) (a .used .now) e f refl, (omega arith, omega arith, c .before .before .before .before .before .before .before .before .group-start .ensures ∙ ap (λ (s : List ℕ). startOf (a .library .now) s (a .class)) q, c .before .before .before .before .before .group-end .ensures ∙ ap (λ (s : List ℕ). endOf (a .library .now) s (a .class)) q, refl)))
 
--- src/lib.rt:232:1
 same-length-3 : tie.Need-same-length-3
 same-length-3 c = search needs
 
--- src/lib.rt:232:1
 returns-3 : tie.Need-returns-3
 returns-3 c =
     let a = c .before .before .before .before .before .before .before .before .before .before .before .before .before .before .before .args in
     replace-present (a .library .now) (a .user .now) (a .used .now) (a .class) (a .verdicts .now) (a .scratch .now) (a .group .now) (present-refused (a .library .now) (a .user .now) (a .used .now) (c .before .before .before .before .before .present .ensures) (c .before .checked .given .1))
 
--- src/lib.rt:232:1
 same-length-4 : tie.Need-same-length-4
 same-length-4 c = search needs
 
--- src/lib.rt:232:1
 same-length-5 : tie.Need-same-length-5
 same-length-5 c = search needs
 
--- src/lib.rt:232:1
 same-length-6 : tie.Need-same-length-6
 same-length-6 c = search needs
 
--- src/lib.rt:232:1
 returns-4 : tie.Need-returns-4
 returns-4 c = c .before .before .before .before .before .before .before .replace-at .ensures
 

@@ -12,20 +12,10 @@ use Rattle.verifier.proofs.Replacing.{replaced-fits, replaced-is, repla
 use borrow.Author.Needs.{needs}
 use Rattle.verifier.proofs.replace_at.Statement.{statement}
 use Rattle.verifier.proofs.replace_at.Tie as tie
-use Rattle.verifier.proofs.replace_at.Reads as reads
-use Rattle.verifier.proofs.replace_at.Lts as lts
-use Rattle.admit.proofs.admit.Reads as admit-reads
-use Rattle.edit.proofs.write.Reads as write-reads
-use Rattle.flat.proofs.marked.Reads as marked-reads
-use Rattle.flat.proofs.rejudge.Reads as rejudge-reads
-use Rattle.reach.proofs.dependents.Reads as dependents-reads
-use Rattle.view.proofs.view_len.Reads as view-len-reads
 
--- src/lib.rt:193:9
 slice-aggregate-admit : tie.Need-slice-aggregate-admit
 slice-aggregate-admit c = search needs
 
--- src/lib.rt:185:9
 admit-requires : tie.Need-admit-requires
 admit-requires c κs =
     let a = c .before .before .before .before .before .before .before .before .before .args in
@@ -34,19 +24,15 @@ admit-requires c κs =
     let q = replaced-is (a .library .now) (a .user .now) (a .used .now) (a .class) (a .verdicts .now) (a .scratch .now) (a .group .now) (p .0) (p .1 .0) (p .1 .1 .0) (p .1 .1 .1) (a .cut) (p .1 .1 .2) (p .1 .1 .3) (p .1 .1 .4) in
     (fit, (p .1 .0 .library-size, ((p .1 .0 .long, refl), replace-plain (a .library .now) (a .user .now) (a .used .now) (a .class) (a .verdicts .now) (a .scratch .now) (a .group .now) (p .0) (p .1 .0) (p .1 .1 .0) (p .1 .1 .1) q)))
 
--- src/lib.rt:196:26
 enum-known-admitted : tie.Need-enum-known-admitted
 enum-known-admitted c = search needs
 
--- src/lib.rt:197:23
 enum-known-admitted-2 : tie.Need-enum-known-admitted-2
 enum-known-admitted-2 c = search needs
 
--- src/lib.rt:208:17
 slice-aggregate-dependents : tie.Need-slice-aggregate-dependents
 slice-aggregate-dependents c = search needs
 
--- src/lib.rt:199:13
 dependents-requires : tie.Need-dependents-requires
 dependents-requires c κs =
     let a = c .before .before .before .before .before .before .before .before .before .before .before .before .before .before .before .before .before .before .before .args in
@@ -56,7 +42,6 @@ dependents-requires c κs =
     let w = admit-facts (a .library .now) (a .user .now) (a .group .now) (spliced (a .user .now) (a .group .now) (a .cut)) (length (a .verdicts .now) / 2) (length (a .scratch .now)) (replace-plain (a .library .now) (a .user .now) (a .used .now) (a .class) (a .verdicts .now) (a .scratch .now) (a .group .now) (p .0) (p .1 .0) (p .1 .1 .0) (p .1 .1 .1) q) (c .before .before .before .before .before .before .before .before .before .admit .ensures) (c .before .before .before .before .admitted2 .given .1) in
     (fit, (w .indexed, (w .form, (omega (arith, same-classes (a .library .now) (a .user .now) (a .used .now) (a .class) (a .verdicts .now) (a .scratch .now) (a .group .now) (p .0) (p .1 .0) (p .1 .1 .0) (p .1 .1 .1) q w, p .1 .1 .1), omega arith))))
 
--- src/lib.rt:210:17
 view-len-requires : tie.Need-view-len-requires
 view-len-requires c κs =
     let a = c .before .before .before .before .before .before .before .before .before .before .before .before .before .before .before .before .before .before .before .before .before .before .args in
@@ -65,15 +50,12 @@ view-len-requires c κs =
     let q = replaced-is (a .library .now) (a .user .now) (a .used .now) (a .class) (a .verdicts .now) (a .scratch .now) (a .group .now) (p .0) (p .1 .0) (p .1 .1 .0) (p .1 .1 .1) (a .cut) (p .1 .1 .2) (p .1 .1 .3) (p .1 .1 .4) in
     fit
 
--- src/lib.rt:219:17
 slice-aggregate-rejudge : tie.Need-slice-aggregate-rejudge
 slice-aggregate-rejudge c = search needs
 
--- src/lib.rt:220:17
 slice-aggregate-rejudge-2 : tie.Need-slice-aggregate-rejudge-2
 slice-aggregate-rejudge-2 c = search needs
 
--- src/lib.rt:211:13
 rejudge-requires : tie.Need-rejudge-requires
 rejudge-requires c κs =
     let a = c .before .before .before .before .before .before .before .before .before .before .before .before .before .before .before .before .before .before .before .before .before .before .before .before .before .before .before .before .before .args in
@@ -83,7 +65,6 @@ rejudge-requires c κs =
     let w = admit-facts (a .library .now) (a .user .now) (a .group .now) (spliced (a .user .now) (a .group .now) (a .cut)) (length (a .verdicts .now) / 2) (length (a .scratch .now)) (replace-plain (a .library .now) (a .user .now) (a .used .now) (a .class) (a .verdicts .now) (a .scratch .now) (a .group .now) (p .0) (p .1 .0) (p .1 .1 .0) (p .1 .1 .1) q) (c .before .before .before .before .before .before .before .before .before .before .before .before .before .before .before .before .before .before .before .admit .ensures) (c .before .before .before .before .before .before .before .before .before .before .before .before .before .before .admitted2 .given .1) in
     (fit, (w .indexed, (w .form, (w .right, (omega (arith, c .before .before .before .before .before .before .before .before .before .dependents .kept .1 .1 .1 .1 .1 .1 .1 .1 .0), lines-room _ (w .room), w .enough)))))
 
--- src/lib.rt:224:13
 write-requires : tie.Need-write-requires
 write-requires c κs =
     let a = c .before .before .before .before .before .before .before .before .before .before .before .before .before .before .before .before .before .before .before .before .before .before .before .before .before .before .before .before .before .before .before .before .before .before .before .before .args in
@@ -93,11 +74,9 @@ write-requires c κs =
     let w = admit-facts (a .library .now) (a .user .now) (a .group .now) (spliced (a .user .now) (a .group .now) (a .cut)) (length (a .verdicts .now) / 2) (length (a .scratch .now)) (replace-plain (a .library .now) (a .user .now) (a .used .now) (a .class) (a .verdicts .now) (a .scratch .now) (a .group .now) (p .0) (p .1 .0) (p .1 .1 .0) (p .1 .1 .1) q) (c .before .before .before .before .before .before .before .before .before .before .before .before .before .before .before .before .before .before .before .before .before .before .before .before .before .before .admit .ensures) (c .before .before .before .before .before .before .before .before .before .before .before .before .before .before .before .before .before .before .before .before .before .admitted2 .given .1) in
     (fit, w .within)
 
--- src/lib.rt:226:35
 slice-aggregate-marked : tie.Need-slice-aggregate-marked
 slice-aggregate-marked c = search needs
 
--- src/lib.rt:226:28
 marked-requires : tie.Need-marked-requires
 marked-requires c κs =
     let a = c .before .before .before .before .before .before .before .before .before .before .before .before .before .before .before .before .before .before .before .before .before .before .before .before .before .before .before .before .before .before .before .before .before .before .before .before .before .before .before .before .args in
@@ -107,15 +86,12 @@ marked-requires c κs =
     let w = admit-facts (a .library .now) (a .user .now) (a .group .now) (spliced (a .user .now) (a .group .now) (a .cut)) (length (a .verdicts .now) / 2) (length (a .scratch .now)) (replace-plain (a .library .now) (a .user .now) (a .used .now) (a .class) (a .verdicts .now) (a .scratch .now) (a .group .now) (p .0) (p .1 .0) (p .1 .1 .0) (p .1 .1 .1) q) (c .before .before .before .before .before .before .before .before .before .before .before .before .before .before .before .before .before .before .before .before .before .before .before .before .before .before .before .before .before .before .admit .ensures) (c .before .before .before .before .before .before .before .before .before .before .before .before .before .before .before .before .before .before .before .before .before .before .before .before .before .admitted2 .given .1) in
     omega (arith, w .indexed .few, c .before .before .before .before .before .before .before .before .before .before .before .before .before .before .before .before .before .before .before .before .dependents .kept .1 .1 .1 .1 .1 .1 .1 .1 .0)
 
--- src/lib.rt:165:1
 same-length : tie.Need-same-length
 same-length c = search needs
 
--- src/lib.rt:165:1
 same-length-2 : tie.Need-same-length-2
 same-length-2 c = search needs
 
--- src/lib.rt:165:1
 returns : tie.Need-returns
 returns c =
     let a = c .before .before .before .before .before .before .before .before .before .before .before .before .before .before .before .before .args in
@@ -124,23 +100,18 @@ returns c =
     let q = replaced-is (a .library .now) (a .user .now) (a .used .now) (a .class) (a .verdicts .now) (a .scratch .now) (a .group .now) (p .0) (p .1 .0) (p .1 .1 .0) (p .1 .1 .1) (a .cut) (p .1 .1 .2) (p .1 .1 .3) (p .1 .1 .4) in
     replace-turned (a .library .now) (a .user .now) (a .used .now) (a .class) (a .verdicts .now) (a .scratch .now) (a .group .now) (p .0) (p .1 .0) (p .1 .1 .0) (p .1 .1 .1) q (admit-turned (a .library .now) (a .user .now) (a .group .now) (spliced (a .user .now) (a .group .now) (a .cut)) (length (a .verdicts .now) / 2) (length (a .scratch .now)) (replace-plain (a .library .now) (a .user .now) (a .used .now) (a .class) (a .verdicts .now) (a .scratch .now) (a .group .now) (p .0) (p .1 .0) (p .1 .1 .0) (p .1 .1 .1) q) (c .before .before .before .before .before .before .admit .ensures) (c .before .admitted .given .1))
 
--- src/lib.rt:165:1
 same-length-3 : tie.Need-same-length-3
 same-length-3 c = search needs
 
--- src/lib.rt:165:1
 same-length-4 : tie.Need-same-length-4
 same-length-4 c = c .before .before .before .before .before .before .before .before .before .before .before .before .before .before .before .before .before .before .before .before .before .before .before .before .before .before .before .before .before .before .before .admit .kept .1 .1 .1 .1 .1 .1 .0
 
--- src/lib.rt:165:1
 same-length-5 : tie.Need-same-length-5
 same-length-5 c = search needs
 
--- src/lib.rt:165:1
 same-length-6 : tie.Need-same-length-6
 same-length-6 c = search needs
 
--- src/lib.rt:165:1
 returns-2 : tie.Need-returns-2
 returns-2 c =
     let a = c .before .before .before .before .before .before .before .before .before .before .before .before .before .before .before .before .before .before .before .before .before .before .before .before .before .before .before .before .before .before .before .before .before .before .before .before .before .before .before .before .before .args in

@@ -1,24 +1,20 @@
+-- The lengths of the three parts.
+-- Assumes nothing.
 use borrow.Author.Needs.{needs}
 use mathlib.Core.Path.{sym}
 use Rattle.view.proofs.Splice.{length-spliced}
 use Rattle.view.proofs.view_len.Statement.{statement}
 use Rattle.view.proofs.view_len.Tie as tie
-use Rattle.view.proofs.view_len.Reads as reads
-use Rattle.view.proofs.view_len.Lts as lts
 
--- src/lib.rt:53:5
 add-result : tie.Need-add-result
 add-result c = search needs
 
--- src/lib.rt:53:31
 sub-result : tie.Need-sub-result
 sub-result c = search needs
 
--- src/lib.rt:53:5
 add-result-2 : tie.Need-add-result-2
 add-result-2 c = search needs
 
--- src/lib.rt:49:1
 returns : tie.Need-returns
 returns c = sym (length-spliced _ _ _ (c .before .before .pre))
 

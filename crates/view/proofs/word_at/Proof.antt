@@ -7,71 +7,54 @@ use borrow.Author.Needs.{needs}
 use Rattle.view.proofs.word_at.Statement.{statement}
 use Rattle.view.proofs.word_at.Tie as tie
 
--- src/lib.rt:49:8
 add-if1 : tie.Need-add-if1
 add-if1 c = search needs
 
--- src/lib.rt:50:21
 shared-slice-read-wide : tie.Need-shared-slice-read-wide
 shared-slice-read-wide c = search needs
 
--- src/lib.rt:50:16
 wide-requires : tie.Need-wide-requires
 wide-requires c κs = search needs
 
--- src/lib.rt:50:48
 add-wide : tie.Need-add-wide
 add-wide c = search needs
 
--- src/lib.rt:50:43
 shared-slice-read-wide-2 : tie.Need-shared-slice-read-wide-2
 shared-slice-read-wide-2 c = search needs
 
--- src/lib.rt:50:38
 wide-requires-2 : tie.Need-wide-requires-2
 wide-requires-2 c κs = search needs
 
--- src/lib.rt:50:32
 mul-result : tie.Need-mul-result
 mul-result c = search needs
 
--- src/lib.rt:50:16
 add-result : tie.Need-add-result
 add-result c = search needs
 
--- src/lib.rt:50:9
 returns : tie.Need-returns
 returns c = word-in-head _ _ _ (c .before .before .before .before .before .before .before .before .pre .0) _ (omega arith) (c .before .before .wide .ensures .0) (c .wide2 .ensures .0)
 
--- src/lib.rt:52:20
 byte-at-requires : tie.Need-byte-at-requires
 byte-at-requires c κs = search needs
 
--- src/lib.rt:52:9
 wide-requires-3 : tie.Need-wide-requires-3
 wide-requires-3 c κs = search needs
 
--- src/lib.rt:53:47
 add-byte-at : tie.Need-add-byte-at
 add-byte-at c = search needs
 
--- src/lib.rt:53:21
 byte-at-requires-2 : tie.Need-byte-at-requires-2
 byte-at-requires-2 c κs = search needs
 
--- src/lib.rt:53:9
 wide-requires-4 : tie.Need-wide-requires-4
 wide-requires-4 c κs = search needs
 
--- src/lib.rt:54:11
 mul-result-2 : tie.Need-mul-result-2
 mul-result-2 c = search needs
 
--- src/lib.rt:54:5
 add-result-2 : tie.Need-add-result-2
 add-result-2 c = search needs
 
--- src/lib.rt:44:1
 returns-2 : tie.Need-returns-2
 unfolding u16
 returns-2 c = cc

@@ -1,3 +1,5 @@
+-- Nothing overflows and nothing is read past its end.
+-- Assumes nothing.
 use Prim.Native.Nat.{_-_}
 use mathlib.Core.Path.{_≡_}
 use borrow.Author.Needs.{needs}
