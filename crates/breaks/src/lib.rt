@@ -7,7 +7,7 @@ use groups::sheet_of;
 use groups::word_of;
 use markers::clash;
 use markers::has;
-use named::first_named;
+use named::any_named;
 use named::second_named;
 use overlay::known;
 use overlay::type_markers;
@@ -80,7 +80,7 @@ fn names_forbidden(
     requires { ⌜ at < 60000 ⌝ }
     ensures { λ r. ⌜ r ≡ any (forbiddenOf nlib (groupOf (now (library .entry)) (spliced (now (user .entry)) (now (group .entry)) cut))) (references (recordAt (sheetOf (now (library .entry)) (spliced (now (user .entry)) (now (group .entry)) cut) sheet) at)) ⌝ }
 {
-    let first = first_named(library, user, group, cut, sheet, at, false);
+    let first = any_named(library, user, group, cut, sheet, at);
     if forbidden(library, user, group, cut, starts, nlib, n, first) {
         return true;
     }

@@ -44,7 +44,7 @@ fn built(library: &[u8], user: &[u8], group: &[u8], cut: Cut, sheet: u8, at: usi
 }
 
 // The first class that the record at `at` names, of whatever kind.
-fn any_named(library: &[u8], user: &[u8], group: &[u8], cut: Cut, sheet: u8, at: usize) -> usize
+pub fn any_named(library: &[u8], user: &[u8], group: &[u8], cut: Cut, sheet: u8, at: usize) -> usize
     requires { ⌜ Fits cut (now user) ⌝ }
     requires { ⌜ Sized (sheetOf (now library) (spliced (now user) (now group) cut) sheet) at ⌝ }
     requires { ⌜ at < 60000 ⌝ }
