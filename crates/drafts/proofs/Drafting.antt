@@ -24,7 +24,7 @@ use Rattle.theory.proofs.Accept.{sound}
 use Rattle.theory.proofs.Cut.{IsGroup}
 use Rattle.theory.proofs.New.{new-sheets, added-count}
 use Rattle.theory.proofs.FlatRow.{even, rewritten-length}
-use Rattle.verifier.proofs.Asking.{told-fine, told-refused, sheet-fine}
+use Rattle.queries.proofs.Asking.{told-fine, told-refused, sheet-fine}
 use Rattle.drafts.specs.Drafts.{unwritten, room, blank, left, linesLeft, wiped, bare, LeavesJudged, LeavesMade}
 
 -- ---- how many lines

@@ -22,7 +22,7 @@ use Rattle.theory.proofs.Counts.{step, count-none, count-more}
 use Rattle.theory.proofs.Answers.{first-none, first-some, first-append, skip-none, Gives, gives-first, if-none, plain-none}
 use Rattle.theory.proofs.Accept.{sound}
 use Rattle.theory.proofs.Refused.{gives-if, refusals-hold}
-use Rattle.verifier.proofs.Asking.{told-fine, told-refused, sheet-fine}
+use Rattle.queries.proofs.Asking.{told-fine, told-refused, sheet-fine}
 
 -- ---- the blamed byte lies in its sheet
 

@@ -19,7 +19,7 @@ use Rattle.text.proofs.Digits.{decimal-length}
 use Rattle.verifier.specs.Answers.{judgedAnswer}
 use Rattle.verifier.specs.declared.Judged.{Judged}
 use Rattle.verifier.specs.declared.Judged.the-variants.{Fine, Refused}
-use Rattle.verifier.proofs.Asking.{told-fine, told-refused, some-row}
+use Rattle.queries.proofs.Asking.{told-fine, told-refused, some-row}
 use Rattle.listing_text.specs.Listing.{classesWord, faultedWord, countsText, refusalText, lineText, listedLines, listingText}
 use Rattle.listing_text.specs.Written.{Written, Holds}
 use Rattle.listing_text.proofs.Texts.{then, same-text, from-start}

@@ -27,7 +27,7 @@ use Rattle.lanes.proofs.Filling.{getD-replicate}
 use Rattle.admit.specs.Admitting.{admitRefusal, Plain}
 use Rattle.admit.proofs.Turning.{Admitted}
 use Rattle.flat.specs.Row.{chosen}
-use Rattle.verifier.proofs.Asking.{answer-refused, answer-fine}
+use Rattle.queries.proofs.Asking.{answer-refused, answer-fine}
 use Rattle.verifier.proofs.Verdicts.{kept-refused, new-fine}
 
 -- ---- any edit

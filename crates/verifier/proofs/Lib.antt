@@ -1,5 +1,3 @@
-pub mod Asking
-pub mod Parts
 pub mod Verdicts
 pub mod Editing
 pub mod Exchange

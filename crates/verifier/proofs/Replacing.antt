@@ -31,7 +31,7 @@ use Rattle.reach.specs.Reach.{dependentRow}
 use Rattle.admit.specs.Admitting.{admitRefusal, Plain}
 use Rattle.admit.proofs.Turning.{Admitted}
 use Rattle.flat.specs.Row.{chosen, markedIn}
-use Rattle.verifier.proofs.Asking.{used-there}
+use Rattle.queries.proofs.Asking.{used-there}
 use Rattle.verifier.proofs.Editing.{edit-refused, edit-made, changed-row}
 use Rattle.verifier.proofs.Exchange.{replaced-parts}
 

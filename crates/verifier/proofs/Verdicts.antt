@@ -21,7 +21,7 @@ use Rattle.form.specs.declared.Checked.{Checked}
 use Rattle.form.specs.declared.Checked.the-variants.{Fine, Refused}
 use Rattle.form.proofs.Accepting.{Presents}
 use Rattle.flat.specs.Row.{chosen, faultedIn}
-use Rattle.verifier.proofs.Asking.{answer-refused, answer-fine, present-refused, told}
+use Rattle.queries.proofs.Asking.{answer-refused, answer-fine, present-refused, told}
 
 -- ---- what a buffer holds
 

@@ -8,9 +8,11 @@ use form::Checked;
 use form::present;
 use groups::group_end;
 use groups::group_start;
-use groups::sheet_of;
-use groups::word_of;
-use overlay::overlay;
+pub use queries::Marked;
+pub use queries::Placed;
+pub use queries::marks;
+pub use queries::name;
+pub use queries::name_place;
 use reach::dependents;
 use view::Cut;
 use view::view_len;
@@ -18,23 +20,11 @@ ghost use mathlib.Core.Path.{_≡_};
 ghost use mathlib.Core.Option.{none};
 ghost use Prim.Native.Nat.{_≤_, _<_};
 ghost use lib.ListN.{take};
-ghost use Rattle.spec.specs.Promises.{Judges, Adds, Replaces, Marks, Places, Names};
+ghost use Rattle.spec.specs.Promises.{Judges, Adds, Replaces};
 ghost use Rattle.spec.specs.Verdicts.{flat};
 ghost use Rattle.spec.specs.Refusals.{presentRefusal};
 ghost use Rattle.groups.specs.Groups.{startOf, endOf, Indexed};
-ghost use Rattle.verifier.specs.Answers.{judgedAnswer, addedAnswer, replacedAnswer, markedAnswer, placedAnswer};
-
-// The overlay markers of a class, or the refusal: number, sheet, byte.
-pub enum Marked {
-    Fine(u8),
-    Refused(u8, u8, usize),
-}
-
-// Where a name stands: sheet (0 library, 1 user), start and length; or the refusal: number, sheet, byte.
-pub enum Placed {
-    At(u8, usize, usize),
-    Refused(u8, u8, usize),
-}
+ghost use Rattle.verifier.specs.Answers.{judgedAnswer, addedAnswer, replacedAnswer};
 
 // How many user classes there are and how many are faulted, or the refusal: number, sheet, byte.
 pub enum Judged {
@@ -280,79 +270,4 @@ pub fn replace(
             )
         }
     }
-}
-
-// The overlay markers of a class of either sheet; `used` bytes of the user buffer are its sheet.
-pub fn marks(library: &[u8], user: &[u8], used: usize, class: usize) -> Marked
-    ensures { λ r. ⌜ Marks (now (library .entry)) (now (user .entry)) used class (markedAnswer r) ⌝ }
-{
-    let mut starts = [0u16; 256];
-    let mut memo = [65535u16; 256];
-    let checked = present(library, user, used, &mut starts, &mut memo);
-    match checked {
-        Checked::Refused(number, sheet, byte) => Marked::Refused(number, sheet, byte),
-        Checked::Fine(nlib, n) => {
-            if n <= class {
-                return Marked::Refused(13, 0, 0);
-            }
-            let cut = Cut {
-                from: used,
-                to: used,
-                used: used,
-            };
-            let set = overlay(
-                library,
-                user,
-                &library[0..0],
-                cut,
-                &starts,
-                nlib,
-                n,
-                class,
-                &mut memo,
-            );
-            Marked::Fine(set)
-        }
-    }
-}
-
-// Where a class's name stands: for a caller that wants the refusal, or cannot be handed a part of a slice.
-pub fn name_place(library: &[u8], user: &[u8], used: usize, class: usize) -> Placed
-    ensures { λ r. ⌜ Places (now (library .entry)) (now (user .entry)) used class (placedAnswer r) ⌝ }
-{
-    let mut starts = [0u16; 256];
-    let mut memo = [65535u16; 256];
-    let checked = present(library, user, used, &mut starts, &mut memo);
-    match checked {
-        Checked::Refused(number, sheet, byte) => Placed::Refused(number, sheet, byte),
-        Checked::Fine(nlib, n) => {
-            if n <= class {
-                return Placed::Refused(13, 0, 0);
-            }
-            let cut = Cut {
-                from: used,
-                to: used,
-                used: used,
-            };
-            let none = &library[0..0];
-            let sheet = sheet_of(nlib, class);
-            let at = group_start(library, user, none, cut, &starts, nlib, n, class);
-            let len = word_of(library, user, none, cut, sheet, at);
-            Placed::At(sheet, at + 12, len as usize - 12)
-        }
-    }
-}
-
-// The name as the part of the sheet that holds it; an empty part of the library sheet where `name_place` refuses.
-pub fn name<'a>(library: &'a [u8], user: &'a [u8], used: usize, class: usize) -> &'a [u8]
-    ensures { λ r. ⌜ Names (now (library .entry)) (now (user .entry)) used class (now r) ⌝ }
-{
-    let placed = name_place(library, user, used, class);
-    let Placed::At(sheet, start, len) = placed else {
-        return &library[0..0];
-    };
-    if sheet == 0 {
-        return &library[start..start + len];
-    }
-    &user[start..start + len]
 }

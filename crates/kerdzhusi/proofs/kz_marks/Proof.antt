@@ -1,7 +1,7 @@
 -- `kerdzhusi::kz_marks`: the code of what `verifier::marks` answers.
 -- Assumes nothing.
 use mathlib.Core.Path.{refl, ap}
-use Rattle.verifier.specs.Answers.{markedAnswer}
+use Rattle.queries.specs.Answers.{markedAnswer}
 use Rattle.kerdzhusi.specs.Codes.{plainValue}
 use Rattle.kerdzhusi.proofs.Codes.{refused-replies, fine-replies}
 use Rattle.kerdzhusi.proofs.Bounds.{query-low}

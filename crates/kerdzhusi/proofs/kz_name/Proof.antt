@@ -3,8 +3,8 @@
 use mathlib.Core.Path.{refl, ap}
 use Prim.Native.Nat.{_+_, _≤_}
 use native.Mathlib.Omega.{arith}
-use Rattle.verifier.specs.Answers.{placedAnswer}
-use Rattle.verifier.proofs.Parts.{small}
+use Rattle.queries.specs.Answers.{placedAnswer}
+use Rattle.queries.proofs.Parts.{small}
 use Rattle.kerdzhusi.specs.Codes.{partValue}
 use Rattle.kerdzhusi.proofs.Codes.{refused-replies, fine-replies}
 use Rattle.kerdzhusi.proofs.Bounds.{query-low}
@@ -14,7 +14,7 @@ use Rattle.kerdzhusi.proofs.kz_name.Tie as tie
 use Rattle.kerdzhusi.proofs.kz_name.Reads as reads
 use Rattle.kerdzhusi.proofs.kz_name.Lts as lts
 use Rattle.kerdzhusi.proofs.refusal.Reads as refusal-reads
-use Rattle.verifier.proofs.name_place.Reads as name-place-reads
+use Rattle.queries.proofs.name_place.Reads as name-place-reads
 
 name-place-requires : tie.Need-name-place-requires
 name-place-requires c κs = search needs

@@ -2,7 +2,7 @@
 -- Assumes nothing.
 use mathlib.Core.Path.{refl, sym, _∙_}
 use Rattle.theory.proofs.Answers.{some≢none}
-use Rattle.verifier.proofs.Asking.{used-there, present-refused, indexed}
+use Rattle.queries.proofs.Asking.{used-there, present-refused, indexed}
 use borrow.Author.Needs.{needs}
 use Rattle.listing_text.proofs.accepted_lines.Statement.{statement}
 use Rattle.listing_text.proofs.accepted_lines.Tie as tie

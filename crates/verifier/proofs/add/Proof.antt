@@ -8,7 +8,7 @@ use lib.ListN.{length}
 use Rattle.view.specs.View.{spliced}
 use Rattle.view.proofs.Splice.{plain, length-spliced}
 use Rattle.admit.proofs.Turning.{admit-turned, admit-facts}
-use Rattle.verifier.proofs.Asking.{present-refused, told, fits, indexed}
+use Rattle.queries.proofs.Asking.{present-refused, told, fits, indexed}
 use Rattle.verifier.proofs.Editing.{add-present, added-is, add-plain, add-turned, last-class, add-made, lines-room, marks-long}
 use borrow.Author.Needs.{needs}
 use Rattle.verifier.proofs.add.Statement.{statement}

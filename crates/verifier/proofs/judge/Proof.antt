@@ -3,7 +3,7 @@
 use native.Mathlib.Omega.{arith}
 use Rattle.view.proofs.Splice.{plain}
 use Rattle.lanes.proofs.Rows.{zeros}
-use Rattle.verifier.proofs.Asking.{fits, indexed, right, form-fine}
+use Rattle.queries.proofs.Asking.{fits, indexed, right, form-fine}
 use Rattle.verifier.proofs.Verdicts.{sheets-stop, classes-ordered, row-stop, scratch-stop, room-is, judged-all}
 use borrow.Author.Needs.{needs}
 use Rattle.verifier.proofs.judge.Statement.{statement}

@@ -7,7 +7,7 @@ use Prim.Native.Nat.{ℕ}
 use native.Mathlib.Omega.{arith}
 use Rattle.view.proofs.Splice.{plain}
 use Rattle.groups.specs.Groups.{startOf, endOf}
-use Rattle.verifier.proofs.Asking.{present-refused, told, fits, indexed}
+use Rattle.queries.proofs.Asking.{present-refused, told, fits, indexed}
 use Rattle.verifier.proofs.Replacing.{replace-present, replace-missing}
 use borrow.Author.Needs.{needs}
 use Rattle.verifier.proofs.replace.Statement.{statement}

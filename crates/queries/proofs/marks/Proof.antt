@@ -6,10 +6,10 @@ use Rattle.spec.specs.Sheet.{group as groupOf}
 use Rattle.spec.specs.Promises.{accepted}
 use Rattle.spec.specs.Classes.{overlay as overlayOf}
 use Rattle.view.proofs.Splice.{plain}
-use Rattle.verifier.proofs.Asking.{answer-refused, answer-fine, sheets-refused, class-unused, class-used, fits, indexed, right, lower-numbers}
+use Rattle.queries.proofs.Asking.{answer-refused, answer-fine, sheets-refused, class-unused, class-used, fits, indexed, right, lower-numbers}
 use borrow.Author.Needs.{needs}
-use Rattle.verifier.proofs.marks.Statement.{statement}
-use Rattle.verifier.proofs.marks.Tie as tie
+use Rattle.queries.proofs.marks.Statement.{statement}
+use Rattle.queries.proofs.marks.Tie as tie
 
 slice-aggregate-present : tie.Need-slice-aggregate-present
 slice-aggregate-present c = search needs

@@ -5,11 +5,11 @@ use native.Mathlib.Omega.{arith}
 use Rattle.spec.specs.Promises.{accepted, namePart}
 use Rattle.view.proofs.Splice.{plain}
 use Rattle.groups.proofs.Classes.{class-low, class-long}
-use Rattle.verifier.proofs.Asking.{answer-refused, answer-fine, sheets-refused, class-unused, class-used, fits, indexed}
-use Rattle.verifier.proofs.Parts.{part-read, size-read}
+use Rattle.queries.proofs.Asking.{answer-refused, answer-fine, sheets-refused, class-unused, class-used, fits, indexed}
+use Rattle.queries.proofs.Parts.{part-read, size-read}
 use borrow.Author.Needs.{needs}
-use Rattle.verifier.proofs.name_place.Statement.{statement}
-use Rattle.verifier.proofs.name_place.Tie as tie
+use Rattle.queries.proofs.name_place.Statement.{statement}
+use Rattle.queries.proofs.name_place.Tie as tie
 
 slice-aggregate-present : tie.Need-slice-aggregate-present
 slice-aggregate-present c = search needs

@@ -1,10 +1,10 @@
 -- `verifier::name`: the bytes at the place that `name_place` gives.
 -- Assumes nothing.
 use native.Mathlib.Omega.{arith}
-use Rattle.verifier.proofs.Parts.{no-name, small, library-within, user-within, library-name, user-name}
+use Rattle.queries.proofs.Parts.{no-name, small, library-within, user-within, library-name, user-name}
 use borrow.Author.Needs.{needs}
-use Rattle.verifier.proofs.name.Statement.{statement}
-use Rattle.verifier.proofs.name.Tie as tie
+use Rattle.queries.proofs.name.Statement.{statement}
+use Rattle.queries.proofs.name.Tie as tie
 
 name-place-requires : tie.Need-name-place-requires
 name-place-requires c κs = search needs

@@ -18,10 +18,10 @@ use Rattle.theory.proofs.Bools.{t-false}
 use Rattle.theory.proofs.Answers.{first-none, if-none}
 use Rattle.groups.specs.Groups.{Indexed, sheetNumber, startOf}
 use Rattle.groups.proofs.Classes.{library-sheet, user-sheet, class-size, class-room, class-long, end-small, group-tiled}
-use Rattle.verifier.specs.Answers.{placedAnswer}
-use Rattle.verifier.specs.declared.Placed.{Placed}
-use Rattle.verifier.specs.declared.Placed.the-variants.{At, Refused}
-use Rattle.verifier.proofs.Asking.{told-fine, told-refused, some-row}
+use Rattle.queries.specs.Answers.{placedAnswer}
+use Rattle.queries.specs.declared.Placed.{Placed}
+use Rattle.queries.specs.declared.Placed.the-variants.{At, Refused}
+use Rattle.queries.proofs.Asking.{told-fine, told-refused, some-row}
 
 -- the part by the class's sheet and start
 part-is : (library user : List ℕ) (c : ℕ)
