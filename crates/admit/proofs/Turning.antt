@@ -14,6 +14,10 @@ use Rattle.spec.specs.Sheet.{classCount, total, group}
 use Rattle.spec.specs.Refusals.{Refusal, refuseIf, refusePlain, formRefusal, sheetRefusal, newRefusal, wholeGroup, groupRefusal, roomRefusal, shortRefusal}
 use Rattle.theory.proofs.Bools.{true-t, un-not, not-or-l, not-or-r}
 use Rattle.theory.proofs.Answers.{some≢none, first-none, first-some, first-past, skip-none, plain-none}
+use Rattle.theory.proofs.Cut.{IsGroup}
+use Rattle.view.specs.declared.Cut.{Cut}
+use Rattle.view.specs.View.{Sits, Fits}
+use Rattle.view.proofs.Splice.{sits-fits}
 use Rattle.groups.specs.Groups.{Indexed}
 use Rattle.overlay.specs.Memo.{Right}
 use Rattle.form.specs.Form.{Ready, checkedOf}
@@ -21,6 +25,15 @@ use Rattle.form.specs.declared.Checked.{Checked}
 use Rattle.form.specs.declared.Checked.the-variants.{Fine, Refused}
 use Rattle.form.proofs.Accepting.{fine-none, refused-is}
 use Rattle.admit.specs.Admitting.{admitRefusal, Plain}
+
+was-true : (b : Bool) → not b ≡ false → b ≡ true
+was-true true e = refl
+was-true false e = sym e
+
+-- a whole group between whole groups can be read through the view
+pub group-fits : {cut : Cut} {user g : List ℕ} → Sits cut user → {b : Bool} → b ≡ wholeGroup g → not b ≡ false → Fits cut user g
+unfolding IsGroup
+group-fits s {b} e t = sits-fits s (true-t (sym e ∙ was-true b t))
 
 module _ (library user g new : List ℕ) (lines scratch : ℕ) where
   -- what a call promises
@@ -54,11 +67,7 @@ module _ (library user g new : List ℕ) (lines scratch : ℕ) where
 
     module _ {size : ℕ} (es : size ≡ length new) (l : size ≤ length user) (h : size ≤ 32768) (plain : Plain library g new) where
       whole : T (wholeGroup g)
-      whole = true-t (sym eb ∙ go b tb)
-        where
-          go : (b : Bool) → not b ≡ false → b ≡ true
-          go true e = refl
-          go false e = sym e
+      whole = true-t (sym eb ∙ was-true b tb)
 
       past-room : admitRefusal library user g new lines scratch ≡ firstOf (sheetRefusal library new ∷ shortRefusal (classCount new) lines scratch ∷ [])
       unfolding roomRefusal refusePlain refuseIf
@@ -142,3 +151,8 @@ module _ (library user g new : List ℕ) (lines scratch : ℕ) (plain : Plain li
         indexed = rw (t .1 .0, t .1 .1) (r .indexed o);
         right = r .right o;
       }
+
+-- an admitted group can be read through the view
+pub admitted-fits : {library user g new : List ℕ} {lines scratch nlib n : ℕ} {row memo : List ℕ} {cut : Cut} → Sits cut user → Admitted library user g new lines scratch nlib n row memo → Fits cut user g
+unfolding IsGroup
+admitted-fits s a = sits-fits s (a .whole)

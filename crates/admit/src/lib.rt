@@ -9,22 +9,22 @@ ghost use mathlib.Core.Option.{none};
 ghost use Prim.Native.Nat.{_≤_};
 ghost use lib.ListN.{length, replicate};
 ghost use Rattle.spec.specs.Sheet.{classCount, total};
-ghost use Rattle.view.specs.View.{Fits, spliced};
+ghost use Rattle.view.specs.View.{Sits, spliced};
 ghost use Rattle.form.specs.Form.{Ready, checkedOf};
 ghost use Rattle.admit.specs.Admitting.{admitRefusal, Plain};
 
 // The number of verdicts that the row takes and the scratch's length are handed over, since nothing is written here.
-pub fn admit(
-    library: &[u8],
-    user: &[u8],
-    group: &[u8],
+pub fn admit<'a>(
+    library: &'a [u8],
+    user: &'a [u8],
+    group: &'a [u8],
     cut: Cut,
     lines: usize,
     scratch: usize,
     starts: &mut [u16],
     memo: &mut [u16],
 ) -> Checked
-    requires { ⌜ Fits cut (now user) ⌝ }
+    requires { ⌜ Sits cut (now user) ⌝ }
     requires { ⌜ length (now library) ≤ 32768 ⌝ }
     requires { ⌜ (length (now starts) ≡ 256) × (now memo ≡ replicate 256 65535) ⌝ }
     requires { ⌜ Plain (now library) (now group) (spliced (now user) (now group) cut) ⌝ }

@@ -7,7 +7,7 @@ use mathlib.Core.Option.{none}
 use Prim.Native.Nat.{ℕ, _+_, _≤_, _<_}
 use native.Mathlib.Omega.{arith}
 use lib.Dec.{T, eqb, eqb→eq}
-use lib.ListN.{getD, List·getD-eq-default}
+use lib.ListN.{length, getD, List·getD-eq-default}
 use borrow.Author.Tests.{eq-eqb, ne-eqb}
 use Rattle.spec.specs.Lists.{any}
 use Rattle.spec.specs.Record.{u16, bit, kind, isKind, isClass, CLASS, REFERS, flags, ownMarkers, target, index, references, fieldTy, isFinal}
@@ -17,17 +17,15 @@ use Rattle.spec.specs.Classes.{satisfies}
 use Rattle.spec.specs.Rules.{staticMarker, memberAllowed, forbidden}
 use Rattle.spec.specs.Refusals.{oneClass, formRefusal}
 use Rattle.spec.specs.Relations.{At, here, next}
-use Rattle.theory.specs.Claims.{sheetOf}
 use Rattle.theory.proofs.Bools.{and-l}
 use Rattle.theory.proofs.All.{All}
 use Rattle.theory.proofs.Accept.{Fits, form-fits}
 use Rattle.theory.proofs.Form.{group-one-class}
 use Rattle.theory.proofs.References.{references-refers}
 use Rattle.pass.specs.Pass.{recordAt}
-use Rattle.groups.specs.Groups.{sheetNumber, Indexed}
+use Rattle.groups.specs.Groups.{Indexed}
 use Rattle.overlay.specs.Types.{Known}
-use Rattle.second.specs.Second.{Sized}
-use Rattle.second.proofs.Positions.{flags-at, own-markers-at}
+use Rattle.second.proofs.Positions.{whole, long-enough, flags-at, own-markers-at}
 use Rattle.breaks.specs.Breaking.{Standing, Refers, firstRules, headBreaks, fieldBreaks, breaksAt}
 
 -- ---- the record
@@ -41,33 +39,30 @@ unfolding oneClass
 class-first o (here {x} {xs}) e = and-l (isClass x) (not (any isClass xs)) o
 class-first o (next a) e = absurd (omega arith)
 
-pub standing-sized : {library user : List ℕ} {nlib t k at : ℕ} → Standing library user nlib t k at → {sheet : ℕ} → sheet ≡ sheetNumber nlib t → Sized (sheetOf library user sheet) at
-standing-sized w es = rw es (w .sized)
-
-module _ {library user : List ℕ} {nlib n : ℕ} {starts : List ℕ} (x : Indexed library user nlib n starts) {t k at : ℕ} (w : Standing library user nlib t k at) where
+module _ {library user : List ℕ} {nlib n : ℕ} {starts : List ℕ} (x : Indexed library user nlib n starts) (t : ℕ) {bytes : List ℕ} {k at : ℕ} (w : Standing bytes (group library user t) k at) where
   abbrev r : List ℕ
-  r = recordAt (sheetOf library user (sheetNumber nlib t)) at
+  r = recordAt bytes at
 
-  of-form : formRefusal library user ≡ none → Refers n (group library user) r
-  of-form e =
+  pub standing-refers : formRefusal library user ≡ none → Refers n (group library user) (recordAt bytes at)
+  standing-refers e =
       let f : Fits (classCount library) (total library user) (group library user) t r = all-here (Fits (classCount library) (total library user) (group library user) t) (form-fits library user e t) (w .is) in
       record {
         class = λ u. let a = subst (All (λ d. d < total library user)) (references-refers r u) (f .there) in omega (arith, a .0, x .n-is);
         member = f .member;
       }
 
-  pub standing-refers : formRefusal library user ≡ none → {sheet : ℕ} → sheet ≡ sheetNumber nlib t → Refers n (group library user) (recordAt (sheetOf library user sheet) at)
-  standing-refers e es = rw es (of-form e)
-
   module _ (l : t < n) (z : k ≡ 0) where
     is-class : kind r ≡ CLASS
     is-class = eqb→eq (kind r) CLASS (class-first (group-one-class library user t (omega (arith, x .n-is))) (w .is) z)
 
-    pub head-markers : {sheet : ℕ} → sheet ≡ sheetNumber nlib t → {m : ℕ} → m ≡ getD (sheetOf library user sheet) (at + 6) 0 → m ≡ ownMarkers r
-    head-markers es em = em ∙ ap (λ (i : ℕ). getD (sheetOf library user i) (at + 6) 0) es ∙ sym (own-markers-at (w .sized) is-class)
+    pub head-room : at + 13 ≤ length bytes
+    head-room = omega (arith, long-enough (w .sized) CLASS is-class, whole (w .sized) .ends)
 
-    pub head-flags : {sheet : ℕ} → sheet ≡ sheetNumber nlib t → {f : ℕ} → f ≡ u16 (sheetOf library user sheet) (at + 4) → f ≡ flags r
-    head-flags es ef = ef ∙ ap (λ (i : ℕ). u16 (sheetOf library user i) (at + 4)) es ∙ sym (flags-at (w .sized) CLASS is-class (omega arith))
+    pub head-markers : {m : ℕ} → m ≡ getD bytes (at + 6) 0 → m ≡ ownMarkers (recordAt bytes at)
+    head-markers em = em ∙ sym (own-markers-at (w .sized) is-class)
+
+    pub head-flags : {f : ℕ} → f ≡ u16 bytes (at + 4) → f ≡ flags (recordAt bytes at)
+    head-flags ef = ef ∙ sym (flags-at (w .sized) CLASS is-class (omega arith))
 
 -- ---- the rule
 

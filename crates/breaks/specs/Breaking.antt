@@ -7,21 +7,20 @@ use lib.Dec.{T, eqb, ltb}
 use lib.ListN.{length, getD}
 use Rattle.spec.specs.Lists.{any}
 use Rattle.spec.specs.Record.{bit, isKind, MEMBER, REFERS, flags, ownMarkers, target, index, fieldTy, isFinal, references}
-use Rattle.spec.specs.Sheet.{Group, group, classRecord, ofKind, isStaticField, isInstanceField}
+use Rattle.spec.specs.Sheet.{Group, classRecord, ofKind, isStaticField, isInstanceField}
 use Rattle.spec.specs.Markers.{Immutable, Powerless, Selfless, Token, Throwable, Enum, DeepSelfless, clash}
 use Rattle.spec.specs.Classes.{Slot, fieldSlot, superclasses, overlay, satisfies, encloserSlots, capturedSlots}
 use Rattle.spec.specs.Rules.{staticMarker, memberAllowed, rootFits, baseFits, forbidden}
 use Rattle.spec.specs.Relations.{At}
-use Rattle.theory.specs.Claims.{sheetOf}
 use Rattle.pass.specs.Pass.{recordAt}
-use Rattle.groups.specs.Groups.{sheetNumber}
+use Rattle.groups.specs.Groups.{Carries}
 use Rattle.second.specs.Second.{Sized}
 
--- record k of class t begins at a byte of its sheet
-pub record Standing (library user : List ℕ) (nlib t k at : ℕ) : Type 0 where
-  pub is : At (group library user t) k (recordAt (sheetOf library user (sheetNumber nlib t)) at)
-  pub sized : Sized (sheetOf library user (sheetNumber nlib t)) at
-  pub low : at < 60000
+-- record k of a group begins at a byte of bytes that carry the group
+pub record Standing (bytes : List ℕ) (h : Group) (k at : ℕ) : Type 0 where
+  pub carries : Carries bytes h
+  pub is : At h k (recordAt bytes at)
+  pub sized : Sized bytes at
 
 -- a REFERS record names a member that is there
 pub record Refers (n : ℕ) (g : ℕ → Group) (r : List ℕ) : Type 0 where

@@ -1,10 +1,9 @@
 // Whether one record of one class breaks a rule. Nothing is searched here: captured variables and overlay markers stand in their rows.
+// A class's bytes are read as a plain slice, with the first record at 0.
 use captured::lacking;
-use groups::byte_of;
+use groups::class_bytes;
 use groups::class_word;
-use groups::nth_of;
-use groups::sheet_of;
-use groups::word_of;
+use groups::nth_in;
 use markers::clash;
 use markers::has;
 use named::any_named;
@@ -12,22 +11,23 @@ use named::second_named;
 use overlay::known;
 use overlay::type_markers;
 use view::Cut;
+use view::word_in;
 ghost use mathlib.Core.Path.{_≡_};
 ghost use mathlib.Core.Bool.{not, _&&_, _||_};
 ghost use mathlib.Core.Option.{none};
-ghost use Prim.Native.Nat.{_^_, _≤_, _<_};
+ghost use Prim.Native.Nat.{ℕ, _^_, _≤_, _<_};
 ghost use lib.Dec.{T};
+ghost use lib.ListN.{length};
 ghost use Rattle.spec.specs.Lists.{any};
 ghost use Rattle.spec.specs.Record.{bit, isKind, REFERS, target, index, references, fieldTy, isFinal};
-ghost use Rattle.spec.specs.Sheet.{group as groupOf, isStaticField, isInterface};
+ghost use Rattle.spec.specs.Sheet.{Group, group as groupOf, isStaticField, isInterface};
 ghost use Rattle.spec.specs.Markers.{Token, Throwable, Enum};
 ghost use Rattle.spec.specs.Classes.{satisfies};
 ghost use Rattle.spec.specs.Rules.{forbidden as forbiddenOf, memberAllowed, staticMarker};
 ghost use Rattle.spec.specs.Refusals.{formRefusal};
-ghost use Rattle.theory.specs.Claims.{sheetOf};
 ghost use Rattle.view.specs.View.{Fits, spliced};
 ghost use Rattle.pass.specs.Pass.{recordAt};
-ghost use Rattle.groups.specs.Groups.{sheetNumber, Indexed};
+ghost use Rattle.groups.specs.Groups.{Carries, Indexed};
 ghost use Rattle.overlay.specs.Types.{Known};
 ghost use Rattle.second.specs.Second.{Sized};
 ghost use Rattle.captured.specs.Captured.{Shown};
@@ -42,17 +42,17 @@ fn wide(x: u16) -> usize
 // ---- rules 1 to 6
 
 // A library class that is not allowed.
-fn forbidden(
-    library: &[u8],
-    user: &[u8],
-    group: &[u8],
+fn forbidden<'a>(
+    library: &'a [u8],
+    user: &'a [u8],
+    group: &'a [u8],
     cut: Cut,
     starts: &[u16],
     nlib: usize,
     n: usize,
     d: usize,
 ) -> bool
-    requires { ⌜ Fits cut (now user) ⌝ }
+    requires { ⌜ Fits cut (now user) (now group) ⌝ }
     requires { ⌜ Indexed (now library) (spliced (now user) (now group) cut) nlib n (now starts) ⌝ }
     ensures { λ r. ⌜ r ≡ forbiddenOf nlib (groupOf (now (library .entry)) (spliced (now (user .entry)) (now (group .entry)) cut)) d ⌝ }
 {
@@ -63,100 +63,88 @@ fn forbidden(
 }
 
 // Rule 1: the record names such a class.
-fn names_forbidden(
-    library: &[u8],
-    user: &[u8],
-    group: &[u8],
+pub fn names_forbidden<'a>(
+    library: &'a [u8],
+    user: &'a [u8],
+    group: &'a [u8],
     cut: Cut,
     starts: &[u16],
     nlib: usize,
     n: usize,
-    sheet: u8,
+    bytes: &[u8],
     at: usize,
 ) -> bool
-    requires { ⌜ Fits cut (now user) ⌝ }
+    requires { ⌜ Fits cut (now user) (now group) ⌝ }
     requires { ⌜ Indexed (now library) (spliced (now user) (now group) cut) nlib n (now starts) ⌝ }
-    requires { ⌜ Sized (sheetOf (now library) (spliced (now user) (now group) cut) sheet) at ⌝ }
-    requires { ⌜ at < 60000 ⌝ }
-    ensures { λ r. ⌜ r ≡ any (forbiddenOf nlib (groupOf (now (library .entry)) (spliced (now (user .entry)) (now (group .entry)) cut))) (references (recordAt (sheetOf (now (library .entry)) (spliced (now (user .entry)) (now (group .entry)) cut) sheet) at)) ⌝ }
+    requires { ⌜ Sized (now bytes) at ⌝ }
+    requires { ⌜ length (now bytes) ≤ 32768 ⌝ }
+    ensures { λ r. ⌜ r ≡ any (forbiddenOf nlib (groupOf (now (library .entry)) (spliced (now (user .entry)) (now (group .entry)) cut))) (references (recordAt (now (bytes .entry)) at)) ⌝ }
 {
-    let first = any_named(library, user, group, cut, sheet, at);
+    let first = any_named(bytes, at);
     if forbidden(library, user, group, cut, starts, nlib, n, first) {
         return true;
     }
-    let second = second_named(library, user, group, cut, sheet, at, false);
+    let second = second_named(bytes, at, false);
     forbidden(library, user, group, cut, starts, nlib, n, second)
 }
 
 // Rule 2: the record refers to a member that is not allowed.
-fn refers_forbidden(
-    library: &[u8],
-    user: &[u8],
-    group: &[u8],
+pub fn refers_forbidden<'a>(
+    library: &'a [u8],
+    user: &'a [u8],
+    group: &'a [u8],
     cut: Cut,
     starts: &[u16],
     nlib: usize,
     n: usize,
-    sheet: u8,
+    bytes: &[u8],
     at: usize,
 ) -> bool
-    requires { ⌜ Fits cut (now user) ⌝ }
+    requires { ⌜ Fits cut (now user) (now group) ⌝ }
     requires { ⌜ Indexed (now library) (spliced (now user) (now group) cut) nlib n (now starts) ⌝ }
-    requires { ⌜ Sized (sheetOf (now library) (spliced (now user) (now group) cut) sheet) at ⌝ }
-    requires { ⌜ Refers n (groupOf (now library) (spliced (now user) (now group) cut)) (recordAt (sheetOf (now library) (spliced (now user) (now group) cut) sheet) at) ⌝ }
-    requires { ⌜ at < 60000 ⌝ }
-    ensures { λ r. ⌜ r ≡ (isKind REFERS (recordAt (sheetOf (now (library .entry)) (spliced (now (user .entry)) (now (group .entry)) cut) sheet) at) && not (memberAllowed (groupOf (now (library .entry)) (spliced (now (user .entry)) (now (group .entry)) cut)) (target (recordAt (sheetOf (now (library .entry)) (spliced (now (user .entry)) (now (group .entry)) cut) sheet) at)) (index (recordAt (sheetOf (now (library .entry)) (spliced (now (user .entry)) (now (group .entry)) cut) sheet) at)))) ⌝ }
+    requires { ⌜ Sized (now bytes) at ⌝ }
+    requires { ⌜ Refers n (groupOf (now library) (spliced (now user) (now group) cut)) (recordAt (now bytes) at) ⌝ }
+    requires { ⌜ length (now bytes) ≤ 32768 ⌝ }
+    ensures { λ r. ⌜ r ≡ (isKind REFERS (recordAt (now (bytes .entry)) at) && not (memberAllowed (groupOf (now (library .entry)) (spliced (now (user .entry)) (now (group .entry)) cut)) (target (recordAt (now (bytes .entry)) at)) (index (recordAt (now (bytes .entry)) at)))) ⌝ }
 {
-    if word_of(library, user, group, cut, sheet, at + 2) != 8 {
+    if word_in(bytes, at + 2) != 8 {
         return false;
     }
-    let d = wide(word_of(library, user, group, cut, sheet, at + 4));
-    let i = wide(word_of(library, user, group, cut, sheet, at + 6));
-    let m = nth_of(library, user, group, cut, starts, nlib, n, d, 7, i);
-    word_of(library, user, group, cut, sheet_of(nlib, d), m + 4) % 2 == 0
+    let d = wide(word_in(bytes, at + 4));
+    let i = wide(word_in(bytes, at + 6));
+    let there = class_bytes(library, user, group, cut, starts, nlib, n, d);
+    let m = nth_in(there, 7, i);
+    word_in(there, m + 4) % 2 == 0
 }
 
 // Rule 3: Token, Throwable or Enum among own markers.
-fn reserved(m: u8) -> bool
+pub fn reserved(m: u8) -> bool
     ensures { λ r. ⌜ r ≡ (bit Token m || bit Throwable m || bit Enum m) ⌝ }
 {
     m / 16 % 2 + m / 32 % 2 + m / 64 % 2 != 0
 }
 
 // Rule 5: a static field that is not final or not of an Immutable type.
-fn static_breaks(
-    library: &[u8],
-    user: &[u8],
-    group: &[u8],
-    cut: Cut,
-    markers: &[u8],
-    sheet: u8,
-    at: usize,
-) -> bool
-    requires { ⌜ Fits cut (now user) ⌝ }
-    requires { ⌜ Known (groupOf (now library) (spliced (now user) (now group) cut)) (now markers) ⌝ }
-    requires { ⌜ Sized (sheetOf (now library) (spliced (now user) (now group) cut) sheet) at ⌝ }
-    requires { ⌜ at < 60000 ⌝ }
-    ensures { λ r. ⌜ r ≡ (isStaticField (recordAt (sheetOf (now (library .entry)) (spliced (now (user .entry)) (now (group .entry)) cut) sheet) at) && not (isFinal (recordAt (sheetOf (now (library .entry)) (spliced (now (user .entry)) (now (group .entry)) cut) sheet) at) && satisfies (groupOf (now (library .entry)) (spliced (now (user .entry)) (now (group .entry)) cut)) staticMarker (fieldTy (recordAt (sheetOf (now (library .entry)) (spliced (now (user .entry)) (now (group .entry)) cut) sheet) at)))) ⌝ }
+pub fn static_breaks(bytes: &[u8], at: usize, markers: &[u8]) -> bool
+    requires { ⌜ Sized (now bytes) at ⌝ }
+    requires { ⌜ length (now bytes) ≤ 32768 ⌝ }
+    ensures { λ r. ⌜ ((g : ℕ → Group) → Known g (now (markers .entry)) → r ≡ (isStaticField (recordAt (now (bytes .entry)) at) && not (isFinal (recordAt (now (bytes .entry)) at) && satisfies g staticMarker (fieldTy (recordAt (now (bytes .entry)) at))))) ⌝ }
 {
-    if word_of(library, user, group, cut, sheet, at + 2) != 3 {
+    if word_in(bytes, at + 2) != 3 {
         return false;
     }
-    let flags = word_of(library, user, group, cut, sheet, at + 4);
+    let flags = word_in(bytes, at + 4);
     if flags / 4 % 2 == 0 {
         return false;
     }
     if flags % 2 == 0 {
         return true;
     }
-    !has(
-        type_markers(library, user, group, cut, sheet, at + 6, markers),
-        1,
-    )
+    !has(type_markers(bytes, at + 6, markers), 1)
 }
 
 // Rule 6: an initialization flag, 5 to 7.
-fn lets_out(flags: u16) -> bool
+pub fn lets_out(flags: u16) -> bool
     ensures { λ r. ⌜ r ≡ (bit 5 flags || bit 6 flags || bit 7 flags) ⌝ }
 {
     flags / 32 % 2 + flags / 64 % 2 + flags / 128 % 2 != 0
@@ -182,7 +170,7 @@ pub fn rule_set(rule: u8) -> u8
 }
 
 // Whether a slot passes: final or not, transient or not, and the markers of its type.
-fn slot_fits(rule: u8, fixed: bool, transient: bool, set: u8) -> bool
+pub fn slot_fits(rule: u8, fixed: bool, transient: bool, set: u8) -> bool
     requires { ⌜ 7 ≤ rule ⌝ }
     ensures { λ r. ⌜ r ≡ fromSeven rule (fixed && bit 0 set) (bit 1 set) (fixed && not transient) (bit 7 set) ⌝ }
 {
@@ -205,48 +193,26 @@ fn slot_fits(rule: u8, fixed: bool, transient: bool, set: u8) -> bool
 }
 
 // An instance field that does not pass.
-fn field_breaks(
-    library: &[u8],
-    user: &[u8],
-    group: &[u8],
-    cut: Cut,
-    markers: &[u8],
-    rule: u8,
-    t: usize,
-    k: usize,
-    sheet: u8,
-    at: usize,
-) -> bool
-    requires { ⌜ Fits cut (now user) ⌝ }
-    requires { ⌜ Known (groupOf (now library) (spliced (now user) (now group) cut)) (now markers) ⌝ }
-    requires { ⌜ Sized (sheetOf (now library) (spliced (now user) (now group) cut) sheet) at ⌝ }
-    requires { ⌜ (at < 60000) × (7 ≤ rule) ⌝ }
-    ensures { λ r. ⌜ r ≡ fieldBreaks (groupOf (now (library .entry)) (spliced (now (user .entry)) (now (group .entry)) cut)) rule t k (recordAt (sheetOf (now (library .entry)) (spliced (now (user .entry)) (now (group .entry)) cut) sheet) at) ⌝ }
+pub fn field_breaks(bytes: &[u8], at: usize, markers: &[u8], rule: u8) -> bool
+    requires { ⌜ Sized (now bytes) at ⌝ }
+    requires { ⌜ (length (now bytes) ≤ 32768) × (7 ≤ rule) ⌝ }
+    ensures { λ r. ⌜ ((g : ℕ → Group) (t k : ℕ) → Known g (now (markers .entry)) → r ≡ fieldBreaks g rule t k (recordAt (now (bytes .entry)) at)) ⌝ }
 {
-    if word_of(library, user, group, cut, sheet, at + 2) != 3 {
+    if word_in(bytes, at + 2) != 3 {
         return false;
     }
-    let flags = word_of(library, user, group, cut, sheet, at + 4);
+    let flags = word_in(bytes, at + 4);
     if flags / 4 % 2 == 1 {
         return false;
     }
-    let set = type_markers(library, user, group, cut, sheet, at + 6, markers);
+    let set = type_markers(bytes, at + 6, markers);
     !slot_fits(rule, flags % 2 == 1, flags / 2 % 2 == 1, set)
 }
 
 // The root lacks the rule's marker; class 0 needs none.
-fn root_breaks(
-    library: &[u8],
-    user: &[u8],
-    group: &[u8],
-    cut: Cut,
-    markers: &[u8],
-    rule: u8,
-    d: usize,
-) -> bool
-    requires { ⌜ Known (groupOf (now library) (spliced (now user) (now group) cut)) (now markers) ⌝ }
+pub fn root_breaks(markers: &[u8], rule: u8, d: usize) -> bool
     requires { ⌜ 7 ≤ rule ⌝ }
-    ensures { λ r. ⌜ r ≡ rootBreaks (groupOf (now (library .entry)) (spliced (now (user .entry)) (now (group .entry)) cut)) rule d ⌝ }
+    ensures { λ r. ⌜ ((g : ℕ → Group) → Known g (now (markers .entry)) → r ≡ rootBreaks g rule d) ⌝ }
 {
     if d == 0 {
         return false;
@@ -258,10 +224,10 @@ fn root_breaks(
 }
 
 // The encloser or a captured variable of class t does not pass. Neither changes, so rule 9 has nothing to say.
-fn fixed_breaks(
-    library: &[u8],
-    user: &[u8],
-    group: &[u8],
+pub fn fixed_breaks<'a>(
+    library: &'a [u8],
+    user: &'a [u8],
+    group: &'a [u8],
     cut: Cut,
     starts: &[u16],
     nlib: usize,
@@ -270,13 +236,15 @@ fn fixed_breaks(
     row: &[u8],
     rule: u8,
     t: usize,
+    bytes: &[u8],
 ) -> bool
-    requires { ⌜ Fits cut (now user) ⌝ }
+    requires { ⌜ Fits cut (now user) (now group) ⌝ }
     requires { ⌜ Indexed (now library) (spliced (now user) (now group) cut) nlib n (now starts) ⌝ }
     requires { ⌜ formRefusal (now library) (spliced (now user) (now group) cut) ≡ none ⌝ }
     requires { ⌜ Known (groupOf (now library) (spliced (now user) (now group) cut)) (now markers) ⌝ }
     requires { ⌜ Shown (groupOf (now library) (spliced (now user) (now group) cut)) n (now row) ⌝ }
     requires { ⌜ (t < n) × (7 ≤ rule) ⌝ }
+    requires { ⌜ Carries (now bytes) (groupOf (now library) (spliced (now user) (now group) cut) t) ⌝ }
     ensures { λ r. ⌜ r ≡ fixedBreaks (groupOf (now (library .entry)) (spliced (now (user .entry)) (now (group .entry)) cut)) rule t ⌝ }
 {
     if rule == 9 {
@@ -285,11 +253,10 @@ fn fixed_breaks(
     if lacking(row, lane_of(rule), t) {
         return true;
     }
-    let flags = class_word(library, user, group, cut, starts, nlib, n, t, 4);
-    if flags / 2 % 2 == 0 {
+    if word_in(bytes, 4) / 2 % 2 == 0 {
         return false;
     }
-    let e = wide(class_word(library, user, group, cut, starts, nlib, n, t, 10));
+    let e = wide(word_in(bytes, 10));
     !has(known(markers, e), rule_set(rule))
 }
 
@@ -308,39 +275,41 @@ fn lane_of(rule: u8) -> usize
 }
 
 // Rule 9's second part.
-fn base_breaks(
-    library: &[u8],
-    user: &[u8],
-    group: &[u8],
+pub fn base_breaks<'a>(
+    library: &'a [u8],
+    user: &'a [u8],
+    group: &'a [u8],
     cut: Cut,
     starts: &[u16],
     nlib: usize,
     n: usize,
     markers: &[u8],
     c: usize,
+    bytes: &[u8],
 ) -> bool
-    requires { ⌜ Fits cut (now user) ⌝ }
+    requires { ⌜ Fits cut (now user) (now group) ⌝ }
     requires { ⌜ Indexed (now library) (spliced (now user) (now group) cut) nlib n (now starts) ⌝ }
     requires { ⌜ formRefusal (now library) (spliced (now user) (now group) cut) ≡ none ⌝ }
     requires { ⌜ Known (groupOf (now library) (spliced (now user) (now group) cut)) (now markers) ⌝ }
     requires { ⌜ (nlib ≤ c) × (c < n) × T (not (isInterface (groupOf (now library) (spliced (now user) (now group) cut) c))) ⌝ }
+    requires { ⌜ Carries (now bytes) (groupOf (now library) (spliced (now user) (now group) cut) c) ⌝ }
     ensures { λ r. ⌜ r ≡ baseBreaks (groupOf (now (library .entry)) (spliced (now (user .entry)) (now (group .entry)) cut)) c ⌝ }
 {
-    let s = wide(class_word(library, user, group, cut, starts, nlib, n, c, 8));
+    let s = wide(word_in(bytes, 8));
     if has(known(markers, s), 4) {
         return false;
     }
     if s != 0 {
         return true;
     }
-    class_word(library, user, group, cut, starts, nlib, n, c, 4) / 4 % 8 != 3
+    word_in(bytes, 4) / 4 % 8 != 3
 }
 
 // What stands at record 0 of class t.
-fn head_breaks(
-    library: &[u8],
-    user: &[u8],
-    group: &[u8],
+fn head_breaks<'a>(
+    library: &'a [u8],
+    user: &'a [u8],
+    group: &'a [u8],
     cut: Cut,
     starts: &[u16],
     nlib: usize,
@@ -350,18 +319,20 @@ fn head_breaks(
     rule: u8,
     c: usize,
     t: usize,
+    bytes: &[u8],
 ) -> bool
-    requires { ⌜ Fits cut (now user) ⌝ }
+    requires { ⌜ Fits cut (now user) (now group) ⌝ }
     requires { ⌜ Indexed (now library) (spliced (now user) (now group) cut) nlib n (now starts) ⌝ }
     requires { ⌜ formRefusal (now library) (spliced (now user) (now group) cut) ≡ none ⌝ }
     requires { ⌜ Known (groupOf (now library) (spliced (now user) (now group) cut)) (now markers) ⌝ }
     requires { ⌜ Shown (groupOf (now library) (spliced (now user) (now group) cut)) n (now row) ⌝ }
     requires { ⌜ (nlib ≤ c) × (c < n) × T (not (isInterface (groupOf (now library) (spliced (now user) (now group) cut) c))) ⌝ }
     requires { ⌜ (t < n) × (7 ≤ rule) ⌝ }
+    requires { ⌜ Carries (now bytes) (groupOf (now library) (spliced (now user) (now group) cut) t) ⌝ }
     ensures { λ r. ⌜ r ≡ headBreaks nlib (groupOf (now (library .entry)) (spliced (now (user .entry)) (now (group .entry)) cut)) rule c t ⌝ }
 {
     if t < nlib {
-        return root_breaks(library, user, group, cut, markers, rule, t);
+        return root_breaks(markers, rule, t);
     }
     if fixed_breaks(
         library,
@@ -375,6 +346,7 @@ fn head_breaks(
         row,
         rule,
         t,
+        bytes,
     ) {
         return true;
     }
@@ -384,14 +356,25 @@ fn head_breaks(
     if t != c {
         return false;
     }
-    base_breaks(library, user, group, cut, starts, nlib, n, markers, c)
+    base_breaks(
+        library,
+        user,
+        group,
+        cut,
+        starts,
+        nlib,
+        n,
+        markers,
+        c,
+        bytes,
+    )
 }
 
-// In the judging of class c: record k of class t, which stands at `at` of its sheet, breaks the rule.
-pub fn breaks(
-    library: &[u8],
-    user: &[u8],
-    group: &[u8],
+// In the judging of class c: record k of class t, which begins at `at` of the class's bytes, breaks the rule.
+pub fn breaks<'a>(
+    library: &'a [u8],
+    user: &'a [u8],
+    group: &'a [u8],
     cut: Cut,
     starts: &[u16],
     nlib: usize,
@@ -402,39 +385,39 @@ pub fn breaks(
     c: usize,
     t: usize,
     k: usize,
+    bytes: &[u8],
     at: usize,
 ) -> bool
-    requires { ⌜ Fits cut (now user) ⌝ }
+    requires { ⌜ Fits cut (now user) (now group) ⌝ }
     requires { ⌜ Indexed (now library) (spliced (now user) (now group) cut) nlib n (now starts) ⌝ }
     requires { ⌜ formRefusal (now library) (spliced (now user) (now group) cut) ≡ none ⌝ }
     requires { ⌜ Known (groupOf (now library) (spliced (now user) (now group) cut)) (now markers) ⌝ }
     requires { ⌜ Shown (groupOf (now library) (spliced (now user) (now group) cut)) n (now row) ⌝ }
     requires { ⌜ (nlib ≤ c) × (c < n) × (t < n) × (1 ≤ rule) ⌝ }
-    requires { ⌜ Standing (now library) (spliced (now user) (now group) cut) nlib t k at ⌝ }
+    requires { ⌜ Standing (now bytes) (groupOf (now library) (spliced (now user) (now group) cut) t) k at ⌝ }
     requires { ⌜ (rule ≡ 3 → k ≡ 0) × (rule ≡ 6 → k ≡ 0) × (7 ≤ rule → T (not (isInterface (groupOf (now library) (spliced (now user) (now group) cut) c)))) ⌝ }
-    ensures { λ r. ⌜ r ≡ breaksAt nlib (groupOf (now (library .entry)) (spliced (now (user .entry)) (now (group .entry)) cut)) rule c t k (recordAt (sheetOf (now (library .entry)) (spliced (now (user .entry)) (now (group .entry)) cut) (sheetNumber nlib t)) at) ⌝ }
+    ensures { λ r. ⌜ r ≡ breaksAt nlib (groupOf (now (library .entry)) (spliced (now (user .entry)) (now (group .entry)) cut)) rule c t k (recordAt (now (bytes .entry)) at) ⌝ }
 {
-    let sheet = sheet_of(nlib, t);
     if rule == 1 {
-        return names_forbidden(library, user, group, cut, starts, nlib, n, sheet, at);
+        return names_forbidden(library, user, group, cut, starts, nlib, n, bytes, at);
     }
     if rule == 2 {
-        return refers_forbidden(library, user, group, cut, starts, nlib, n, sheet, at);
+        return refers_forbidden(library, user, group, cut, starts, nlib, n, bytes, at);
     }
     if rule == 3 {
-        return reserved(byte_of(library, user, group, cut, sheet, at + 6));
+        return reserved(bytes[at + 6]);
     }
     if rule == 4 {
         return clash(known(markers, t));
     }
     if rule == 5 {
-        return static_breaks(library, user, group, cut, markers, sheet, at);
+        return static_breaks(bytes, at, markers);
     }
     if rule == 6 {
-        return lets_out(word_of(library, user, group, cut, sheet, at + 4));
+        return lets_out(word_in(bytes, at + 4));
     }
     if k != 0 {
-        return field_breaks(library, user, group, cut, markers, rule, t, k, sheet, at);
+        return field_breaks(bytes, at, markers, rule);
     }
     head_breaks(
         library,
@@ -449,5 +432,6 @@ pub fn breaks(
         rule,
         c,
         t,
+        bytes,
     )
 }

@@ -16,25 +16,27 @@ use Rattle.spec.specs.Record.{u16, bit, kind, isKind, LOCAL, USES, target, inde
 use Rattle.spec.specs.Sheet.{Group, classCount, total, group, ofKind}
 use Rattle.spec.specs.Classes.{satisfies}
 use Rattle.spec.specs.Refusals.{formRefusal}
-use Rattle.theory.specs.Claims.{sheetOf}
 use Rattle.theory.proofs.Bools.{eq→eqb}
 use Rattle.theory.proofs.All.{all-at, all-kept, of-members, at-member}
+use Rattle.theory.proofs.Members.{mem-keep}
 use Rattle.theory.proofs.References.{references-uses}
 use Rattle.theory.proofs.Accept.{Fits, form-fits}
 use Rattle.pass.specs.Pass.{recordAt}
 use Rattle.pass.proofs.Whole.{kind-here}
-use Rattle.groups.specs.Groups.{sheetNumber, startOf, endOf, between, nthByte, Indexed}
+use Rattle.groups.specs.Groups.{between, nthByte, AtRecord, Carries, Indexed}
 use Rattle.groups.proofs.Between.{tiled-end}
-use Rattle.groups.proofs.Walks.{AtRecord, walk-start, walk-here, walk-next}
+use Rattle.groups.proofs.Walks.{walk-here, walk-next}
 use Rattle.groups.proofs.Nth.{Stands, nth-record}
-use Rattle.overlay.specs.Types.{typeMarkers}
-use Rattle.overlay.proofs.Types.{satisfies-bit}
+use Rattle.overlay.specs.Types.{Known, typeMarkers, rowMarkers}
+use Rattle.overlay.proofs.Types.{row-markers, satisfies-bit}
 use Rattle.second.specs.Second.{Sized}
-use Rattle.second.proofs.Positions.{whole, target-at, index-at, local-type-at, at-low, walk-sized}
+use Rattle.second.proofs.Positions.{whole, long-enough, target-at, index-at, local-type-at, walk-sized}
 use Rattle.lanes.specs.Lanes.{Inside, Enclosers, entryAt, Other, SeedsFit, Least}
 use Rattle.reach.specs.Reach.{stepsOf, outerOf, Emptied}
+use Rattle.reach.proofs.Scanning.{empty}
+use Rattle.reach.proofs.Library.{library-uses-none}
 use Rattle.captured.specs.Captured.{laneMarker, Captured}
-use Rattle.captured.specs.Seeds.{Lowering, InLane, InLanes, OfRecord, Wanted, ByRecords, ByClasses}
+use Rattle.captured.specs.Seeds.{Lowering, InLane, InLanes, Wanted, ByRecords, ByClasses}
 use Rattle.captured.proofs.Meaning.{seeds-fit, shown}
 
 -- ---- one part after another
@@ -147,21 +149,24 @@ kept-kind : (k : ℕ) (h : Group) (i : ℕ) → i < length (ofKind k h) → kind
 unfolding ofKind
 kept-kind k h i l = eqb→eq (kind (getD (ofKind k h) i [])) k (all-at (λ r. Unit {0} × T (isKind k r)) [] (ofKind k h) (all-kept (λ r. Unit {0}) (isKind k) h (of-members (λ r. Unit {0}) h (λ r e. tt))) i l .1)
 
-module _ {library user : List ℕ} {nlib n : ℕ} {row : List ℕ} (x : Indexed library user nlib n row) where
-  -- where it stands there is its type
-  pub variable-type : {d : ℕ} → d < n → {sheet at : ℕ} → sheet ≡ sheetNumber nlib d → (i : ℕ) → i < length (ofKind LOCAL (group library user d))
-      → at ≡ nthByte LOCAL i (startOf library user d) (group library user d)
-      → (tyAt (sheetOf library user sheet) (at + 4) ≡ localTy (getD (ofKind LOCAL (group library user d)) i [])) × (at + 4 ≤ 32768)
-  unfolding recordAt
-  variable-type {d} h {sheet} {at} es i l ea =
-      let w = subst (Stands (sheetOf library user sheet) (endOf library user d) (getD (ofKind LOCAL (group library user d)) i [])) (sym ea) (nth-record x h es LOCAL i l) in
-      let z = walk-sized (w .place) (w .below) in
-      (sym (local-type-at z (ap kind (w .is) ∙ kept-kind LOCAL (group library user d) i l)) ∙ ap localTy (w .is), at-low x sheet z)
+-- where it is found in the bytes of its class, there is its type
+module _ {bytes : List ℕ} {h : Group} (w : Carries bytes h) (i : ℕ) (l : i < length (ofKind LOCAL h)) {at : ℕ} (ea : at ≡ nthByte LOCAL i 0 (between bytes 0 (length bytes))) where
+  stands : Stands bytes (length bytes) (getD (ofKind LOCAL h) i []) at
+  stands = rw ea (nth-record w LOCAL i l)
 
-  pub variable-markers : {d : ℕ} → d < n → {sheet at : ℕ} → sheet ≡ sheetNumber nlib d → (i : ℕ) → i < length (ofKind LOCAL (group library user d))
-      → at ≡ nthByte LOCAL i (startOf library user d) (group library user d) → {r : ℕ} → r ≡ typeMarkers (group library user) (tyAt (sheetOf library user sheet) (at + 4))
-      → r ≡ typeMarkers (group library user) (localTy (getD (ofKind LOCAL (group library user d)) i []))
-  variable-markers h es i l ea e = e ∙ ap (typeMarkers (group library user)) (variable-type h es i l ea .0)
+  sized : Sized bytes at
+  sized = walk-sized (stands .place) (stands .below)
+
+  local : kind (recordAt bytes at) ≡ LOCAL
+  unfolding recordAt
+  local = ap kind (stands .is) ∙ kept-kind LOCAL h i l
+
+  pub variable-room : at + 8 ≤ length bytes
+  variable-room = omega (arith, long-enough sized LOCAL local, whole sized .ends)
+
+  pub variable-markers : {g : ℕ → Group} {row : List ℕ} → Known g row → {r : ℕ} → r ≡ rowMarkers row (tyAt bytes (at + 4)) → r ≡ typeMarkers g (localTy (getD (ofKind LOCAL h) i []))
+  unfolding recordAt
+  variable-markers {row = row} k e = e ∙ ap (rowMarkers row) (sym (local-type-at sized local) ∙ ap localTy (stands .is)) ∙ row-markers k _
 
 -- ---- a record
 
@@ -248,20 +253,14 @@ module _ {library user : List ℕ} {nlib n : ℕ} {starts : List ℕ} (x : Index
 -- ---- a class
 
 -- the records before `at` are done
-pub record SeedAt (g : ℕ → Group) (m : ℕ) (marks row₀ row s : List ℕ) (end at : ℕ) : Type 0 where
-  pub place : AtRecord s end at
-  pub wide : length marks ≡ 256
-  pub right : Enclosers (outerOf g) m marks
+pub record SeedAt (g : ℕ → Group) (m : ℕ) (row₀ row s : List ℕ) (at : ℕ) : Type 0 where
+  pub place : AtRecord s (length s) at
   pub done : Group
-  pub split : done ++ between s at end ≡ g m
+  pub split : done ++ between s at (length s) ≡ g m
   pub lowered : Lowering (ByRecords g m done) row₀ row
 
-pub seed-start : {library user : List ℕ} {nlib n : ℕ} {starts : List ℕ} → Indexed library user nlib n starts → {m : ℕ} → m < n → {marks : List ℕ} (row : List ℕ) {sheet end at : ℕ}
-    → length marks ≡ 256 → Enclosers (outerOf (group library user)) m marks → sheet ≡ sheetNumber nlib m → end ≡ endOf library user m → at ≡ startOf library user m
-    → SeedAt (group library user) m marks row row (sheetOf library user sheet) end at
-seed-start x h row w r es ee ea =
-    let p = walk-start x h es ee ea in
-    record { place = p .0; wide = w; right = r; done = []; split = p .1; lowered = lower-none row (λ i d q. absurd (List·Memᴰ·not-nil (q .wanted .member))) }
+pub seed-start : {g : ℕ → Group} {m : ℕ} {s : List ℕ} → Carries s (g m) → (row : List ℕ) → SeedAt g m row row s 0
+seed-start w row = record { place = w .place; done = []; split = w .records; lowered = lower-none row (λ i d q. absurd (List·Memᴰ·not-nil (q .wanted .member))) }
 
 -- an owner that one record makes a class want, where the record stands among others
 among : {g : ℕ → Group} {m : ℕ} {rs : Group} (rs′ : Group) {i x : ℕ} (q : ByRecords g m rs i x) → List·Memᴰ (q .wanted .bytes) rs′ → ByRecords g m rs′ i x
@@ -269,41 +268,50 @@ among rs′ q e =
     let w = q .wanted in
     record { lane = q .lane; below = q .below; entry = q .entry; wanted = record { bytes = w .bytes; member = e; uses = w .uses; owner = w .owner; lacking = w .lacking; within = w .within } }
 
-module _ {g : ℕ → Group} {m : ℕ} {marks row₀ row s : List ℕ} {end at : ℕ} (f : SeedAt g m marks row₀ row s end at) where
-  here : at < end → between s at end ≡ recordAt s at ∷ between s (at + u16 s at) end
+module _ {g : ℕ → Group} {m : ℕ} {row₀ row s : List ℕ} {at : ℕ} (f : SeedAt g m row₀ row s at) where
+  here : at < length s → between s at (length s) ≡ recordAt s at ∷ between s (at + u16 s at) (length s)
   unfolding recordAt
   here h = walk-here (f .place) h
 
-  member : at < end → List·Memᴰ (recordAt s at) (g m)
-  member h = subst (List·Memᴰ (recordAt s at)) (ap (λ (rs : Group). f .done ++ rs) (sym (here h)) ∙ f .split) (Memᴰ·append-right (f .done) (List·Memᴰ·head refl))
+  pub seed-member : at < length s → List·Memᴰ (recordAt s at) (g m)
+  seed-member h = subst (List·Memᴰ (recordAt s at)) (ap (λ (rs : Group). f .done ++ rs) (sym (here h)) ∙ f .split) (Memᴰ·append-right (f .done) (List·Memᴰ·head refl))
 
-  pub seed-here : at < end → OfRecord g m marks s at
-  seed-here h = record { sized = walk-sized (f .place) h; member = member h; right = f .right; wide = f .wide }
-
-  pub seed-next : {row′ : List ℕ} {l : ℕ} → at < end → Lowering (ByRecords g m (recordAt s at ∷ [])) row row′ → l ≡ u16 s at → SeedAt g m marks row₀ row′ s end (at + l)
-  seed-next h q el =
-      rw el
+  pub seed-next : {row′ row″ : List ℕ} {l : ℕ} → at < length s → Lowering (ByRecords g m (recordAt s at ∷ [])) row row′ → row″ ≡ row′ → l ≡ u16 s at → SeedAt g m row₀ row″ s (at + l)
+  seed-next h q er el =
+      rw (er, el)
       (record {
         place = walk-next (f .place) h;
-        wide = f .wide;
-        right = f .right;
         done = f .done ++ (recordAt s at ∷ []);
-        split = append-assoc (f .done) (recordAt s at ∷ []) (between s (at + u16 s at) end) ∙ ap (λ (rs : Group). f .done ++ rs) (sym (here h)) ∙ f .split;
+        split = append-assoc (f .done) (recordAt s at ∷ []) (between s (at + u16 s at) (length s)) ∙ ap (λ (rs : Group). f .done ++ rs) (sym (here h)) ∙ f .split;
         lowered = lower-then (f .lowered) q
             (λ i x y. ⊎-elim (λ a. inl (among (f .done) y a)) (λ a. inr (among (recordAt s at ∷ []) y a)) (List·Memᴰ·append-cases (f .done) (y .wanted .member)))
             (λ i x y. among (f .done ++ (recordAt s at ∷ [])) y (Memᴰ·append-left (recordAt s at ∷ []) (y .wanted .member)))
             (λ i x y. among (f .done ++ (recordAt s at ∷ [])) y (Memᴰ·append-right (f .done) (y .wanted .member)));
       })
 
-  pub seed-end : end ≤ at → Lowering (ByRecords g m (g m)) row₀ row
-  seed-end h = subst (λ (rs : Group). Lowering (ByRecords g m rs) row₀ row) (sym (append-nil (f .done)) ∙ ap (λ (rs : Group). f .done ++ rs) (sym (tiled-end s at end h)) ∙ f .split) (f .lowered)
+  pub seed-end : length s ≤ at → Lowering (ByRecords g m (g m)) row₀ row
+  seed-end h = subst (λ (rs : Group). Lowering (ByRecords g m rs) row₀ row) (sym (append-nil (f .done)) ∙ ap (λ (rs : Group). f .done ++ rs) (sym (tiled-end s at (length s) h)) ∙ f .split) (f .lowered)
+
+-- a class without USES wants nothing
+unused : {g : ℕ → Group} {m i x : ℕ} → length (ofKind USES (g m)) ≡ 0 → ByRecords g m (g m) i x → ⊥
+unfolding ofKind
+unused e q = empty e (mem-keep (isKind USES) (q .wanted .member) (q .wanted .uses))
+
+pub seed-none : (g : ℕ → Group) (m : ℕ) → length (ofKind USES (g m)) ≡ 0 → (row : List ℕ) → Lowering (ByRecords g m (g m)) row row
+seed-none g m e row = lower-none row (λ i d q. absurd (unused e q))
 
 -- ---- all classes
 
-module _ {g : ℕ → Group} where
-  pub all-start : (row : List ℕ) → Lowering (ByClasses g 0) row row
-  all-start row = lower-none row (λ i x q. absurd (not-suc-le-zero (q .below)))
+-- no library class uses a variable
+module _ {library user : List ℕ} {nlib n : ℕ} {starts : List ℕ} (x : Indexed library user nlib n starts) where
+  pub all-start : (row : List ℕ) → Lowering (ByClasses (group library user) nlib) row row
+  all-start row = lower-none row (λ i d q. absurd (unused (library-uses-none x (q .below)) (q .of)))
 
+  pub library-few : nlib ≤ n
+  unfolding total
+  library-few = omega (arith, x .nlib-is, x .n-is)
+
+module _ {g : ℕ → Group} where
   pub all-next : {m : ℕ} {row₀ row row′ : List ℕ} → Lowering (ByClasses g m) row₀ row → Lowering (ByRecords g m (g m)) row row′ → Lowering (ByClasses g (m + 1)) row₀ row′
   all-next {m} f h =
       lower-then f h

@@ -10,9 +10,7 @@ use lib.ListN.{length, getD}
 use Rattle.spec.specs.Record.{bit, isKind, LOCAL, USES, target, index, localTy}
 use Rattle.spec.specs.Sheet.{Group, ofKind}
 use Rattle.spec.specs.Classes.{satisfies}
-use Rattle.pass.specs.Pass.{recordAt}
-use Rattle.second.specs.Second.{Sized}
-use Rattle.lanes.specs.Lanes.{Inside, Enclosers}
+use Rattle.lanes.specs.Lanes.{Inside}
 use Rattle.reach.specs.Reach.{outerOf}
 use Rattle.captured.specs.Captured.{laneMarker}
 
@@ -39,13 +37,6 @@ pub record InLanes (marks : List ℕ) (markers lanes m d i x : ℕ) : Type 0 whe
   pub of : InLane markers lane m d i x
 
 -- ---- the variables that records use
-
--- a record of class m begins at a byte of the sheet s, and the row of marks holds the enclosers of m
-pub record OfRecord (g : ℕ → Group) (m : ℕ) (marks s : List ℕ) (at : ℕ) : Type 0 where
-  pub sized : Sized s at
-  pub member : List·Memᴰ (recordAt s at) (g m)
-  pub right : Enclosers (outerOf g) m marks
-  pub wide : length marks ≡ 256
 
 -- one of the records USES a variable of class d, its type lacks marker k, and class m lies inside d
 pub record Wanted (g : ℕ → Group) (k m : ℕ) (rs : Group) (d : ℕ) : Type 0 where

@@ -1,9 +1,6 @@
 // Captured variables: for each class and marker, whether it captures a variable whose type lacks the marker.
-use groups::group_end;
-use groups::group_start;
-use groups::nth_of;
-use groups::sheet_of;
-use groups::word_of;
+use groups::class_bytes;
+use groups::nth_in;
 use lanes::entry;
 use lanes::fill;
 use markers::has;
@@ -11,23 +8,22 @@ use overlay::type_markers;
 use reach::close;
 use reach::enclosers;
 use view::Cut;
+use view::word_in;
 ghost use mathlib.Core.Path.{_≡_};
 ghost use mathlib.Core.Option.{none};
-ghost use mathlib.Core.List.{[], _∷_};
+ghost use mathlib.Core.List.{[]};
 ghost use Prim.Native.Nat.{_^_, _≤_, _<_};
 ghost use lib.Dec.{ltb};
 ghost use lib.ListN.{length, getD};
 ghost use Rattle.spec.specs.Record.{LOCAL, localTy};
 ghost use Rattle.spec.specs.Sheet.{group as groupOf, ofKind};
 ghost use Rattle.spec.specs.Refusals.{formRefusal};
-ghost use Rattle.theory.specs.Claims.{sheetOf};
 ghost use Rattle.view.specs.View.{Fits, spliced};
-ghost use Rattle.pass.specs.Pass.{recordAt};
-ghost use Rattle.groups.specs.Groups.{Indexed};
+ghost use Rattle.groups.specs.Groups.{Carries, Indexed};
 ghost use Rattle.lanes.specs.Lanes.{entryAt};
 ghost use Rattle.overlay.specs.Types.{Known, typeMarkers};
 ghost use Rattle.captured.specs.Captured.{laneMarker, Captured};
-ghost use Rattle.captured.specs.Seeds.{Lowering, InLane, InLanes, OfRecord, ByRecords, ByClasses};
+ghost use Rattle.captured.specs.Seeds.{Lowering, InLane, InLanes, ByRecords, ByClasses};
 
 fn wide(x: u16) -> usize
     ensures { λ r. ⌜ (r ≡ x) × (r < 65536) ⌝ }
@@ -49,10 +45,10 @@ fn lane_set(k: usize) -> u8
 }
 
 // The markers that variable i of class d satisfies by its type.
-fn variable_markers(
-    library: &[u8],
-    user: &[u8],
-    group: &[u8],
+fn variable_markers<'a>(
+    library: &'a [u8],
+    user: &'a [u8],
+    group: &'a [u8],
     cut: Cut,
     starts: &[u16],
     nlib: usize,
@@ -61,15 +57,15 @@ fn variable_markers(
     d: usize,
     i: usize,
 ) -> u8
-    requires { ⌜ Fits cut (now user) ⌝ }
+    requires { ⌜ Fits cut (now user) (now group) ⌝ }
     requires { ⌜ Indexed (now library) (spliced (now user) (now group) cut) nlib n (now starts) ⌝ }
     requires { ⌜ Known (groupOf (now library) (spliced (now user) (now group) cut)) (now markers) ⌝ }
     requires { ⌜ (d < n) × (i < length (ofKind LOCAL (groupOf (now library) (spliced (now user) (now group) cut) d))) ⌝ }
     ensures { λ r. ⌜ r ≡ typeMarkers (groupOf (now (library .entry)) (spliced (now (user .entry)) (now (group .entry)) cut)) (localTy (getD (ofKind LOCAL (groupOf (now (library .entry)) (spliced (now (user .entry)) (now (group .entry)) cut) d)) i [])) ⌝ }
 {
-    let at = nth_of(library, user, group, cut, starts, nlib, n, d, 4, i);
-    let sheet = sheet_of(nlib, d);
-    type_markers(library, user, group, cut, sheet, at + 4, markers)
+    let bytes = class_bytes(library, user, group, cut, starts, nlib, n, d);
+    let at = nth_in(bytes, 4, i);
+    type_markers(bytes, at + 4, markers)
 }
 
 // Lane k of class m is lowered to the owner d if its marker is lacking.
@@ -101,44 +97,48 @@ fn offer(marks: &[u8], set: u8, m: usize, d: usize, row: &mut [u8])
     }
 }
 
-// What one record of class m uses.
-fn seed_record(
-    library: &[u8],
-    user: &[u8],
-    group: &[u8],
+// What the records of class m use, whose bytes these are.
+fn seed_records<'a>(
+    library: &'a [u8],
+    user: &'a [u8],
+    group: &'a [u8],
     cut: Cut,
     starts: &[u16],
     nlib: usize,
     n: usize,
     markers: &[u8],
-    marks: &[u8],
+    bytes: &[u8],
     m: usize,
-    sheet: u8,
-    at: usize,
     row: &mut [u8],
 )
-    requires { ⌜ Fits cut (now user) ⌝ }
+    requires { ⌜ Fits cut (now user) (now group) ⌝ }
     requires { ⌜ Indexed (now library) (spliced (now user) (now group) cut) nlib n (now starts) ⌝ }
     requires { ⌜ formRefusal (now library) (spliced (now user) (now group) cut) ≡ none ⌝ }
     requires { ⌜ Known (groupOf (now library) (spliced (now user) (now group) cut)) (now markers) ⌝ }
-    requires { ⌜ OfRecord (groupOf (now library) (spliced (now user) (now group) cut)) m (now marks) (sheetOf (now library) (spliced (now user) (now group) cut) sheet) at ⌝ }
+    requires { ⌜ Carries (now bytes) (groupOf (now library) (spliced (now user) (now group) cut) m) ⌝ }
     requires { ⌜ (m < n) × (768 ≤ length (now row)) ⌝ }
-    ensures { λ r. ⌜ Lowering (ByRecords (groupOf (now (library .entry)) (spliced (now (user .entry)) (now (group .entry)) cut)) m (recordAt (sheetOf (now (library .entry)) (spliced (now (user .entry)) (now (group .entry)) cut) sheet) at ∷ [])) (now (row .entry)) (now (row .exit)) ⌝ }
+    ensures { λ r. ⌜ Lowering (ByRecords (groupOf (now (library .entry)) (spliced (now (user .entry)) (now (group .entry)) cut)) m (groupOf (now (library .entry)) (spliced (now (user .entry)) (now (group .entry)) cut) m)) (now (row .entry)) (now (row .exit)) ⌝ }
 {
-    if word_of(library, user, group, cut, sheet, at + 2) != 5 {
-        return;
+    let mut marks = [0u8; 256];
+    enclosers(library, user, group, cut, starts, nlib, n, m, &mut marks);
+    let mut at = 0;
+    while at < bytes.len() {
+        let size = wide(word_in(bytes, at));
+        if word_in(bytes, at + 2) == 5 {
+            let d = wide(word_in(bytes, at + 4));
+            let i = wide(word_in(bytes, at + 6));
+            let set = variable_markers(library, user, group, cut, starts, nlib, n, markers, d, i);
+            offer(&marks, set, m, d, row);
+        }
+        at += size;
     }
-    let d = wide(word_of(library, user, group, cut, sheet, at + 4));
-    let i = wide(word_of(library, user, group, cut, sheet, at + 6));
-    let set = variable_markers(library, user, group, cut, starts, nlib, n, markers, d, i);
-    offer(marks, set, m, d, row);
 }
 
-// What class m itself uses.
-fn seed_class(
-    library: &[u8],
-    user: &[u8],
-    group: &[u8],
+// What class m itself uses. Most classes use nothing.
+fn seed_class<'a>(
+    library: &'a [u8],
+    user: &'a [u8],
+    group: &'a [u8],
     cut: Cut,
     starts: &[u16],
     nlib: usize,
@@ -147,43 +147,37 @@ fn seed_class(
     m: usize,
     row: &mut [u8],
 )
-    requires { ⌜ Fits cut (now user) ⌝ }
+    requires { ⌜ Fits cut (now user) (now group) ⌝ }
     requires { ⌜ Indexed (now library) (spliced (now user) (now group) cut) nlib n (now starts) ⌝ }
     requires { ⌜ formRefusal (now library) (spliced (now user) (now group) cut) ≡ none ⌝ }
     requires { ⌜ Known (groupOf (now library) (spliced (now user) (now group) cut)) (now markers) ⌝ }
     requires { ⌜ (m < n) × (768 ≤ length (now row)) ⌝ }
     ensures { λ r. ⌜ Lowering (ByRecords (groupOf (now (library .entry)) (spliced (now (user .entry)) (now (group .entry)) cut)) m (groupOf (now (library .entry)) (spliced (now (user .entry)) (now (group .entry)) cut) m)) (now (row .entry)) (now (row .exit)) ⌝ }
 {
-    let mut marks = [0u8; 256];
-    enclosers(library, user, group, cut, starts, nlib, n, m, &mut marks);
-    let sheet = sheet_of(nlib, m);
-    let end = group_end(library, user, group, cut, starts, nlib, n, m);
-    let mut at = group_start(library, user, group, cut, starts, nlib, n, m);
-    while at < end {
-        seed_record(
-            library,
-            user,
-            group,
-            cut,
-            starts,
-            nlib,
-            n,
-            markers,
-            &marks,
-            m,
-            sheet,
-            at,
-            row,
-        );
-        at += wide(word_of(library, user, group, cut, sheet, at));
+    let bytes = class_bytes(library, user, group, cut, starts, nlib, n, m);
+    if nth_in(bytes, 5, 0) == bytes.len() {
+        return;
     }
+    seed_records(
+        library,
+        user,
+        group,
+        cut,
+        starts,
+        nlib,
+        n,
+        markers,
+        bytes,
+        m,
+        row,
+    );
 }
 
-// What each class itself uses.
-fn seed(
-    library: &[u8],
-    user: &[u8],
-    group: &[u8],
+// What each class itself uses. No library class uses a variable.
+fn seed<'a>(
+    library: &'a [u8],
+    user: &'a [u8],
+    group: &'a [u8],
     cut: Cut,
     starts: &[u16],
     nlib: usize,
@@ -191,14 +185,14 @@ fn seed(
     markers: &[u8],
     row: &mut [u8],
 )
-    requires { ⌜ Fits cut (now user) ⌝ }
+    requires { ⌜ Fits cut (now user) (now group) ⌝ }
     requires { ⌜ Indexed (now library) (spliced (now user) (now group) cut) nlib n (now starts) ⌝ }
     requires { ⌜ formRefusal (now library) (spliced (now user) (now group) cut) ≡ none ⌝ }
     requires { ⌜ Known (groupOf (now library) (spliced (now user) (now group) cut)) (now markers) ⌝ }
     requires { ⌜ 768 ≤ length (now row) ⌝ }
     ensures { λ r. ⌜ Lowering (ByClasses (groupOf (now (library .entry)) (spliced (now (user .entry)) (now (group .entry)) cut)) n) (now (row .entry)) (now (row .exit)) ⌝ }
 {
-    let mut m = 0;
+    let mut m = nlib;
     while m < n {
         seed_class(library, user, group, cut, starts, nlib, n, markers, m, row);
         m += 1;
@@ -206,10 +200,10 @@ fn seed(
 }
 
 // Fills three lanes; the variables are found along BUILDS.
-pub fn captures(
-    library: &[u8],
-    user: &[u8],
-    group: &[u8],
+pub fn captures<'a>(
+    library: &'a [u8],
+    user: &'a [u8],
+    group: &'a [u8],
     cut: Cut,
     starts: &[u16],
     nlib: usize,
@@ -217,7 +211,7 @@ pub fn captures(
     markers: &[u8],
     row: &mut [u8],
 )
-    requires { ⌜ Fits cut (now user) ⌝ }
+    requires { ⌜ Fits cut (now user) (now group) ⌝ }
     requires { ⌜ Indexed (now library) (spliced (now user) (now group) cut) nlib n (now starts) ⌝ }
     requires { ⌜ formRefusal (now library) (spliced (now user) (now group) cut) ≡ none ⌝ }
     requires { ⌜ Known (groupOf (now library) (spliced (now user) (now group) cut)) (now markers) ⌝ }

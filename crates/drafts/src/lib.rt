@@ -22,9 +22,9 @@ fn room_of(lines: usize) -> usize
     lines
 }
 
-fn judge_in(
-    library: &[u8],
-    user: &[u8],
+fn judge_in<'a>(
+    library: &'a [u8],
+    user: &'a [u8],
     used: usize,
     lines: usize,
     row: &mut [u8],
@@ -42,7 +42,13 @@ fn judge_in(
 }
 
 // Judges for a row of `lines` verdicts.
-pub fn judge(library: &[u8], user: &[u8], used: usize, lines: usize, scratch: &mut [u8]) -> Judged
+pub fn judge<'a>(
+    library: &'a [u8],
+    user: &'a [u8],
+    used: usize,
+    lines: usize,
+    scratch: &mut [u8],
+) -> Judged
     ensures { λ r. ⌜ LeavesJudged (now (library .entry)) (now (user .entry)) used lines (now (scratch .entry)) (judgedAnswer r) (now (scratch .exit)) ⌝ }
 {
     let mut row = [255u8; 512];
@@ -59,11 +65,11 @@ pub fn judged_lines(answer: Judged, lines: usize) -> usize
     }
 }
 
-fn add_in(
-    library: &[u8],
+fn add_in<'a>(
+    library: &'a [u8],
     user: &mut [u8],
     used: &mut usize,
-    group: &[u8],
+    group: &'a [u8],
     lines: usize,
     row: &mut [u8],
     scratch: &mut [u8],
@@ -80,11 +86,11 @@ fn add_in(
 }
 
 // Adds for a row of `lines` verdicts.
-pub fn add(
-    library: &[u8],
+pub fn add<'a>(
+    library: &'a [u8],
     user: &mut [u8],
     used: &mut usize,
-    group: &[u8],
+    group: &'a [u8],
     lines: usize,
     scratch: &mut [u8],
 ) -> Added
@@ -104,12 +110,12 @@ pub fn added_lines(answer: Added, lines: usize) -> usize
     }
 }
 
-fn replace_in(
-    library: &[u8],
+fn replace_in<'a>(
+    library: &'a [u8],
     user: &mut [u8],
     used: &mut usize,
     class: usize,
-    group: &[u8],
+    group: &'a [u8],
     lines: usize,
     row: &mut [u8],
     scratch: &mut [u8],
@@ -126,12 +132,12 @@ fn replace_in(
 }
 
 // Replaces for a row of `lines` verdicts.
-pub fn replace(
-    library: &[u8],
+pub fn replace<'a>(
+    library: &'a [u8],
     user: &mut [u8],
     used: &mut usize,
     class: usize,
-    group: &[u8],
+    group: &'a [u8],
     lines: usize,
     scratch: &mut [u8],
 ) -> Replaced

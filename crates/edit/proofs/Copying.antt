@@ -5,8 +5,8 @@ use mathlib.Core.List.{List, [], _∷_, _++_, append-assoc}
 use Prim.Native.Nat.{ℕ, suc, _+_, _-_, _≤_, _<_}
 use native.Mathlib.Numerals.{add-one}
 use native.Mathlib.Omega.{arith}
-use lib.ListN.{length, take, drop, getD, set, length-drop, List·getD-append}
-use lib.Seq.{paste, paste-zero, paste-suc, length-paste, drop-paste, length-paste-head, length-take-le, take-suc, drop-cons, set-at, getD-take, getD-drop}
+use lib.ListN.{length, take, drop, getD, set, length-drop, take-append-drop, List·getD-append}
+use lib.Seq.{paste, take-add, paste-zero, paste-suc, length-paste, drop-paste, length-paste-head, length-take-le, take-suc, drop-cons, set-at, getD-take, getD-drop}
 
 -- ---- what stands before and after the bytes put in
 
@@ -103,3 +103,7 @@ module _ {d : List ℕ} {at : ℕ} {s : List ℕ} {n : ℕ} {b : List ℕ} {i : 
       let a : at + 0 ≡ at = omega arith in
       let z : n - 0 ≡ n = omega arith in
       c .now ∙ ap (λ (x : ℕ). paste d (at + x) (drop x s) (n - x)) e ∙ ap₂ (λ (x y : ℕ). paste d x s y) a z
+
+-- bytes that stay where they are
+pub paste-same : (d : List ℕ) {from to : ℕ} → from ≡ to → (n : ℕ) → d ≡ paste d to (drop from d) n
+paste-same d {from} {to} e n = sym (ap (λ (k : ℕ). paste d to (drop k d) n) e ∙ ap (λ (l : List ℕ). l ++ drop (to + n) d) (sym (take-add to n d)) ∙ take-append-drop (to + n) d)

@@ -37,7 +37,7 @@ past-sheet u end used = go (decLt used end)
         rw (z, a) (rw e at (past-zeros u used (end - used)))
     go (no h) = let e : end + (used - end) ≡ used = omega arith in rw e (rw e at (among-zeros u end (used - end)))
 
-module _ (u g : List ℕ) (cut : Cut) (f : Fits cut u) (room : length (spliced u g cut) ≤ length u) where
+module _ (u g : List ℕ) (cut : Cut) (f : Fits cut u g) (room : length (spliced u g cut) ≤ length u) where
   abbrev later : ℕ
   later = cut .from + length g
 

@@ -31,11 +31,14 @@ fn lower(buffer: &mut [u8], from: usize, to: usize, n: usize)
     }
 }
 
-// Moves n bytes from one place to another.
+// Moves n bytes from one place to another. A group of the old one's length moves nothing.
 fn shift(buffer: &mut [u8], from: usize, to: usize, n: usize)
     requires { ⌜ (from + n ≤ length (now buffer)) × (to + n ≤ length (now buffer)) ⌝ }
     ensures { λ r. ⌜ now (buffer .exit) ≡ paste (now (buffer .entry)) to (drop from (now (buffer .entry))) n ⌝ }
 {
+    if from == to {
+        return;
+    }
     if from < to {
         raise(buffer, from, to, n);
     } else {
@@ -69,7 +72,7 @@ pub fn clear(buffer: &mut [u8], from: usize, to: usize)
 
 // Makes the buffer hold the sheet that the cut and the group stand for.
 pub fn write(user: &mut [u8], group: &[u8], cut: Cut)
-    requires { ⌜ Fits cut (now user) ⌝ }
+    requires { ⌜ Fits cut (now user) (now group) ⌝ }
     requires { ⌜ length (spliced (now user) (now group) cut) ≤ length (now user) ⌝ }
     ensures { λ r. ⌜ now (user .exit) ≡ bufferWith (spliced (now (user .entry)) (now (group .entry)) cut) (now (user .entry)) (cut .used) ⌝ }
 {

@@ -118,9 +118,9 @@ fn say_judged(judged: Judged, row: &[u8], scratch: &[u8], expected: &[u8]) -> us
 }
 
 // The row is filled before it.
-pub(crate) fn judging(
-    library: &[u8],
-    user: &[u8],
+pub(crate) fn judging<'a>(
+    library: &'a [u8],
+    user: &'a [u8],
     used: usize,
     row: &mut [u8],
     row_lent: usize,

@@ -17,14 +17,14 @@ pub(crate) fn refused(text: &[u8], n: u8, sheet: u8, byte: usize) {
     number(b" byte ", byte);
 }
 
-fn say_marks(library: &[u8], user: &[u8], used: usize, class: usize) {
+fn say_marks<'a>(library: &'a [u8], user: &'a [u8], used: usize, class: usize) {
     match marks(library, user, used, class) {
         Marked::Fine(set) => number(b": markers ", set as usize),
         Marked::Refused(n, sheet, byte) => refused(b": ", n, sheet, byte),
     }
 }
 
-fn say_place(library: &[u8], user: &[u8], used: usize, class: usize) {
+fn say_place<'a>(library: &'a [u8], user: &'a [u8], used: usize, class: usize) {
     match name_place(library, user, used, class) {
         Placed::At(sheet, start, size) => {
             number(b"; name in sheet ", sheet as usize);

@@ -43,7 +43,13 @@ fn ask<'a>(library: &'a [u8], user: &'a [u8], case: Case, class: usize) {
     );
 }
 
-fn judged(library: &[u8], user: &[u8], expected: &[u8], row: &mut [u8], case: Case) -> usize {
+fn judged<'a>(
+    library: &'a [u8],
+    user: &'a [u8],
+    expected: &[u8],
+    row: &mut [u8],
+    case: Case,
+) -> usize {
     judging(
         start(library, case.library),
         start(user, case.user),
@@ -56,12 +62,18 @@ fn judged(library: &[u8], user: &[u8], expected: &[u8], row: &mut [u8], case: Ca
 }
 
 // A judging from nothing: its row is its own.
-fn judged_apart(library: &[u8], user: &[u8], expected: &[u8], case: Case) {
+fn judged_apart<'a>(library: &'a [u8], user: &'a [u8], expected: &[u8], case: Case) {
     let mut row = [KEPT; ROW];
     judged(library, user, expected, &mut row, case);
 }
 
-fn opened(library: &[u8], user: &[u8], expected: &[u8], row: &mut [u8], mut case: Case) -> Case {
+fn opened<'a>(
+    library: &'a [u8],
+    user: &'a [u8],
+    expected: &[u8],
+    row: &mut [u8],
+    mut case: Case,
+) -> Case {
     filled(row, KEPT);
     let lines = judged(library, user, expected, row, case);
     case.lines = lines;

@@ -92,11 +92,11 @@ fn is_refused(before: &[u8], after: &[u8], row_before: &[u8], row: &[u8], scratc
 }
 
 // Writes the answer; whether the call was accepted.
-fn add_said(
-    library: &[u8],
+fn add_said<'a>(
+    library: &'a [u8],
     user: &mut [u8],
     used: &mut usize,
-    group: &[u8],
+    group: &'a [u8],
     row: &mut [u8],
     scratch: &mut [u8],
 ) -> bool {
@@ -112,12 +112,12 @@ fn add_said(
     }
 }
 
-fn replace_said(
-    library: &[u8],
+fn replace_said<'a>(
+    library: &'a [u8],
     user: &mut [u8],
     used: &mut usize,
     class: usize,
-    group: &[u8],
+    group: &'a [u8],
     row: &mut [u8],
     scratch: &mut [u8],
 ) -> bool {

@@ -3,6 +3,9 @@ use captured::captures;
 use lanes::fill;
 use overlay::overlays;
 use rules::verdict_of;
+use survey::first_rule;
+use survey::passes;
+use survey::refused;
 use view::Cut;
 ghost use mathlib.Core.Path.{_≡_};
 ghost use mathlib.Core.Option.{none};
@@ -19,28 +22,34 @@ ghost use Rattle.groups.specs.Groups.{Indexed};
 ghost use Rattle.overlay.specs.Memo.{Right};
 ghost use Rattle.overlay.specs.Types.{Known};
 ghost use Rattle.captured.specs.Captured.{Shown};
+ghost use Rattle.survey.specs.Survey.{Passing, Refusing};
 ghost use Rattle.flat.specs.Row.{putIf, chosen, faultedIn, markedIn};
 
-// Writes the verdict of class c if its mark is 0.
-fn rewrite_class(
-    library: &[u8],
-    user: &[u8],
-    group: &[u8],
+// Writes the verdict of class c if its mark is 0. The walk of its rules starts at the lowest that it can break, so a clean class needs none.
+fn rewrite_class<'a>(
+    library: &'a [u8],
+    user: &'a [u8],
+    group: &'a [u8],
     cut: Cut,
     starts: &[u16],
     nlib: usize,
     n: usize,
     markers: &[u8],
     row: &[u8],
+    sets: &[u8],
+    banned: &[u8],
+    partial: &[u8],
     marks: &[u8],
     c: usize,
     verdicts: &mut [u8],
 )
-    requires { ⌜ Fits cut (now user) ⌝ }
+    requires { ⌜ Fits cut (now user) (now group) ⌝ }
     requires { ⌜ Indexed (now library) (spliced (now user) (now group) cut) nlib n (now starts) ⌝ }
     requires { ⌜ formRefusal (now library) (spliced (now user) (now group) cut) ≡ none ⌝ }
     requires { ⌜ Known (groupOf (now library) (spliced (now user) (now group) cut)) (now markers) ⌝ }
     requires { ⌜ Shown (groupOf (now library) (spliced (now user) (now group) cut)) n (now row) ⌝ }
+    requires { ⌜ Passing nlib n (groupOf (now library) (spliced (now user) (now group) cut)) (now sets) ⌝ }
+    requires { ⌜ Refusing nlib (groupOf (now library) (spliced (now user) (now group) cut)) (now banned) (now partial) nlib ⌝ }
     requires { ⌜ (256 ≤ length (now marks)) × (n - nlib ≤ flatLines (now verdicts)) ⌝ }
     requires { ⌜ (nlib ≤ c) × (c < n) ⌝ }
     ensures { λ r. ⌜ now (verdicts .exit) ≡ putIf (eqb (getD (now (marks .entry)) c 0) 0) (2 * (c - nlib)) (verdictOf nlib (groupOf (now (library .entry)) (spliced (now (user .entry)) (now (group .entry)) cut)) c) (now (verdicts .entry)) ⌝ }
@@ -48,31 +57,62 @@ fn rewrite_class(
     if marks[c] != 0 {
         return;
     }
-    let verdict = verdict_of(library, user, group, cut, starts, nlib, n, markers, row, c);
+    let first = first_rule(
+        library,
+        user,
+        group,
+        cut,
+        starts,
+        nlib,
+        n,
+        markers,
+        sets,
+        banned,
+        partial,
+        c,
+    );
+    let verdict = verdict_of(
+        library,
+        user,
+        group,
+        cut,
+        starts,
+        nlib,
+        n,
+        markers,
+        row,
+        c,
+        first,
+    );
     let at = 2 * (c - nlib);
     verdicts[at] = verdict.rule;
     verdicts[at + 1] = verdict.record;
 }
 
 // Writes the verdict of each user class whose mark is 0; every other verdict stays.
-pub fn rewrite(
-    library: &[u8],
-    user: &[u8],
-    group: &[u8],
+pub fn rewrite<'a>(
+    library: &'a [u8],
+    user: &'a [u8],
+    group: &'a [u8],
     cut: Cut,
     starts: &[u16],
     nlib: usize,
     n: usize,
     markers: &[u8],
     row: &[u8],
+    sets: &[u8],
+    banned: &[u8],
+    partial: &[u8],
     marks: &[u8],
     verdicts: &mut [u8],
 )
-    requires { ⌜ Fits cut (now user) ⌝ }
+    requires { ⌜ Fits cut (now user) (now group) ⌝ }
     requires { ⌜ Indexed (now library) (spliced (now user) (now group) cut) nlib n (now starts) ⌝ }
     requires { ⌜ formRefusal (now library) (spliced (now user) (now group) cut) ≡ none ⌝ }
     requires { ⌜ Known (groupOf (now library) (spliced (now user) (now group) cut)) (now markers) ⌝ }
     requires { ⌜ Shown (groupOf (now library) (spliced (now user) (now group) cut)) n (now row) ⌝ }
+    requires { ⌜ Passing nlib n (groupOf (now library) (spliced (now user) (now group) cut)) (now sets) ⌝ }
+    requires { ⌜ Refusing nlib (groupOf (now library) (spliced (now user) (now group) cut)) (now banned) (now partial) nlib ⌝ }
     requires { ⌜ (256 ≤ length (now marks)) × (n - nlib ≤ flatLines (now verdicts)) ⌝ }
     ensures { λ r. ⌜ now (verdicts .exit) ≡ flatRewritten (chosen nlib n (now (marks .entry))) (λ i. verdictOf nlib (groupOf (now (library .entry)) (spliced (now (user .entry)) (now (group .entry)) cut)) (nlib + i)) (now (verdicts .entry)) ⌝ }
 {
@@ -88,6 +128,9 @@ pub fn rewrite(
             n,
             markers,
             row,
+            sets,
+            banned,
+            partial,
             marks,
             c,
             verdicts,
@@ -97,10 +140,10 @@ pub fn rewrite(
 }
 
 // Judges each user class whose mark is 0, from nothing but the sheets; the scratch is left clean.
-pub fn rejudge(
-    library: &[u8],
-    user: &[u8],
-    group: &[u8],
+pub fn rejudge<'a>(
+    library: &'a [u8],
+    user: &'a [u8],
+    group: &'a [u8],
     cut: Cut,
     starts: &[u16],
     nlib: usize,
@@ -110,7 +153,7 @@ pub fn rejudge(
     verdicts: &mut [u8],
     scratch: &mut [u8],
 )
-    requires { ⌜ Fits cut (now user) ⌝ }
+    requires { ⌜ Fits cut (now user) (now group) ⌝ }
     requires { ⌜ Indexed (now library) (spliced (now user) (now group) cut) nlib n (now starts) ⌝ }
     requires { ⌜ formRefusal (now library) (spliced (now user) (now group) cut) ≡ none ⌝ }
     requires { ⌜ Right (groupOf (now library) (spliced (now user) (now group) cut)) (now memo) ⌝ }
@@ -142,6 +185,32 @@ pub fn rejudge(
         &markers,
         scratch,
     );
+    let mut sets = [0u8; 256];
+    passes(
+        library,
+        user,
+        group,
+        cut,
+        starts,
+        nlib,
+        n,
+        &markers,
+        scratch,
+        &mut sets,
+    );
+    let mut banned = [0u8; 256];
+    let mut partial = [0u8; 256];
+    refused(
+        library,
+        user,
+        group,
+        cut,
+        starts,
+        nlib,
+        n,
+        &mut banned,
+        &mut partial,
+    );
     rewrite(
         library,
         user,
@@ -152,6 +221,9 @@ pub fn rejudge(
         n,
         &markers,
         scratch,
+        &sets,
+        &banned,
+        &partial,
         marks,
         verdicts,
     );

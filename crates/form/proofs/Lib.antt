@@ -1,4 +1,5 @@
 pub mod Deeming
 pub mod Passes
+pub mod Parts
 pub mod DeemedRecords
 pub mod Accepting

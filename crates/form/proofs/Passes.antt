@@ -65,19 +65,14 @@ passes-parts library user =
     first-append (recordRefusal 0 0 library ∷ tornRefusal 0 library ∷ []) _
     ∙ keep-head _ _ _ (keep-head _ _ _ (first-append (recordRefusal 1 (classCount library) user ∷ tornRefusal 1 user ∷ []) []))
 
-pass-clear : (sheet n : ℕ) (s : List ℕ) → passRefusal sheet n s ≡ none → Clear sheet n s
+pub pass-clear : (sheet n : ℕ) (s : List ℕ) → passRefusal sheet n s ≡ none → Clear sheet n s
 unfolding passRefusal
 pass-clear sheet n s e = let q = first-none _ e in clear sheet n s (q .0) (q .1 .0)
 
 -- a pass of sheet s after n classes ended with p, and made `row` of `row₀`
 pub record Went (sheet n : ℕ) (s row₀ : List ℕ) (p : Pass) (row : List ℕ) : Type 0 where
   pub answer : p ≡ passOf (passRefusal sheet n s) (n + classCount s)
-  pub rows : Filled (passRefusal sheet n s) n s row₀ row
-
--- a whole slice is a sheet
-pub went-whole : (library : List ℕ) {row₀ row : List ℕ} {p : Pass} (s : List ℕ) → s ≡ library
-    → (p ≡ passOf (passRefusal 0 0 s) (0 + classCount s)) × Filled (passRefusal 0 0 s) 0 s row₀ row → Went 0 0 library row₀ p row
-went-whole library {row₀} {row} {p} s e h = subst (λ (x : List ℕ). Went 0 0 x row₀ p row) e (record { answer = h .0; rows = h .1 })
+  pub rows : Filled (passRefusal sheet n s) n 0 s row₀ row
 
 -- what is refused leaves nothing to say of the row
 refused-starts : {library user row : List ℕ} {r : Refusal} → length row ≡ 256 → passesRefusal library user ≡ some r → Starts library user row
@@ -149,23 +144,23 @@ module _ {library row₀ row : List ℕ} {p : Pass} (w : Went 0 0 library row₀
         user-passed : Clear 1 k user
         user-passed = pass-clear 1 k user second-none-found
 
-        row-is : row ≡ filled row₀ 0 library
+        row-is : row ≡ filled row₀ 0 0 library
         row-is = w .rows .rows first-none-found
 
-        last-is : row₂ ≡ filled row k user
+        last-is : row₂ ≡ filled row k 0 user
         last-is = w₂ .rows .rows second-none-found
 
         -- the second pass leaves the library's starts
         library-start : (c : ℕ) → c < k → getD row₂ c 0 ≡ groupStart library c
         library-start c h =
-            ap (λ (x : List ℕ). getD x c 0) last-is ∙ filled-below row k user c h ∙ ap (λ (x : List ℕ). getD x c 0) row-is
-            ∙ ap (λ (i : ℕ). getD (filled row₀ 0 library) i 0) (sym (zero-add c))
+            ap (λ (x : List ℕ). getD x c 0) last-is ∙ filled-below row k 0 user c h ∙ ap (λ (x : List ℕ). getD x c 0) row-is
+            ∙ ap (λ (i : ℕ). getD (filled row₀ 0 0 library) i 0) (sym (zero-add c))
             ∙ filled-start row₀ 0 library (library-passed .loose) (omega (arith, library-passed .few (omega arith), l)) c (omega (arith, first-count))
 
         user-start : (c : ℕ) → k ≤ c → c < n → getD row₂ c 0 ≡ groupStart user (c - k)
         user-start c h g =
             let i : k + (c - k) ≡ c = omega arith in
-            ap (λ (x : List ℕ). getD x c 0) last-is ∙ ap (λ (i : ℕ). getD (filled row k user) i 0) (sym i)
+            ap (λ (x : List ℕ). getD x c 0) last-is ∙ ap (λ (i : ℕ). getD (filled row k 0 user) i 0) (sym i)
             ∙ filled-start row k user (user-passed .loose) (omega (arith, user-passed .few first-few, first-long)) (c - k) (omega (arith, second-count))
 
         starts-right : (c : ℕ) → c < n → getD row₂ c 0 ≡ startOf library user c

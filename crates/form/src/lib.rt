@@ -5,16 +5,18 @@ use names::prints;
 use overlay::overlay;
 use pass::Pass;
 use pass::first_pass;
+use second::counts;
 use second::second_pass;
 use view::Cut;
 ghost use mathlib.Core.Path.{_≡_};
 ghost use mathlib.Core.Option.{none};
-ghost use Prim.Native.Nat.{_≤_};
+ghost use Prim.Native.Nat.{_+_, _≤_};
 ghost use lib.ListN.{length, take, replicate};
 ghost use Rattle.spec.specs.Sheet.{group as groupOf, classCount, total};
 ghost use Rattle.spec.specs.Refusals.{sheetRefusal, presentRefusal};
 ghost use Rattle.theory.proofs.Falls.{Falls};
 ghost use Rattle.view.specs.View.{Fits, spliced};
+ghost use Rattle.pass.specs.Pass.{passRefusal, passOf, Filled};
 ghost use Rattle.groups.specs.Groups.{Indexed};
 ghost use Rattle.overlay.specs.Memo.{Right};
 ghost use Rattle.form.specs.Form.{deemedBreaks, firstDeemed, passesRefusal, laterRefusal, Starts, Ready, checkedOf};
@@ -39,17 +41,17 @@ fn deemed_breaks(c: usize, m: u8) -> bool
 }
 
 // The first library class whose deemed markers are refused, or the number of library classes.
-fn deemed(
-    library: &[u8],
-    user: &[u8],
-    group: &[u8],
+fn deemed<'a>(
+    library: &'a [u8],
+    user: &'a [u8],
+    group: &'a [u8],
     cut: Cut,
     starts: &[u16],
     nlib: usize,
     n: usize,
     memo: &mut [u16],
 ) -> usize
-    requires { ⌜ Fits cut (now user) ⌝ }
+    requires { ⌜ Fits cut (now user) (now group) ⌝ }
     requires { ⌜ Indexed (now library) (spliced (now user) (now group) cut) nlib n (now starts) ⌝ }
     requires { ⌜ Falls (groupOf (now library) (spliced (now user) (now group) cut)) ⌝ }
     requires { ⌜ Right (groupOf (now library) (spliced (now user) (now group) cut)) (now memo) ⌝ }
@@ -67,21 +69,44 @@ fn deemed(
     nlib
 }
 
+// The first pass of a view, where `base` classes stand before it: of the bytes before the cut, of the group, then of the bytes after the cut. Each is a
+// plain slice.
+fn view_pass<'a>(user: &'a [u8], group: &'a [u8], cut: Cut, base: usize, starts: &mut [u16]) -> Pass
+    requires { ⌜ Fits cut (now user) (now group) ⌝ }
+    requires { ⌜ length (spliced (now user) (now group) cut) ≤ 32768 ⌝ }
+    requires { ⌜ (base ≤ 256) × (256 ≤ length (now starts)) ⌝ }
+    ensures answer { λ r. ⌜ r ≡ passOf (passRefusal 1 base (spliced (now (user .entry)) (now (group .entry)) cut)) (base + classCount (spliced (now (user .entry)) (now (group .entry)) cut)) ⌝ }
+    ensures starts { λ r. ⌜ Filled (passRefusal 1 base (spliced (now (user .entry)) (now (group .entry)) cut)) base 0 (spliced (now (user .entry)) (now (group .entry)) cut) (now (starts .entry)) (now (starts .exit)) ⌝ }
+{
+    let from = cut.from;
+    let to = cut.to;
+    let used = cut.used;
+    let before = first_pass(&user[0..from], 1, base, 0, starts);
+    let Pass::Fine(b) = before else {
+        return before;
+    };
+    let within = first_pass(group, 1, b, from, starts);
+    let Pass::Fine(c) = within else {
+        return within;
+    };
+    first_pass(&user[to..used], 1, c, from + group.len(), starts)
+}
+
 // The first pass of both sheets: the row of starts is filled. Refusals 2 to 7.
-fn both_passes(library: &[u8], user: &[u8], group: &[u8], cut: Cut, starts: &mut [u16]) -> Checked
-    requires { ⌜ Fits cut (now user) ⌝ }
+fn both_passes<'a>(
+    library: &'a [u8],
+    user: &'a [u8],
+    group: &'a [u8],
+    cut: Cut,
+    starts: &mut [u16],
+) -> Checked
+    requires { ⌜ Fits cut (now user) (now group) ⌝ }
     requires { ⌜ (length (now library) ≤ 32768) × (length (spliced (now user) (now group) cut) ≤ 32768) ⌝ }
     requires { ⌜ length (now starts) ≡ 256 ⌝ }
     ensures answer { λ r. ⌜ r ≡ checkedOf (passesRefusal (now (library .entry)) (spliced (now (user .entry)) (now (group .entry)) cut)) (classCount (now (library .entry))) (total (now (library .entry)) (spliced (now (user .entry)) (now (group .entry)) cut)) ⌝ }
     ensures starts { λ r. ⌜ Starts (now (library .entry)) (spliced (now (user .entry)) (now (group .entry)) cut) (now (starts .exit)) ⌝ }
 {
-    let size = library.len();
-    let all = Cut {
-        from: size,
-        to: size,
-        used: size,
-    };
-    let first = first_pass(library, &library[0..0], all, 0, 0, starts);
+    let first = first_pass(library, 0, 0, 0, starts);
     let nlib = match first {
         Pass::Fine(k) => k,
         Pass::Refused(number, byte) => {
@@ -89,9 +114,9 @@ fn both_passes(library: &[u8], user: &[u8], group: &[u8], cut: Cut, starts: &mut
         }
     };
     if nlib == 0 {
-        return Checked::Refused(7, 0, size);
+        return Checked::Refused(7, 0, library.len());
     }
-    let second = first_pass(user, group, cut, 1, nlib, starts);
+    let second = view_pass(user, group, cut, nlib, starts);
     match second {
         Pass::Fine(n) => Checked::Fine(nlib, n),
         Pass::Refused(number, byte) => Checked::Refused(number, 1, byte),
@@ -99,17 +124,17 @@ fn both_passes(library: &[u8], user: &[u8], group: &[u8], cut: Cut, starts: &mut
 }
 
 // The second pass of both sheets and the deemed markers: 9, 8, 10, 11.
-fn later(
-    library: &[u8],
-    user: &[u8],
-    group: &[u8],
+fn later<'a>(
+    library: &'a [u8],
+    user: &'a [u8],
+    group: &'a [u8],
     cut: Cut,
     starts: &[u16],
     nlib: usize,
     n: usize,
     memo: &mut [u16],
 ) -> Checked
-    requires { ⌜ Fits cut (now user) ⌝ }
+    requires { ⌜ Fits cut (now user) (now group) ⌝ }
     requires { ⌜ Indexed (now library) (spliced (now user) (now group) cut) nlib n (now starts) ⌝ }
     requires { ⌜ Right (groupOf (now library) (spliced (now user) (now group) cut)) (now memo) ⌝ }
     ensures answer { λ r. ⌜ r ≡ checkedOf (laterRefusal (now (library .entry)) (spliced (now (user .entry)) (now (group .entry)) cut)) nlib n ⌝ }
@@ -117,11 +142,13 @@ fn later(
 {
     let mut row = [0u16; 256];
     prints(library, user, group, cut, starts, nlib, n, &mut row);
-    let first = second_pass(library, user, group, cut, starts, nlib, n, &row, 0);
+    let mut tally = [0u8; 256];
+    counts(library, user, group, cut, starts, nlib, n, &mut tally);
+    let first = second_pass(library, user, group, cut, starts, nlib, n, &row, &tally, 0);
     if let Pass::Refused(number, byte) = first {
         return Checked::Refused(number, 0, byte);
     }
-    let second = second_pass(library, user, group, cut, starts, nlib, n, &row, 1);
+    let second = second_pass(library, user, group, cut, starts, nlib, n, &row, &tally, 1);
     if let Pass::Refused(number, byte) = second {
         return Checked::Refused(number, 1, byte);
     }
@@ -137,15 +164,15 @@ fn later(
 }
 
 // All of 2 to 11 of a library sheet and a view. Where nothing is refused, the row of starts and the memo of overlay markers are right.
-pub fn check(
-    library: &[u8],
-    user: &[u8],
-    group: &[u8],
+pub fn check<'a>(
+    library: &'a [u8],
+    user: &'a [u8],
+    group: &'a [u8],
     cut: Cut,
     starts: &mut [u16],
     memo: &mut [u16],
 ) -> Checked
-    requires { ⌜ Fits cut (now user) ⌝ }
+    requires { ⌜ Fits cut (now user) (now group) ⌝ }
     requires { ⌜ (length (now library) ≤ 32768) × (length (spliced (now user) (now group) cut) ≤ 32768) ⌝ }
     requires { ⌜ (length (now starts) ≡ 256) × (now memo ≡ replicate 256 65535) ⌝ }
     ensures answer { λ r. ⌜ r ≡ checkedOf (sheetRefusal (now (library .entry)) (spliced (now (user .entry)) (now (group .entry)) cut)) (classCount (now (library .entry))) (total (now (library .entry)) (spliced (now (user .entry)) (now (group .entry)) cut)) ⌝ }
@@ -159,9 +186,9 @@ pub fn check(
 }
 
 // All of 1 to 11 of the library sheet, the user buffer and its used length.
-pub fn present(
-    library: &[u8],
-    user: &[u8],
+pub fn present<'a>(
+    library: &'a [u8],
+    user: &'a [u8],
     used: usize,
     starts: &mut [u16],
     memo: &mut [u16],

@@ -72,6 +72,10 @@ tiled-step {s} {at} {end} h l = go (between s at end) (unfold between in records
         step s at end r rs (drop (end - at) (drop at s)) (w .0) (w .1) (omega arith) e
         (omega (arith, ap length e, length-append (r ++ concat rs) (drop (end - at) (drop at s)), length-drop at s, length-drop (end - at) (drop at s), h .within))
 
+-- length and kind of the record at hand can be read
+pub tiled-room : {s : List ℕ} {at end : ℕ} → Tiled s at end → at < end → at + 4 ≤ length s
+tiled-room h l = let t = tiled-step h l in omega (arith, t .0, t .1, h .within)
+
 -- ---- a walk that counts the records of a kind
 
 unfoldable pub oneIf : Bool → ℕ

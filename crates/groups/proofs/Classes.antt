@@ -4,10 +4,11 @@ use mathlib.Core.Path.{_≡_, refl, sym, ap, ap₂, _∙_, subst}
 use mathlib.Core.Bool.{not}
 use mathlib.Core.List.{List, [], _∷_, _++_, append-nil}
 use mathlib.Core.Logic.{_⊎_, inl, inr}
-use Prim.Native.Nat.{ℕ, suc, _+_, _-_, _*_, _≤_, _<_}
+use Prim.Native.Nat.{ℕ, suc, _+_, _-_, _≤_, _<_}
+use native.Mathlib.Nat.{add-zero}
 use native.Mathlib.Omega.{arith}
 use lib.Dec.{T, T-not, eqb, leb, ltb, eqb→eq, leb→le, ltb→lt, nltb→le}
-use lib.ListN.{length, getD, take, drop, length-append, List·getD-append, List·getD-eq-default}
+use lib.ListN.{length, getD, take, drop, length-append, List·getD-append}
 use lib.Seq.{take-suc, take-length, split-at, getD-append-add}
 use borrow.Author.Tests.{eq-eqb, ne-eqb, lt-ltb, le-ltb}
 use Rattle.spec.specs.Lists.{concat}
@@ -16,7 +17,7 @@ use Rattle.spec.specs.Sheet.{Group, recordsOf, splitGroups, groupsOf, classCoun
 use Rattle.theory.specs.Claims.{sheetOf}
 use Rattle.theory.proofs.All.{All, all-append, all-left, all-right, all-kept, weaken}
 use Rattle.theory.proofs.Bools.{decide, and-l, eq→eqb}
-use Rattle.theory.proofs.Parts.{part-length, part-byte, part-word}
+use Rattle.theory.proofs.Parts.{part-length, part-word}
 use Rattle.theory.proofs.Cut.{Whole, records-of-whole, concat-append, concat-concat, split-parts, sheet-grouped}
 use Rattle.theory.proofs.Accept.{Passed, by-class, Clear}
 use Rattle.theory.proofs.Form.{one-record, group-one-class}
@@ -91,17 +92,6 @@ module _ (library user : List ℕ) (sheet : ℕ) where
 
   pub user-sheet : (sheet ≡ 0 → ⊥) → sheetOf library user sheet ≡ user
   user-sheet ne = rw (ne-eqb sheet 0 ne, sheetOf)
-
-  -- a number of the library by its bytes; at the last byte the high one is 0
-  pub library-word : sheet ≡ 0 → (i : ℕ) {low high : ℕ} → low ≡ getD library i 0 → high ≡ getD library (i + 1) 0 → low + 256 * high ≡ u16 (sheetOf library user sheet) i
-  unfolding u16
-  library-word e i a b = rw (library-sheet e, a, b)
-
-  pub library-last : sheet ≡ 0 → (i : ℕ) → length library ≤ i + 1 → {low : ℕ} → low ≡ getD (sheetOf library user sheet) i 0 → low ≡ u16 (sheetOf library user sheet) i
-  unfolding u16
-  library-last e i h a =
-      let z : getD (sheetOf library user sheet) (i + 1) 0 ≡ 0 = ap (λ (s : List ℕ). getD s (i + 1) 0) (library-sheet e) ∙ List·getD-eq-default library 0 h in
-      omega (arith, a, z)
 
 -- both are short
 pub sheet-low : {library user : List ℕ} {nlib n : ℕ} {row : List ℕ} → Indexed library user nlib n row → (sheet : ℕ) → length (sheetOf library user sheet) ≤ 32768
@@ -198,11 +188,6 @@ module _ {library user : List ℕ} {nlib n : ℕ} {row : List ℕ} (x : Indexed 
   pub end-small : endOf library user c ≤ 32768
   end-small = omega (arith, group-tiled, sheet-low x (sheetNumber nlib c))
 
-  -- for a walk that has the sheet's number and both ends
-  pub group-walk : {sheet at end : ℕ} → sheet ≡ sheetNumber nlib c → at ≡ startOf library user c → end ≡ endOf library user c
-      → Tiled (sheetOf library user sheet) at end × (between (sheetOf library user sheet) at end ≡ group library user c)
-  group-walk es ea ee = rw (es, ea, ee) (group-tiled, group-between)
-
   -- ---- where the next group begins
 
   pub library-end : c + 1 ≡ nlib → endOf library user c ≡ length library
@@ -241,7 +226,7 @@ module _ {library user : List ℕ} {nlib n : ℕ} {row : List ℕ} (x : Indexed 
   pub class-low : startOf library user c + 13 ≤ 32768
   class-low = omega (arith, class-long, class-room, end-small)
 
-  class-there : startOf library user c < endOf library user c
+  pub class-there : startOf library user c < endOf library user c
   class-there = omega (arith, class-long, class-room)
 
   pub class-record : classRecord (group library user c)
@@ -255,16 +240,6 @@ module _ {library user : List ℕ} {nlib n : ℕ} {row : List ℕ} (x : Indexed 
       let at = startOf library user c in
       ap length class-record ∙ part-length s at (u16 s at) (omega (arith, tiled-step group-tiled class-there .1, group-tiled .within))
 
-  -- reads of it are reads of the sheet
-  pub class-byte : {sheet at : ℕ} → sheet ≡ sheetNumber nlib c → at ≡ startOf library user c → (j : ℕ) → j < length (classRecord (group library user c))
-      → getD (sheetOf library user sheet) (at + j) 0 ≡ getD (classRecord (group library user c)) j 0
-  class-byte es ea j l =
-      let s = sheetOf library user (sheetNumber nlib c) in
-      let start = startOf library user c in
-      ap₂ (λ (k i : ℕ). getD (sheetOf library user k) (i + j) 0) es ea
-      ∙ sym (part-byte s start (u16 s start) j (omega (arith, class-size)))
-      ∙ ap (λ (r : List ℕ). getD r j 0) (sym class-record)
-
   pub class-word : {sheet at : ℕ} → sheet ≡ sheetNumber nlib c → at ≡ startOf library user c → (j : ℕ) → j + 1 < length (classRecord (group library user c))
       → u16 (sheetOf library user sheet) (at + j) ≡ u16 (classRecord (group library user c)) j
   class-word es ea j l =
@@ -273,3 +248,9 @@ module _ {library user : List ℕ} {nlib n : ℕ} {row : List ℕ} (x : Indexed 
       ap₂ (λ (k i : ℕ). u16 (sheetOf library user k) (i + j)) es ea
       ∙ sym (part-word s start (u16 s start) j (omega (arith, class-size)))
       ∙ ap (λ (r : List ℕ). u16 r j) (sym class-record)
+
+  -- its own length stands first in it
+  pub size-read : {len : ℕ} → len ≡ u16 (classRecord (group library user c)) 0 → len ≡ length (classRecord (group library user c))
+  size-read e =
+      e ∙ sym (class-word refl refl 0 (omega (arith, class-long)))
+      ∙ ap (u16 (sheetOf library user (sheetNumber nlib c))) (add-zero (startOf library user c)) ∙ sym class-size

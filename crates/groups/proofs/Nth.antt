@@ -11,14 +11,13 @@ use lib.ListN.{length, getD, take, drop}
 use borrow.Author.Tests.{eq-eqb, ne-eqb}
 use Rattle.spec.specs.Lists.{keep}
 use Rattle.spec.specs.Record.{u16, isKind}
-use Rattle.spec.specs.Sheet.{Group, group, ofKind}
-use Rattle.theory.specs.Claims.{sheetOf}
+use Rattle.spec.specs.Sheet.{Group, ofKind}
 use Rattle.theory.proofs.Bools.{decide}
 use Rattle.theory.proofs.All.{keep-yes, keep-no}
 use Rattle.theory.proofs.Parts.{part-length, part-kind}
-use Rattle.groups.specs.Groups.{sheetNumber, startOf, endOf, between, nthByte, Indexed}
+use Rattle.groups.specs.Groups.{between, nthByte, AtRecord, Carries}
 use Rattle.groups.proofs.Between.{tiled-end}
-use Rattle.groups.proofs.Walks.{AtRecord, walk-start, walk-on, walk-here, walk-next}
+use Rattle.groups.proofs.Walks.{walk-on, walk-here, walk-next}
 
 -- ---- one step of the definition
 
@@ -44,12 +43,6 @@ size-is {s} {end} {at} w h = part-length s at (u16 s at) (omega (arith, walk-on 
 pub record Seeking (s : List ℕ) (kind end whole at left : ℕ) : Type 0 where
   pub place : AtRecord s end at
   pub rest : nthByte kind left at (between s at end) ≡ whole
-
-pub seek-start : {library user : List ℕ} {nlib n : ℕ} {row : List ℕ} → Indexed library user nlib n row → {c : ℕ} → c < n → {sheet end at : ℕ} → sheet ≡ sheetNumber nlib c → end ≡ endOf library user c
-    → at ≡ startOf library user c → (kind i : ℕ) → Seeking (sheetOf library user sheet) kind end (nthByte kind i (startOf library user c) (group library user c)) at i
-seek-start {library} {user} x {c} h {at = at} es ee ea kind i =
-    let w = walk-start x h es ee ea in
-    record { place = w .0; rest = ap (nthByte kind i at) (w .1) ∙ ap (λ (a : ℕ). nthByte kind i a (group library user c)) ea }
 
 pub seek-end : {s : List ℕ} {kind end whole at left : ℕ} → Seeking s kind end whole at left → end ≤ at → at ≡ whole
 unfolding nthByte
@@ -122,8 +115,6 @@ nth-stands kind [] at w e i h = absurd (unfold ofKind keep in omega arith)
 nth-stands kind (r ∷ rs) at w e i h = let n = next w r rs e in nth-step w r rs e kind i h (nth-stands kind rs (at + length r) (n .0) (n .1))
 
 -- number i of a kind, if there is one, stands at the answer
-pub nth-record : {library user : List ℕ} {nlib n : ℕ} {row : List ℕ} → Indexed library user nlib n row → {c : ℕ} → c < n → {sheet : ℕ} → sheet ≡ sheetNumber nlib c
-    → (kind i : ℕ) → i < length (ofKind kind (group library user c))
-    → Stands (sheetOf library user sheet) (endOf library user c) (getD (ofKind kind (group library user c)) i []) (nthByte kind i (startOf library user c) (group library user c))
-nth-record {library} {user} x {c} h es kind i k =
-    let w = walk-start x h es refl refl in nth-stands kind (group library user c) (startOf library user c) (w .0) (w .1) i k
+pub nth-record : {bytes : List ℕ} {h : Group} → Carries bytes h → (kind i : ℕ) → i < length (ofKind kind h)
+    → Stands bytes (length bytes) (getD (ofKind kind h) i []) (nthByte kind i 0 (between bytes 0 (length bytes)))
+nth-record {bytes} {h} w kind i k = rw (w .records) (nth-stands kind h 0 (w .place) (w .records) i k)

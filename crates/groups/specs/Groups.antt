@@ -4,11 +4,12 @@ use mathlib.Core.Path.{_≡_}
 use mathlib.Core.Bool.{true, false}
 use mathlib.Core.List.{List, [], _∷_}
 use Prim.Native.Nat.{ℕ, _+_, _-_, _≤_, _<_}
-use lib.Dec.{eqb, ltb}
+use lib.Dec.{T, eqb, ltb}
 use lib.ListN.{length, getD, take, drop}
 use Rattle.spec.specs.Lists.{concat}
-use Rattle.spec.specs.Record.{isKind}
+use Rattle.spec.specs.Record.{isKind, lengthFits}
 use Rattle.spec.specs.Sheet.{Group, recordsOf, wholeEnd, classCount, total, group, groupStart}
+use Rattle.theory.proofs.All.{All}
 use Rattle.theory.proofs.Accept.{Clear}
 
 -- the sheet that holds class c: 0 library, 1 user
@@ -31,6 +32,17 @@ pub record Tiled (s : List ℕ) (at end : ℕ) : Type 0 where
   pub ordered : at ≤ end
   pub within : end ≤ length s
   pub whole : wholeEnd (take (end - at) (drop at s)) ≡ end - at
+
+-- the bytes from `at` up to `end` are whole records of lengths that their kinds can have
+pub record AtRecord (s : List ℕ) (end at : ℕ) : Type 0 where
+  pub tiled : Tiled s at end
+  pub small : end ≤ 32768
+  pub sizes : All (λ r. T (lengthFits r)) (between s at end)
+
+-- bytes that are the records of a group end to end
+pub record Carries (bytes : List ℕ) (h : Group) : Type 0 where
+  pub place : AtRecord bytes (length bytes) 0
+  pub records : between bytes 0 (length bytes) ≡ h
 
 -- both sheets passed the first pass, and the row holds the start of each group
 pub record Indexed (library user : List ℕ) (nlib n : ℕ) (row : List ℕ) : Type 0 where

@@ -1,56 +1,19 @@
 // A class's group, found by the row of starts in whichever sheet holds it, and read a record at a time.
 use view::Cut;
-use view::byte_at;
 use view::view_len;
-use view::word_at;
+use view::word_in;
 ghost use mathlib.Core.Path.{_≡_};
-ghost use Prim.Native.Nat.{_+_, _≤_, _<_};
-ghost use lib.ListN.{length, getD};
-ghost use Rattle.spec.specs.Record.{u16, ownMarkers as ownMarkersOf};
+ghost use Prim.Native.Nat.{_+_, _<_};
+ghost use lib.ListN.{length};
+ghost use Rattle.spec.specs.Record.{u16};
 ghost use Rattle.spec.specs.Sheet.{group as groupOf, ofKind, classRecord};
-ghost use Rattle.theory.specs.Claims.{sheetOf};
 ghost use Rattle.view.specs.View.{Fits, spliced};
-ghost use Rattle.groups.specs.Groups.{sheetNumber, startOf, endOf, nthByte, Indexed};
+ghost use Rattle.groups.specs.Groups.{sheetNumber, startOf, endOf, between, AtRecord, Carries, nthByte, Indexed};
 
 fn wide(x: u16) -> usize
     ensures { λ r. ⌜ (r ≡ x) × (r < 65536) ⌝ }
 {
     x as usize
-}
-
-// The byte at i of a sheet (0 library, else user), 0 past its end.
-pub fn byte_of(library: &[u8], user: &[u8], group: &[u8], cut: Cut, sheet: u8, i: usize) -> u8
-    requires { ⌜ Fits cut (now user) ⌝ }
-    ensures { λ r. ⌜ r ≡ getD (sheetOf (now (library .entry)) (spliced (now (user .entry)) (now (group .entry)) cut) sheet) i 0 ⌝ }
-{
-    if sheet == 0 {
-        if i < library.len() {
-            return library[i];
-        }
-        return 0;
-    }
-    byte_at(user, group, cut, i)
-}
-
-fn byte_wide(x: u8) -> u16
-    ensures { λ r. ⌜ (r ≡ x) × (r < 256) ⌝ }
-{
-    x as u16
-}
-
-// The little-endian number at i of a sheet.
-pub fn word_of(library: &[u8], user: &[u8], group: &[u8], cut: Cut, sheet: u8, i: usize) -> u16
-    requires { ⌜ Fits cut (now user) ⌝ }
-    requires { ⌜ i < 65536 ⌝ }
-    ensures { λ r. ⌜ r ≡ u16 (sheetOf (now (library .entry)) (spliced (now (user .entry)) (now (group .entry)) cut) sheet) i ⌝ }
-{
-    if sheet != 0 {
-        return word_at(user, group, cut, i);
-    }
-    if i + 1 < library.len() {
-        return byte_wide(library[i]) + 256 * byte_wide(library[i + 1]);
-    }
-    byte_wide(byte_of(library, user, group, cut, sheet, i))
 }
 
 // The sheet that holds class c.
@@ -61,17 +24,17 @@ pub fn sheet_of(nlib: usize, c: usize) -> u8
 }
 
 // The byte where the group of class c begins in its sheet.
-pub fn group_start(
-    library: &[u8],
-    user: &[u8],
-    group: &[u8],
+pub fn group_start<'a>(
+    library: &'a [u8],
+    user: &'a [u8],
+    group: &'a [u8],
     cut: Cut,
     starts: &[u16],
     nlib: usize,
     n: usize,
     c: usize,
 ) -> usize
-    requires { ⌜ Fits cut (now user) ⌝ }
+    requires { ⌜ Fits cut (now user) (now group) ⌝ }
     requires { ⌜ Indexed (now library) (spliced (now user) (now group) cut) nlib n (now starts) ⌝ }
     requires { ⌜ c < n ⌝ }
     ensures { λ r. ⌜ r ≡ startOf (now (library .entry)) (spliced (now (user .entry)) (now (group .entry)) cut) c ⌝ }
@@ -80,17 +43,17 @@ pub fn group_start(
 }
 
 // The byte after it.
-pub fn group_end(
-    library: &[u8],
-    user: &[u8],
-    group: &[u8],
+pub fn group_end<'a>(
+    library: &'a [u8],
+    user: &'a [u8],
+    group: &'a [u8],
     cut: Cut,
     starts: &[u16],
     nlib: usize,
     n: usize,
     c: usize,
 ) -> usize
-    requires { ⌜ Fits cut (now user) ⌝ }
+    requires { ⌜ Fits cut (now user) (now group) ⌝ }
     requires { ⌜ Indexed (now library) (spliced (now user) (now group) cut) nlib n (now starts) ⌝ }
     requires { ⌜ c < n ⌝ }
     ensures { λ r. ⌜ r ≡ endOf (now (library .entry)) (spliced (now (user .entry)) (now (group .entry)) cut) c ⌝ }
@@ -105,41 +68,81 @@ pub fn group_end(
     wide(starts[next])
 }
 
-// How many records of a kind the group of class c has.
-pub fn count_of(
-    library: &[u8],
-    user: &[u8],
-    group: &[u8],
+// The bytes of class c. They lie in one slice: no group stands across a cut.
+pub fn class_bytes<'a>(
+    library: &'a [u8],
+    user: &'a [u8],
+    group: &'a [u8],
     cut: Cut,
     starts: &[u16],
     nlib: usize,
     n: usize,
     c: usize,
-    kind: u16,
-) -> usize
-    requires { ⌜ Fits cut (now user) ⌝ }
+) -> &'a [u8]
+    requires { ⌜ Fits cut (now user) (now group) ⌝ }
     requires { ⌜ Indexed (now library) (spliced (now user) (now group) cut) nlib n (now starts) ⌝ }
     requires { ⌜ c < n ⌝ }
-    ensures { λ r. ⌜ r ≡ length (ofKind kind (groupOf (now (library .entry)) (spliced (now (user .entry)) (now (group .entry)) cut) c)) ⌝ }
+    ensures { λ r. ⌜ Carries (now r) (groupOf (now (library .entry)) (spliced (now (user .entry)) (now (group .entry)) cut) c) ⌝ }
 {
-    let sheet = sheet_of(nlib, c);
+    let start = group_start(library, user, group, cut, starts, nlib, n, c);
     let end = group_end(library, user, group, cut, starts, nlib, n, c);
-    let mut at = group_start(library, user, group, cut, starts, nlib, n, c);
+    if c < nlib {
+        return &library[start..end];
+    }
+    let from = cut.from;
+    if start < from {
+        return &user[start..end];
+    }
+    let k = start - from;
+    if k < group.len() {
+        return group;
+    }
+    let to = cut.to;
+    let at = to + (k - group.len());
+    let after = at + (end - start);
+    &user[at..after]
+}
+
+// How many records of a kind those bytes are.
+pub fn count_in(bytes: &[u8], kind: u16) -> usize
+    requires { ⌜ AtRecord (now bytes) (length (now bytes)) 0 ⌝ }
+    ensures { λ r. ⌜ r ≡ length (ofKind kind (between (now (bytes .entry)) 0 (length (now (bytes .entry))))) ⌝ }
+{
+    let mut at = 0;
     let mut m = 0;
-    while at < end {
-        if word_of(library, user, group, cut, sheet, at + 2) == kind {
+    while at < bytes.len() {
+        if word_in(bytes, at + 2) == kind {
             m += 1;
         }
-        at += wide(word_of(library, user, group, cut, sheet, at));
+        at += wide(word_in(bytes, at));
     }
     m
 }
 
+// Where number i of a kind begins in those bytes; their end if there is none.
+pub fn nth_in(bytes: &[u8], kind: u16, i: usize) -> usize
+    requires { ⌜ AtRecord (now bytes) (length (now bytes)) 0 ⌝ }
+    ensures { λ r. ⌜ r ≡ nthByte kind i 0 (between (now (bytes .entry)) 0 (length (now (bytes .entry)))) ⌝ }
+{
+    let mut at = 0;
+    let mut left = i;
+    while at < bytes.len() {
+        if word_in(bytes, at + 2) == kind {
+            if left == 0 {
+                return at;
+            }
+            left -= 1;
+        }
+        at += wide(word_in(bytes, at));
+    }
+    at
+}
+
 // The number at byte j of the CLASS record of class c: 4 flags, 8 superclass, 10 encloser.
-pub fn class_word(
-    library: &[u8],
-    user: &[u8],
-    group: &[u8],
+pub fn class_word<'a>(
+    library: &'a [u8],
+    user: &'a [u8],
+    group: &'a [u8],
     cut: Cut,
     starts: &[u16],
     nlib: usize,
@@ -147,65 +150,11 @@ pub fn class_word(
     c: usize,
     j: usize,
 ) -> u16
-    requires { ⌜ Fits cut (now user) ⌝ }
+    requires { ⌜ Fits cut (now user) (now group) ⌝ }
     requires { ⌜ Indexed (now library) (spliced (now user) (now group) cut) nlib n (now starts) ⌝ }
     requires { ⌜ (c < n) × (j < 12) ⌝ }
     ensures { λ r. ⌜ r ≡ u16 (classRecord (groupOf (now (library .entry)) (spliced (now (user .entry)) (now (group .entry)) cut) c)) j ⌝ }
 {
-    let at = group_start(library, user, group, cut, starts, nlib, n, c);
-    word_of(library, user, group, cut, sheet_of(nlib, c), at + j)
-}
-
-// The own markers of class c.
-pub fn own_markers(
-    library: &[u8],
-    user: &[u8],
-    group: &[u8],
-    cut: Cut,
-    starts: &[u16],
-    nlib: usize,
-    n: usize,
-    c: usize,
-) -> u8
-    requires { ⌜ Fits cut (now user) ⌝ }
-    requires { ⌜ Indexed (now library) (spliced (now user) (now group) cut) nlib n (now starts) ⌝ }
-    requires { ⌜ c < n ⌝ }
-    ensures { λ r. ⌜ r ≡ ownMarkersOf (classRecord (groupOf (now (library .entry)) (spliced (now (user .entry)) (now (group .entry)) cut) c)) ⌝ }
-{
-    let at = group_start(library, user, group, cut, starts, nlib, n, c);
-    byte_of(library, user, group, cut, sheet_of(nlib, c), at + 6)
-}
-
-// The byte where number i of a kind begins in the group of class c; the group's end if there is none.
-pub fn nth_of(
-    library: &[u8],
-    user: &[u8],
-    group: &[u8],
-    cut: Cut,
-    starts: &[u16],
-    nlib: usize,
-    n: usize,
-    c: usize,
-    kind: u16,
-    i: usize,
-) -> usize
-    requires { ⌜ Fits cut (now user) ⌝ }
-    requires { ⌜ Indexed (now library) (spliced (now user) (now group) cut) nlib n (now starts) ⌝ }
-    requires { ⌜ c < n ⌝ }
-    ensures { λ r. ⌜ r ≡ nthByte kind i (startOf (now (library .entry)) (spliced (now (user .entry)) (now (group .entry)) cut) c) (groupOf (now (library .entry)) (spliced (now (user .entry)) (now (group .entry)) cut) c) ⌝ }
-{
-    let sheet = sheet_of(nlib, c);
-    let end = group_end(library, user, group, cut, starts, nlib, n, c);
-    let mut at = group_start(library, user, group, cut, starts, nlib, n, c);
-    let mut left = i;
-    while at < end {
-        if word_of(library, user, group, cut, sheet, at + 2) == kind {
-            if left == 0 {
-                return at;
-            }
-            left -= 1;
-        }
-        at += wide(word_of(library, user, group, cut, sheet, at));
-    }
-    at
+    let bytes = class_bytes(library, user, group, cut, starts, nlib, n, c);
+    word_in(bytes, j)
 }

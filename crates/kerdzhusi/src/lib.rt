@@ -28,9 +28,9 @@ fn refusal(number: u8, sheet: u8, byte: usize) -> Reply
 }
 
 #[no_mangle]
-pub extern "C" fn kz_judge(
-    library: &[u8],
-    user: &[u8],
+pub extern "C" fn kz_judge<'a>(
+    library: &'a [u8],
+    user: &'a [u8],
     used: usize,
     verdicts: &mut [u8],
     scratch: &mut [u8],
@@ -48,11 +48,11 @@ pub extern "C" fn kz_judge(
 }
 
 #[no_mangle]
-pub extern "C" fn kz_add(
-    library: &[u8],
+pub extern "C" fn kz_add<'a>(
+    library: &'a [u8],
     user: &mut [u8],
     used: &mut usize,
-    group: &[u8],
+    group: &'a [u8],
     verdicts: &mut [u8],
     scratch: &mut [u8],
 ) -> Reply
@@ -69,12 +69,12 @@ pub extern "C" fn kz_add(
 }
 
 #[no_mangle]
-pub extern "C" fn kz_replace(
-    library: &[u8],
+pub extern "C" fn kz_replace<'a>(
+    library: &'a [u8],
     user: &mut [u8],
     used: &mut usize,
     class: usize,
-    group: &[u8],
+    group: &'a [u8],
     verdicts: &mut [u8],
     scratch: &mut [u8],
 ) -> Reply
@@ -91,7 +91,7 @@ pub extern "C" fn kz_replace(
 }
 
 #[no_mangle]
-pub extern "C" fn kz_name(library: &[u8], user: &[u8], used: usize, class: usize) -> Reply
+pub extern "C" fn kz_name<'a>(library: &'a [u8], user: &'a [u8], used: usize, class: usize) -> Reply
     ensures { λ r. ⌜ Replies partValue (λ a. Places (now (library .entry)) (now (user .entry)) used class a) r ⌝ }
 {
     let answer = verifier::name_place(library, user, used, class);
@@ -105,7 +105,12 @@ pub extern "C" fn kz_name(library: &[u8], user: &[u8], used: usize, class: usize
 }
 
 #[no_mangle]
-pub extern "C" fn kz_marks(library: &[u8], user: &[u8], used: usize, class: usize) -> Reply
+pub extern "C" fn kz_marks<'a>(
+    library: &'a [u8],
+    user: &'a [u8],
+    used: usize,
+    class: usize,
+) -> Reply
     ensures { λ r. ⌜ Replies plainValue (λ a. Marks (now (library .entry)) (now (user .entry)) used class a) r ⌝ }
 {
     let answer = verifier::marks(library, user, used, class);

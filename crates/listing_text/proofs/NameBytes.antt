@@ -18,7 +18,7 @@ use Rattle.theory.proofs.Parts.{part-rest}
 use Rattle.view.specs.View.{spliced}
 use Rattle.view.proofs.Splice.{plain}
 use Rattle.groups.specs.Groups.{Indexed, sheetNumber, startOf}
-use Rattle.groups.proofs.Classes.{group-lengths, user-number, user-sheet, class-record, class-size, class-long, class-room, group-tiled, end-small}
+use Rattle.groups.proofs.Classes.{group-lengths, user-number, user-sheet, class-record, class-size, size-read, class-long, class-room, group-tiled, end-small}
 
 -- ---- a CLASS record is no longer than twelve bytes and a name of 100
 
@@ -58,18 +58,15 @@ module _ {library : List ℕ} (user : List ℕ) (used : ℕ) {nlib n : ℕ} {row
   start-is : {at : ℕ} → at ≡ startOf library (spliced user [] (record { from = used; to = used; used = used })) c → at ≡ startOf library (take used user) c
   start-is e = e ∙ ap (λ (s : List ℕ). startOf library s c) (plain user used)
 
-  pub start-low : {at : ℕ} → at ≡ startOf library (spliced user [] (record { from = used; to = used; used = used })) c → at < 65536
-  start-low e = omega (arith, start-is e, class-room x h, end-small x h)
-
   pub name-at : {at size : ℕ} → used ≤ length user → at ≡ startOf library (spliced user [] (record { from = used; to = used; used = used })) c
-      → size ≡ u16 (sheetOf library (spliced user [] (record { from = used; to = used; used = used })) 1) at → NameAt library user used c at size
+      → size ≡ u16 (classRecord (group library (spliced user [] (record { from = used; to = used; used = used })) c)) 0 → NameAt library user used c at size
   unfolding className
   name-at {at} {size} there ea es =
       let s = take used user in
       let r = classRecord (group library s c) in
       let a : at ≡ startOf library s c = start-is ea in
-      let z : size ≡ u16 s at = es ∙ ap (λ (k : List ℕ). u16 (sheetOf library k 1) at) (plain user used) ∙ ap (λ (k : List ℕ). u16 k at) (user-sheet library s 1 (omega arith)) in
-      let e : size ≡ length r = z ∙ rw a (sym (class-size x h ∙ ap (λ (k : List ℕ). u16 k (startOf library s c)) user-held)) in
+      let e : size ≡ length r = size-read x h (es ∙ ap (λ (k : List ℕ). u16 (classRecord (group library k c)) 0) (plain user used)) in
+      let z : size ≡ u16 s at = e ∙ class-size x h ∙ ap (λ (k : List ℕ). u16 k (startOf library s c)) user-held ∙ ap (u16 s) (sym a) in
       let whole : r ≡ take size (drop at s) = class-record x h ∙ rw (user-held, ← a, ← z) in
       let room : at + size ≤ length s = omega (arith, a, e, class-room x h, group-tiled x h .within, ap length user-held) in
       let inside : at + size ≤ used = omega (arith, room, length-take used user) in

@@ -1,8 +1,8 @@
 // The listing of two sheets as text in a lent buffer.
 use form::Checked;
 use form::present;
+use groups::class_word;
 use groups::group_start;
-use groups::word_of;
 use text::put;
 use text::put_number;
 use text::put_part;
@@ -80,9 +80,9 @@ fn put_verdict(out: &mut [u8], at: usize, rule: usize, place: usize) -> usize
 }
 
 // The line of the i-th user class: number, name, rule, place.
-fn class_line(
-    library: &[u8],
-    user: &[u8],
+fn class_line<'a>(
+    library: &'a [u8],
+    user: &'a [u8],
     used: usize,
     starts: &[u16],
     nlib: usize,
@@ -106,7 +106,7 @@ fn class_line(
     let none = &library[0..0];
     let class = nlib + i;
     let start = group_start(library, user, none, cut, starts, nlib, n, class);
-    let size = word_of(library, user, none, cut, 1, start);
+    let size = class_word(library, user, none, cut, starts, nlib, n, class, 0);
     let end = start + wide_word(size);
     let rule = wide(verdicts[2 * i]);
     let place = wide(verdicts[2 * i + 1]);
@@ -118,9 +118,9 @@ fn class_line(
 }
 
 // The lines of all user classes.
-fn class_lines(
-    library: &[u8],
-    user: &[u8],
+fn class_lines<'a>(
+    library: &'a [u8],
+    user: &'a [u8],
     used: usize,
     starts: &[u16],
     nlib: usize,
@@ -145,9 +145,9 @@ fn class_lines(
 }
 
 // The lines of all user classes of accepted sheets: their starts are found anew.
-fn accepted_lines(
-    library: &[u8],
-    user: &[u8],
+fn accepted_lines<'a>(
+    library: &'a [u8],
+    user: &'a [u8],
     used: usize,
     verdicts: &[u8],
     out: &mut [u8],
@@ -168,9 +168,9 @@ fn accepted_lines(
 }
 
 // Judges the sheets and writes the listing from the buffer's start, as far as it fits; answers how long the listing is.
-pub fn listing_text(
-    library: &[u8],
-    user: &[u8],
+pub fn listing_text<'a>(
+    library: &'a [u8],
+    user: &'a [u8],
     used: usize,
     scratch: &mut [u8],
     out: &mut [u8],

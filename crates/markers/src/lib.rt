@@ -1,7 +1,9 @@
-// Sets of markers: the closure as a table, unions, and which sets clash.
+// Sets of markers: the closure as a table, unions, intersections, and which sets clash.
 ghost use mathlib.Core.Path.{_≡_};
-ghost use Prim.Native.Nat.{_/_, _%_, _<_};
+ghost use mathlib.Core.Bool.{_&&_};
+ghost use Prim.Native.Nat.{ℕ, _/_, _%_, _<_};
 ghost use lib.Dec.{eqb};
+ghost use Rattle.spec.specs.Record.{bit};
 ghost use Rattle.spec.specs.Markers.{closure as closureOf, union as unionOf, clash as clashOf};
 
 // For each set the least closed set that holds it.
@@ -276,6 +278,13 @@ pub fn union(a: u8, b: u8) -> u8
     ensures { λ r. ⌜ r ≡ unionOf a b ⌝ }
 {
     a | b
+}
+
+// The markers that both sets have.
+pub fn common(a: u8, b: u8) -> u8
+    ensures { λ r. ⌜ ((k : ℕ) → bit k r ≡ (bit k a && bit k b)) ⌝ }
+{
+    a & b
 }
 
 // Powerless with Token, Selfless with Equatable.

@@ -1,65 +1,90 @@
--- The fingerprint of the name of a record, made byte by byte where the record stands in its sheet.
+-- The fingerprint of the name in the record that comes first, made byte by byte; and the bytes of a class, which begin so.
 -- Assumes nothing.
-use mathlib.Core.Path.{_≡_, refl, sym, ap, ap₂, _∙_}
+use mathlib.Core.Path.{_≡_, refl, sym, ap, _∙_}
+use mathlib.Core.Bool.{not}
+use mathlib.Core.Logic.{_⊎_, inl, inr}
 use mathlib.Core.List.{List}
 use Prim.Native.Nat.{ℕ, _+_, _≤_, _<_}
 use native.Mathlib.Numerals.{add-one}
 use native.Mathlib.Omega.{arith}
-use lib.ListN.{length, getD, drop, length-take, drop-of-length-le}
-use lib.Seq.{drop-cons}
+use lib.Dec.{T, ltb, ltb→lt, nltb→le}
+use lib.ListN.{length, getD, drop, drop-of-length-le}
+use lib.Seq.{drop-cons, length-take-le, getD-take}
 use Rattle.spec.specs.Record.{u16, className}
-use Rattle.spec.specs.Sheet.{group, classRecord}
-use Rattle.theory.specs.Claims.{sheetOf}
-use Rattle.theory.proofs.Parts.{part-byte}
+use Rattle.spec.specs.Sheet.{Group, group, classRecord}
+use Rattle.theory.proofs.Bools.{decide}
 use Rattle.pass.specs.Pass.{recordAt}
-use Rattle.groups.specs.Groups.{sheetNumber, startOf, Indexed}
-use Rattle.groups.proofs.Classes.{class-record, class-room, class-size, end-small}
-use Rattle.names.specs.Names.{printWith, printFrom, printOf}
+use Rattle.groups.specs.Groups.{between, Carries, Indexed}
+use Rattle.groups.proofs.Between.{tiled-end, tiled-step}
+use Rattle.groups.proofs.Classes.{class-long}
+use Rattle.names.specs.Names.{printWith, printFrom, printOf, Opens}
+
+-- ---- the record that comes first
+
+module _ {bytes : List ℕ} (o : Opens bytes) where
+  pub first-length : length (recordAt bytes 0) ≡ u16 bytes 0
+  unfolding recordAt
+  first-length = length-take-le (u16 bytes 0) bytes (o .within)
+
+  pub first-byte : (j : ℕ) → j < u16 bytes 0 → getD (recordAt bytes 0) j 0 ≡ getD bytes j 0
+  unfolding recordAt
+  first-byte j h = getD-take (u16 bytes 0) bytes j 0 h
 
 -- ---- byte by byte
 
-record-byte : (s : List ℕ) (at j : ℕ) → j < length (recordAt s at) → getD (recordAt s at) j 0 ≡ getD s (at + j) 0
-unfolding recordAt
-record-byte s at j h = part-byte s at (u16 s at) j (omega (arith, length-take (u16 s at) (drop at s)))
-
 -- `print` is that of the name's bytes before j
-pub record Printing (s : List ℕ) (at len print j : ℕ) : Type 0 where
-  pub long : len ≡ length (recordAt s at)
-  pub rest : printFrom print (drop j (recordAt s at)) ≡ printOf (className (recordAt s at))
+pub record Printing (bytes : List ℕ) (len print j : ℕ) : Type 0 where
+  pub opens : Opens bytes
+  pub long : len ≡ u16 bytes 0
+  pub rest : printFrom print (drop j (recordAt bytes 0)) ≡ printOf (className (recordAt bytes 0))
 
-pub prints-start : {s : List ℕ} {at len : ℕ} → len ≡ length (recordAt s at) → Printing s at len 0 12
+-- `w` is the length that stands there, and `len` the same as a wide number
+pub prints-start : {bytes : List ℕ} → Opens bytes → {len w : ℕ} → len ≡ w → w ≡ u16 bytes 0 → Printing bytes len 0 12
 unfolding printOf className
-prints-start e = record { long = e; rest = refl }
+prints-start o el ew = record { opens = o; long = el ∙ ew; rest = refl }
 
-module _ {s : List ℕ} {at len print j : ℕ} (w : Printing s at len print j) where
-  pub prints-on : j < len → {b p : ℕ} → b ≡ getD s (at + j) 0 → p ≡ printWith print b → Printing s at len p (j + 1)
+module _ {bytes : List ℕ} {len print j : ℕ} (w : Printing bytes len print j) where
+  length-is : length (recordAt bytes 0) ≡ len
+  length-is = first-length (w .opens) ∙ sym (w .long)
+
+  pub prints-room : j < len → j < length bytes
+  prints-room h = omega (arith, w .long, w .opens .within)
+
+  pub prints-on : j < len → {p : ℕ} → p ≡ printWith print (getD bytes j 0) → Printing bytes len p (j + 1)
   unfolding printFrom
-  prints-on h eb ep =
-      let l : j < length (recordAt s at) = omega (arith, w .long) in
-      record { long = w .long; rest = rw (ep, eb, ← record-byte s at j l, add-one j) (rw (drop-cons (recordAt s at) j 0 l) at (w .rest)) }
+  prints-on h ep =
+      let l : j < length (recordAt bytes 0) = omega (arith, length-is) in
+      let k : j < u16 bytes 0 = omega (arith, w .long) in
+      record { opens = w .opens; long = w .long; rest = rw (ep, ← first-byte (w .opens) j k, add-one j) (rw (drop-cons (recordAt bytes 0) j 0 l) at (w .rest)) }
 
-  pub printed : len ≤ j → print ≡ printOf (className (recordAt s at))
+  pub printed : len ≤ j → print ≡ printOf (className (recordAt bytes 0))
   unfolding printFrom
-  printed h = let l : length (recordAt s at) ≤ j = omega (arith, w .long) in rw (drop-of-length-le (recordAt s at) l) at (w .rest)
+  printed h = let l : length (recordAt bytes 0) ≤ j = omega (arith, length-is) in rw (drop-of-length-le (recordAt bytes 0) l) at (w .rest)
 
--- ---- the CLASS record of a class, by the numbers that the code read
+-- ---- the bytes of a class
 
-module _ {library user : List ℕ} {nlib n : ℕ} {row : List ℕ} (x : Indexed library user nlib n row) {c : ℕ} (h : c < n)
-    {sheet at : ℕ} (es : sheet ≡ sheetNumber nlib c) (ea : at ≡ startOf library user c) where
-  pub class-there : recordAt (sheetOf library user sheet) at ≡ classRecord (group library user c)
+no-records : (bytes : List ℕ) {h : Group} → between bytes 0 (length bytes) ≡ h → length bytes ≤ 0 → length (classRecord h) ≡ 0
+unfolding classRecord
+no-records bytes e l = ap (λ (g : Group). length (classRecord g)) (sym e ∙ tiled-end bytes 0 (length bytes) l)
+
+module _ {library user : List ℕ} {nlib n : ℕ} {row : List ℕ} (x : Indexed library user nlib n row) {c : ℕ} (h : c < n) {bytes : List ℕ} (k : Carries bytes (group library user c)) where
+  some : 0 < length bytes
+  some = go (decide (ltb 0 (length bytes)))
+    where
+      go : T (ltb 0 (length bytes)) ⊎ T (not (ltb 0 (length bytes))) → 0 < length bytes
+      go (inl t) = ltb→lt 0 (length bytes) t
+      go (inr t) = absurd (omega (arith, class-long x h, no-records bytes (k .records) (nltb→le 0 (length bytes) t)))
+
+  -- its CLASS record comes first
+  pub class-first : recordAt bytes 0 ≡ classRecord (group library user c)
+  unfolding recordAt classRecord
+  class-first = sym (ap classRecord (sym (k .records) ∙ tiled-step (k .place .tiled) some .2))
+
+  pub class-opens : Opens bytes
   unfolding recordAt
-  class-there = rw (es, ea) (sym (class-record x h))
+  class-opens =
+      let w : u16 bytes 0 ≤ length bytes = omega (arith, tiled-step (k .place .tiled) some .1) in
+      record { long = omega (arith, class-long x h, ap length class-first, length-take-le (u16 bytes 0) bytes w); within = w }
 
-  pub class-printed : {p : ℕ} → p ≡ printOf (className (recordAt (sheetOf library user sheet) at)) → p ≡ printOf (className (classRecord (group library user c)))
-  class-printed e = e ∙ ap (λ (r : List ℕ). printOf (className r)) class-there
-
-  -- `w` is the length that stands there, and `v` the same as a wide number
-  module _ {v w : ℕ} (ev : v ≡ w) (ew : w ≡ u16 (sheetOf library user sheet) at) where
-    pub own-length : v ≡ length (classRecord (group library user c))
-    own-length = ev ∙ ew ∙ ap₂ (λ (k i : ℕ). u16 (sheetOf library user k) i) es ea ∙ sym (class-size x h)
-
-    pub length-there : v ≡ length (recordAt (sheetOf library user sheet) at)
-    length-there = own-length ∙ ap length (sym class-there)
-
-    pub ends-low : at + v ≤ 32768
-    ends-low = omega (arith, own-length, class-room x h, end-small x h)
+  pub class-printed : {p : ℕ} → p ≡ printOf (className (recordAt bytes 0)) → p ≡ printOf (className (classRecord (group library user c)))
+  class-printed e = e ∙ ap (λ (r : List ℕ). printOf (className r)) class-first

@@ -1,20 +1,17 @@
 // Fingerprints of class names: whether a name is new is asked of a row of numbers.
-use groups::byte_of;
-use groups::group_start;
-use groups::sheet_of;
-use groups::word_of;
+use groups::class_bytes;
 use view::Cut;
+use view::word_in;
 ghost use mathlib.Core.Path.{_≡_};
-ghost use Prim.Native.Nat.{_+_, _≤_, _<_};
+ghost use Prim.Native.Nat.{_≤_, _<_};
 ghost use lib.ListN.{length, take};
 ghost use Rattle.spec.specs.Lists.{elem};
 ghost use Rattle.spec.specs.Record.{className};
 ghost use Rattle.spec.specs.Sheet.{group as groupOf, classRecord};
-ghost use Rattle.theory.specs.Claims.{sheetOf};
 ghost use Rattle.view.specs.View.{Fits, spliced};
 ghost use Rattle.pass.specs.Pass.{recordAt};
 ghost use Rattle.groups.specs.Groups.{Indexed};
-ghost use Rattle.names.specs.Names.{printWith, printOf, Printed};
+ghost use Rattle.names.specs.Names.{printWith, printOf, Opens, Printed};
 
 fn wide(x: u16) -> usize
     ensures { λ r. ⌜ (r ≡ x) × (r < 65536) ⌝ }
@@ -29,64 +26,52 @@ fn print_with(print: u16, byte: u8) -> u16
     ((31 * (print as u32) + (byte as u32)) % 65536) as u16
 }
 
-// The fingerprint of the name of the CLASS record at `at` of a sheet.
-pub fn print_at(
-    library: &[u8],
-    user: &[u8],
-    group: &[u8],
-    cut: Cut,
-    sheet: u8,
-    at: usize,
-    len: usize,
-) -> u16
-    requires { ⌜ Fits cut (now user) ⌝ }
-    requires { ⌜ at + len ≤ 32768 ⌝ }
-    requires { ⌜ len ≡ length (recordAt (sheetOf (now library) (spliced (now user) (now group) cut) sheet) at) ⌝ }
-    ensures { λ r. ⌜ r ≡ printOf (className (recordAt (sheetOf (now (library .entry)) (spliced (now (user .entry)) (now (group .entry)) cut) sheet) at)) ⌝ }
+// The fingerprint of the name in the CLASS record that comes first.
+fn print_in(bytes: &[u8]) -> u16
+    requires { ⌜ Opens (now bytes) ⌝ }
+    ensures { λ r. ⌜ r ≡ printOf (className (recordAt (now (bytes .entry)) 0)) ⌝ }
 {
+    let len = wide(word_in(bytes, 0));
     let mut print = 0;
     let mut j = 12;
     while j < len {
-        print = print_with(print, byte_of(library, user, group, cut, sheet, at + j));
+        print = print_with(print, bytes[j]);
         j += 1;
     }
     print
 }
 
 // The fingerprint of the name of class c.
-fn class_print(
-    library: &[u8],
-    user: &[u8],
-    group: &[u8],
+fn class_print<'a>(
+    library: &'a [u8],
+    user: &'a [u8],
+    group: &'a [u8],
     cut: Cut,
     starts: &[u16],
     nlib: usize,
     n: usize,
     c: usize,
 ) -> u16
-    requires { ⌜ Fits cut (now user) ⌝ }
+    requires { ⌜ Fits cut (now user) (now group) ⌝ }
     requires { ⌜ Indexed (now library) (spliced (now user) (now group) cut) nlib n (now starts) ⌝ }
     requires { ⌜ c < n ⌝ }
     ensures { λ r. ⌜ r ≡ printOf (className (classRecord (groupOf (now (library .entry)) (spliced (now (user .entry)) (now (group .entry)) cut) c))) ⌝ }
 {
-    let sheet = sheet_of(nlib, c);
-    let at = group_start(library, user, group, cut, starts, nlib, n, c);
-    let len = wide(word_of(library, user, group, cut, sheet, at));
-    print_at(library, user, group, cut, sheet, at, len)
+    print_in(class_bytes(library, user, group, cut, starts, nlib, n, c))
 }
 
 // Fills a row with the fingerprint of each class.
-pub fn prints(
-    library: &[u8],
-    user: &[u8],
-    group: &[u8],
+pub fn prints<'a>(
+    library: &'a [u8],
+    user: &'a [u8],
+    group: &'a [u8],
     cut: Cut,
     starts: &[u16],
     nlib: usize,
     n: usize,
     row: &mut [u16],
 )
-    requires { ⌜ Fits cut (now user) ⌝ }
+    requires { ⌜ Fits cut (now user) (now group) ⌝ }
     requires { ⌜ Indexed (now library) (spliced (now user) (now group) cut) nlib n (now starts) ⌝ }
     requires { ⌜ n ≤ length (now row) ⌝ }
     ensures { λ r. ⌜ Printed (groupOf (now (library .entry)) (spliced (now (user .entry)) (now (group .entry)) cut)) n (now (row .exit)) ⌝ }

@@ -23,7 +23,7 @@ use Rattle.theory.proofs.Closure.{bit-zero}
 use Rattle.groups.specs.Groups.{Indexed}
 use Rattle.groups.proofs.Few.{group-past}
 use Rattle.overlay.specs.Memo.{Right}
-use Rattle.overlay.specs.Types.{Known, typeMarkers}
+use Rattle.overlay.specs.Types.{Known, markersBy, typeMarkers, rowMarkers}
 use Rattle.overlay.proofs.Unions.{union-zero}
 
 -- ---- a class that is not there
@@ -67,18 +67,23 @@ fill-end {library} {user} x {row = row} {c} f h = record { long = f .long; is = 
 
 -- ---- the markers of a type
 
-module _ (g : ℕ → Group) (s : List ℕ) (i : ℕ) where
-  pub type-array : {d : ℕ} → d ≡ getD s i 0 → (d ≡ 0 → ⊥) → 0 ≡ typeMarkers g (tyAt s i)
-  unfolding typeMarkers tyAt u8
-  type-array ed n = rw (ne-eqb (getD s i 0) 0 (λ q. n (ed ∙ q)), typeMarkers)
+module _ (row s : List ℕ) (i : ℕ) where
+  pub type-array : (getD s i 0 ≡ 0 → ⊥) → 0 ≡ rowMarkers row (tyAt s i)
+  unfolding rowMarkers markersBy tyAt u8
+  type-array n = rw (ne-eqb (getD s i 0) 0 n, markersBy)
 
-  pub type-primitive : {d p : ℕ} → d ≡ getD s i 0 → d ≡ 0 → p ≡ getD s (i + 1) 0 → (p ≡ 0 → ⊥) → 255 ≡ typeMarkers g (tyAt s i)
-  unfolding typeMarkers tyAt u8
-  type-primitive ed z ep n = rw (eq-eqb (getD s i 0) 0 (sym ed ∙ z), ne-eqb (getD s (i + 1) 0) 0 (λ q. n (ep ∙ q)), typeMarkers)
+  pub type-primitive : getD s i 0 ≡ 0 → (getD s (i + 1) 0 ≡ 0 → ⊥) → 255 ≡ rowMarkers row (tyAt s i)
+  unfolding rowMarkers markersBy tyAt u8
+  type-primitive z n = rw (eq-eqb (getD s i 0) 0 z, ne-eqb (getD s (i + 1) 0) 0 n, markersBy)
 
-  pub type-class : {d p : ℕ} → d ≡ getD s i 0 → d ≡ 0 → p ≡ getD s (i + 1) 0 → p ≡ 0 → {row : List ℕ} → Known g row → {c m : ℕ} → c ≡ u16 s (i + 2) → m ≡ getD row c 0 → m ≡ typeMarkers g (tyAt s i)
-  unfolding typeMarkers tyAt u8
-  type-class ed z ep y k {c} ec em = rw (eq-eqb (getD s i 0) 0 (sym ed ∙ z), eq-eqb (getD s (i + 1) 0) 0 (sym ep ∙ y), typeMarkers) (em ∙ k .is c ∙ ap (overlay g) ec)
+  pub type-class : getD s i 0 ≡ 0 → getD s (i + 1) 0 ≡ 0 → {c m : ℕ} → c ≡ u16 s (i + 2) → m ≡ getD row c 0 → m ≡ rowMarkers row (tyAt s i)
+  unfolding rowMarkers markersBy tyAt u8
+  type-class z y {c} ec em = rw (eq-eqb (getD s i 0) 0 z, eq-eqb (getD s (i + 1) 0) 0 y, markersBy) (em ∙ ap (λ (k : ℕ). getD row k 0) ec)
+
+-- a right row tells the markers of a type
+pub row-markers : {g : ℕ → Group} {row : List ℕ} → Known g row → (t : Ty) → rowMarkers row t ≡ typeMarkers g t
+unfolding rowMarkers typeMarkers
+row-markers k t = ap (λ (f : ℕ → ℕ). markersBy f t) (λ i c. k .is c i)
 
 -- ---- a type satisfies the markers that it has
 
@@ -91,7 +96,7 @@ and-true true = refl
 and-true false = refl
 
 pub satisfies-bit : (g : ℕ → Group) (k : ℕ) (t : Ty) → k < 8 → satisfies g k t ≡ bit k (typeMarkers g t)
-unfolding satisfies typeMarkers tyReferences all hasMarker
+unfolding satisfies typeMarkers markersBy tyReferences all hasMarker
 satisfies-bit g k t h = go (eqb (t .dims) 0) (eqb (t .code) 0)
   where
     go : (a b : Bool) → (a && all (hasMarker g k) (elim b as (λ (y : Bool). List ℕ) [ true ↦ t .class ∷ [] | false ↦ [] ]))

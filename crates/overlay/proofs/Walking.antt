@@ -10,38 +10,34 @@ use lib.ListN.{length, take, drop}
 use borrow.Author.Tests.{eq-eqb, ne-eqb}
 use Rattle.spec.specs.Lists.{keep}
 use Rattle.spec.specs.Record.{u16, kind, isKind, IMPLEMENTS, target, lengthFits}
-use Rattle.spec.specs.Sheet.{Group, group, ofKind}
+use Rattle.spec.specs.Sheet.{Group, ofKind}
 use Rattle.spec.specs.Markers.{union, unionAll}
 use Rattle.spec.specs.Classes.{targets}
-use Rattle.theory.specs.Claims.{sheetOf}
 use Rattle.theory.proofs.Bools.{true-t}
 use Rattle.theory.proofs.All.{keep-yes, keep-no}
 use Rattle.theory.proofs.Parts.{part-length, part-word, part-kind}
 use Rattle.theory.proofs.References.{by-kind}
-use Rattle.groups.specs.Groups.{sheetNumber, startOf, endOf, between, Indexed}
+use Rattle.groups.specs.Groups.{between, AtRecord, Carries}
 use Rattle.groups.proofs.Between.{tiled-end}
-use Rattle.groups.proofs.Walks.{AtRecord, walk-start, walk-on, walk-here, size-here, walk-next}
+use Rattle.groups.proofs.Walks.{walk-on, walk-here, size-here, walk-next}
 use Rattle.overlay.specs.Memo.{lowerRaw, withInterfaces, Right}
 use Rattle.overlay.proofs.Unions.{union-assoc, union-zero}
 
 -- at a record of the group: the set so far, joined with what the interfaces from here on give, is the whole
-pub record Walking (g : ℕ → Group) (c mine : ℕ) (s memo : List ℕ) (end at m : ℕ) : Type 0 where
-  pub place : AtRecord s end at
-  pub rest : union m (unionAll (map (lowerRaw g c) (targets IMPLEMENTS (between s at end)))) ≡ withInterfaces g c mine
+pub record Walking (g : ℕ → Group) (c mine : ℕ) (s memo : List ℕ) (at m : ℕ) : Type 0 where
+  pub place : AtRecord s (length s) at
+  pub rest : union m (unionAll (map (lowerRaw g c) (targets IMPLEMENTS (between s at (length s))))) ≡ withInterfaces g c mine
   pub right : Right g memo
 
-pub walk-begin : {library user : List ℕ} {nlib n : ℕ} {row : List ℕ} → Indexed library user nlib n row → {c : ℕ} → c < n → (mine : ℕ) {memo : List ℕ} {sheet end at : ℕ}
-    → sheet ≡ sheetNumber nlib c → end ≡ endOf library user c → at ≡ startOf library user c → Right (group library user) memo
-    → Walking (group library user) c mine (sheetOf library user sheet) memo end at mine
+pub walk-begin : (g : ℕ → Group) {c : ℕ} (mine : ℕ) {s memo : List ℕ} → Carries s (g c) → Right g memo → Walking g c mine s memo 0 mine
 unfolding withInterfaces
-walk-begin {library} {user} x {c} h mine es ee ea r =
-    let w = walk-start x h es ee ea in
-    record { place = w .0; rest = ap (λ (rs : List (List ℕ)). union mine (unionAll (map (lowerRaw (group library user) c) (targets IMPLEMENTS rs)))) (w .1); right = r }
+walk-begin g {c} mine w r =
+    record { place = w .place; rest = ap (λ (rs : List (List ℕ)). union mine (unionAll (map (lowerRaw g c) (targets IMPLEMENTS rs)))) (w .records); right = r }
 
-pub walk-end : {g : ℕ → Group} {c mine : ℕ} {s memo : List ℕ} {end at m : ℕ} → Walking g c mine s memo end at m → end ≤ at → m ≡ withInterfaces g c mine
+pub walk-end : {g : ℕ → Group} {c mine : ℕ} {s memo : List ℕ} {at m : ℕ} → Walking g c mine s memo at m → length s ≤ at → m ≡ withInterfaces g c mine
 unfolding targets ofKind keep unionAll
-walk-end {g} {c} {mine} {s} {end = end} {at} {m} w h =
-    sym (union-zero m) ∙ sym (ap (λ (rs : List (List ℕ)). union m (unionAll (map (lowerRaw g c) (targets IMPLEMENTS rs)))) (tiled-end s at end h)) ∙ w .rest
+walk-end {g} {c} {mine} {s} {at = at} {m} w h =
+    sym (union-zero m) ∙ sym (ap (λ (rs : List (List ℕ)). union m (unionAll (map (lowerRaw g c) (targets IMPLEMENTS rs)))) (tiled-end s at (length s) h)) ∙ w .rest
 
 -- what a record adds to the interfaces
 targets-implements : (r : List ℕ) (rs : List (List ℕ)) → isKind IMPLEMENTS r ≡ true → targets IMPLEMENTS (r ∷ rs) ≡ target r ∷ targets IMPLEMENTS rs
@@ -56,26 +52,34 @@ six : (r : List ℕ) → T (isKind IMPLEMENTS r) → T (lengthFits r) → length
 unfolding lengthFits
 six r t h = eqb→eq (length r) 6 (subst T (by-kind r false _ IMPLEMENTS t) h)
 
-module _ {g : ℕ → Group} {c mine : ℕ} {s memo : List ℕ} {end at m : ℕ} (w : Walking g c mine s memo end at m) (h : at < end) where
+module _ {g : ℕ → Group} {c mine : ℕ} {s memo : List ℕ} {at m : ℕ} (w : Walking g c mine s memo at m) (h : at < length s) where
   abbrev record-here : List ℕ
   record-here = take (u16 s at) (drop at s)
 
   kind-here : kind record-here ≡ u16 s (at + 2)
   kind-here = part-kind s at (u16 s at) (walk-on (w .place) h .0)
 
-  rest-here : union m (unionAll (map (lowerRaw g c) (targets IMPLEMENTS (record-here ∷ between s (at + u16 s at) end)))) ≡ withInterfaces g c mine
+  rest-here : union m (unionAll (map (lowerRaw g c) (targets IMPLEMENTS (record-here ∷ between s (at + u16 s at) (length s))))) ≡ withInterfaces g c mine
   rest-here = sym (ap (λ (rs : List (List ℕ)). union m (unionAll (map (lowerRaw g c) (targets IMPLEMENTS rs)))) (walk-here (w .place) h)) ∙ w .rest
 
-  -- an IMPLEMENTS record, whose class is asked
+  -- an IMPLEMENTS record has six bytes
+  six-here : {k : ℕ} → k ≡ u16 s (at + 2) → k ≡ 2 → u16 s at ≡ 6
+  six-here ek e =
+      let t = true-t (eq-eqb _ _ (kind-here ∙ sym ek ∙ e)) in
+      sym (part-length s at (u16 s at) (omega (arith, walk-on (w .place) h))) ∙ six record-here t (size-here (w .place) h)
+
+  pub asks-room : {k : ℕ} → k ≡ u16 s (at + 2) → k ≡ 2 → at + 6 ≤ length s
+  asks-room ek e = omega (arith, six-here ek e, walk-on (w .place) h)
+
+  -- its class is asked
   pub walk-asks : {l k i got m′ : ℕ} {memo′ memo″ : List ℕ} → l ≡ u16 s at → k ≡ u16 s (at + 2) → k ≡ 2 → i ≡ u16 s (at + 4) → got ≡ lowerRaw g c i → Right g memo′
-      → memo″ ≡ memo′ → m′ ≡ union m got → Walking g c mine s memo″ end (at + l) m′
+      → memo″ ≡ memo′ → m′ ≡ union m got → Walking g c mine s memo″ (at + l) m′
   unfolding unionAll union target
   walk-asks {l} {k} {i} {got} {m′} {memo′} el ek e ei eg r er em =
       let t : isKind IMPLEMENTS record-here ≡ true = eq-eqb _ _ (kind-here ∙ sym ek ∙ e) in
-      let long : length record-here ≡ 6 = six record-here (true-t t) (size-here (w .place) h) in
-      let n : u16 s at ≡ 6 = sym (part-length s at (u16 s at) (omega (arith, walk-on (w .place) h, w .place .tiled .within))) ∙ long in
+      let n = six-here ek e in
       let named : i ≡ target record-here = ei ∙ sym (part-word s at (u16 s at) 4 (omega arith)) in
-      let rs : List (List ℕ) = between s (at + u16 s at) end in
+      let rs : List (List ℕ) = between s (at + u16 s at) (length s) in
       rw (el, er, em)
       (record {
         place = walk-next (w .place) h;
@@ -86,10 +90,10 @@ module _ {g : ℕ → Group} {c mine : ℕ} {s memo : List ℕ} {end at m : ℕ}
       })
 
   -- any other record
-  pub walk-passes : {l k m′ : ℕ} {memo′ : List ℕ} → l ≡ u16 s at → k ≡ u16 s (at + 2) → (k ≡ 2 → ⊥) → m′ ≡ m → memo′ ≡ memo → Walking g c mine s memo′ end (at + l) m′
+  pub walk-passes : {l k m′ : ℕ} {memo′ : List ℕ} → l ≡ u16 s at → k ≡ u16 s (at + 2) → (k ≡ 2 → ⊥) → m′ ≡ m → memo′ ≡ memo → Walking g c mine s memo′ (at + l) m′
   walk-passes {l} {k} {m′} {memo′} el ek n em er =
       let f : isKind IMPLEMENTS record-here ≡ false = ne-eqb _ _ (λ q. n (ek ∙ sym kind-here ∙ q)) in
-      let rs : List (List ℕ) = between s (at + u16 s at) end in
+      let rs : List (List ℕ) = between s (at + u16 s at) (length s) in
       rw (el, em, er)
       (record {
         place = walk-next (w .place) h;

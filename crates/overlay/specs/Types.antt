@@ -16,5 +16,12 @@ pub record Known (g : ℕ → Group) (row : List ℕ) : Type 0 where
   pub is : (c : ℕ) → getD row c 0 ≡ overlay g c
 
 -- "A type without dimensions has its class's overlay marks; a primitive one satisfies every mark that a rule below asks. An array satisfies none of those."
+unfoldable pub markersBy : (ℕ → ℕ) → Ty → ℕ
+markersBy markers t = elim (eqb (t .dims) 0) [ true ↦ elim (eqb (t .code) 0) [ true ↦ markers (t .class) | false ↦ 255 ] | false ↦ 0 ]
+
+-- by the definition of overlay markers, and by a row of them
 unfoldable pub typeMarkers : (ℕ → Group) → Ty → ℕ
-typeMarkers g t = elim (eqb (t .dims) 0) [ true ↦ elim (eqb (t .code) 0) [ true ↦ overlay g (t .class) | false ↦ 255 ] | false ↦ 0 ]
+typeMarkers g t = markersBy (overlay g) t
+
+unfoldable pub rowMarkers : List ℕ → Ty → ℕ
+rowMarkers row t = markersBy (λ c. getD row c 0) t

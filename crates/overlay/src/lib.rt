@@ -1,27 +1,21 @@
 // Overlay markers: a class asks its superclass and its interfaces, and each interface asks those it extends. A memo row keeps what is known,
 // so that each class is computed once, whichever class is asked first.
-use groups::byte_of;
-use groups::class_word;
-use groups::group_end;
-use groups::group_start;
-use groups::own_markers;
-use groups::sheet_of;
-use groups::word_of;
+use groups::class_bytes;
 use markers::closure;
 use markers::union;
 use view::Cut;
+use view::word_in;
 ghost use mathlib.Core.Path.{_≡_};
 ghost use Prim.Native.Nat.{_+_, _≤_, _<_};
 ghost use lib.ListN.{length, getD};
 ghost use Rattle.spec.specs.Record.{tyAt};
 ghost use Rattle.spec.specs.Sheet.{group as groupOf};
 ghost use Rattle.spec.specs.Classes.{overlay as overlayOf};
-ghost use Rattle.theory.specs.Claims.{sheetOf};
 ghost use Rattle.theory.proofs.Falls.{Falls};
 ghost use Rattle.view.specs.View.{Fits, spliced};
 ghost use Rattle.groups.specs.Groups.{Indexed};
 ghost use Rattle.overlay.specs.Memo.{raw, lowerRaw, withInterfaces, Right};
-ghost use Rattle.overlay.specs.Types.{Known, typeMarkers};
+ghost use Rattle.overlay.specs.Types.{Known, rowMarkers};
 
 fn wide(x: u16) -> usize
     ensures { λ r. ⌜ (r ≡ x) × (r < 65536) ⌝ }
@@ -30,10 +24,10 @@ fn wide(x: u16) -> usize
 }
 
 // Class i as seen from class c: what is gathered for it if it is lower, else nothing.
-fn lower(
-    library: &[u8],
-    user: &[u8],
-    group: &[u8],
+fn lower<'a>(
+    library: &'a [u8],
+    user: &'a [u8],
+    group: &'a [u8],
     cut: Cut,
     starts: &[u16],
     nlib: usize,
@@ -42,7 +36,7 @@ fn lower(
     i: usize,
     memo: &mut [u16],
 ) -> u8
-    requires { ⌜ Fits cut (now user) ⌝ }
+    requires { ⌜ Fits cut (now user) (now group) ⌝ }
     requires { ⌜ Indexed (now library) (spliced (now user) (now group) cut) nlib n (now starts) ⌝ }
     requires { ⌜ Falls (groupOf (now library) (spliced (now user) (now group) cut)) ⌝ }
     requires { ⌜ c < n ⌝ }
@@ -57,10 +51,10 @@ fn lower(
 }
 
 // The own markers of class c and of all its supertypes, unless the memo has them.
-fn gathered(
-    library: &[u8],
-    user: &[u8],
-    group: &[u8],
+fn gathered<'a>(
+    library: &'a [u8],
+    user: &'a [u8],
+    group: &'a [u8],
     cut: Cut,
     starts: &[u16],
     nlib: usize,
@@ -68,7 +62,7 @@ fn gathered(
     c: usize,
     memo: &mut [u16],
 ) -> u8
-    requires { ⌜ Fits cut (now user) ⌝ }
+    requires { ⌜ Fits cut (now user) (now group) ⌝ }
     requires { ⌜ Indexed (now library) (spliced (now user) (now group) cut) nlib n (now starts) ⌝ }
     requires { ⌜ Falls (groupOf (now library) (spliced (now user) (now group) cut)) ⌝ }
     requires { ⌜ c < n ⌝ }
@@ -80,9 +74,10 @@ fn gathered(
     if known < 256 {
         return known as u8;
     }
-    let above = wide(class_word(library, user, group, cut, starts, nlib, n, c, 8));
+    let bytes = class_bytes(library, user, group, cut, starts, nlib, n, c);
+    let own = bytes[6];
+    let above = wide(word_in(bytes, 8));
     let up = lower(library, user, group, cut, starts, nlib, n, c, above, memo);
-    let own = own_markers(library, user, group, cut, starts, nlib, n, c);
     let m = interfaces(
         library,
         user,
@@ -100,10 +95,10 @@ fn gathered(
 }
 
 // The set `mine` joined with what is gathered for the interfaces that class c lists.
-fn interfaces(
-    library: &[u8],
-    user: &[u8],
-    group: &[u8],
+fn interfaces<'a>(
+    library: &'a [u8],
+    user: &'a [u8],
+    group: &'a [u8],
     cut: Cut,
     starts: &[u16],
     nlib: usize,
@@ -112,7 +107,7 @@ fn interfaces(
     mine: u8,
     memo: &mut [u16],
 ) -> u8
-    requires { ⌜ Fits cut (now user) ⌝ }
+    requires { ⌜ Fits cut (now user) (now group) ⌝ }
     requires { ⌜ Indexed (now library) (spliced (now user) (now group) cut) nlib n (now starts) ⌝ }
     requires { ⌜ Falls (groupOf (now library) (spliced (now user) (now group) cut)) ⌝ }
     requires { ⌜ c < n ⌝ }
@@ -120,29 +115,29 @@ fn interfaces(
     ensures markers { λ r. ⌜ r ≡ withInterfaces (groupOf (now (library .entry)) (spliced (now (user .entry)) (now (group .entry)) cut)) c mine ⌝ }
     ensures memo { λ r. ⌜ Right (groupOf (now (library .entry)) (spliced (now (user .entry)) (now (group .entry)) cut)) (now (memo .exit)) ⌝ }
 {
-    let sheet = sheet_of(nlib, c);
-    let end = group_end(library, user, group, cut, starts, nlib, n, c);
-    let mut at = group_start(library, user, group, cut, starts, nlib, n, c);
+    let bytes = class_bytes(library, user, group, cut, starts, nlib, n, c);
+    let mut at = 0;
     let mut m = mine;
-    while at < end {
-        let kind = word_of(library, user, group, cut, sheet, at + 2);
+    while at < bytes.len() {
+        let size = wide(word_in(bytes, at));
+        let kind = word_in(bytes, at + 2);
         if kind == 2 {
-            let i = wide(word_of(library, user, group, cut, sheet, at + 4));
+            let i = wide(word_in(bytes, at + 4));
             m = union(
                 m,
                 lower(library, user, group, cut, starts, nlib, n, c, i, memo),
             );
         }
-        at += wide(word_of(library, user, group, cut, sheet, at));
+        at += size;
     }
     m
 }
 
 // The overlay markers of class c.
-pub fn overlay(
-    library: &[u8],
-    user: &[u8],
-    group: &[u8],
+pub fn overlay<'a>(
+    library: &'a [u8],
+    user: &'a [u8],
+    group: &'a [u8],
     cut: Cut,
     starts: &[u16],
     nlib: usize,
@@ -150,7 +145,7 @@ pub fn overlay(
     c: usize,
     memo: &mut [u16],
 ) -> u8
-    requires { ⌜ Fits cut (now user) ⌝ }
+    requires { ⌜ Fits cut (now user) (now group) ⌝ }
     requires { ⌜ Indexed (now library) (spliced (now user) (now group) cut) nlib n (now starts) ⌝ }
     requires { ⌜ Falls (groupOf (now library) (spliced (now user) (now group) cut)) ⌝ }
     requires { ⌜ c < n ⌝ }
@@ -164,10 +159,10 @@ pub fn overlay(
 }
 
 // The overlay markers of class c, none if there is no such class.
-fn overlay_or_none(
-    library: &[u8],
-    user: &[u8],
-    group: &[u8],
+fn overlay_or_none<'a>(
+    library: &'a [u8],
+    user: &'a [u8],
+    group: &'a [u8],
     cut: Cut,
     starts: &[u16],
     nlib: usize,
@@ -175,7 +170,7 @@ fn overlay_or_none(
     c: usize,
     memo: &mut [u16],
 ) -> u8
-    requires { ⌜ Fits cut (now user) ⌝ }
+    requires { ⌜ Fits cut (now user) (now group) ⌝ }
     requires { ⌜ Indexed (now library) (spliced (now user) (now group) cut) nlib n (now starts) ⌝ }
     requires { ⌜ Falls (groupOf (now library) (spliced (now user) (now group) cut)) ⌝ }
     requires { ⌜ Right (groupOf (now library) (spliced (now user) (now group) cut)) (now memo) ⌝ }
@@ -189,10 +184,10 @@ fn overlay_or_none(
 }
 
 // Writes the overlay markers of each class, 0 past the last one.
-pub fn overlays(
-    library: &[u8],
-    user: &[u8],
-    group: &[u8],
+pub fn overlays<'a>(
+    library: &'a [u8],
+    user: &'a [u8],
+    group: &'a [u8],
     cut: Cut,
     starts: &[u16],
     nlib: usize,
@@ -200,7 +195,7 @@ pub fn overlays(
     memo: &mut [u16],
     row: &mut [u8],
 )
-    requires { ⌜ Fits cut (now user) ⌝ }
+    requires { ⌜ Fits cut (now user) (now group) ⌝ }
     requires { ⌜ Indexed (now library) (spliced (now user) (now group) cut) nlib n (now starts) ⌝ }
     requires { ⌜ Falls (groupOf (now library) (spliced (now user) (now group) cut)) ⌝ }
     requires { ⌜ Right (groupOf (now library) (spliced (now user) (now group) cut)) (now memo) ⌝ }
@@ -222,26 +217,16 @@ pub fn known(row: &[u8], c: usize) -> u8
     if c < row.len() { row[c] } else { 0 }
 }
 
-// The markers that the type at i of a sheet satisfies: those of its class, all if it is primitive, none if it is an array.
-pub fn type_markers(
-    library: &[u8],
-    user: &[u8],
-    group: &[u8],
-    cut: Cut,
-    sheet: u8,
-    i: usize,
-    row: &[u8],
-) -> u8
-    requires { ⌜ Fits cut (now user) ⌝ }
-    requires { ⌜ i < 65000 ⌝ }
-    requires { ⌜ Known (groupOf (now library) (spliced (now user) (now group) cut)) (now row) ⌝ }
-    ensures { λ r. ⌜ r ≡ typeMarkers (groupOf (now (library .entry)) (spliced (now (user .entry)) (now (group .entry)) cut)) (tyAt (sheetOf (now (library .entry)) (spliced (now (user .entry)) (now (group .entry)) cut) sheet) i) ⌝ }
+// The markers that the type at i satisfies, by the row of all classes' markers: those of its class, all if it is primitive, none if it is an array.
+pub fn type_markers(bytes: &[u8], i: usize, row: &[u8]) -> u8
+    requires { ⌜ (i + 3 < length (now bytes)) × (length (now bytes) ≤ 32768) ⌝ }
+    ensures { λ r. ⌜ r ≡ rowMarkers (now (row .entry)) (tyAt (now (bytes .entry)) i) ⌝ }
 {
-    if byte_of(library, user, group, cut, sheet, i) != 0 {
+    if bytes[i] != 0 {
         return 0;
     }
-    if byte_of(library, user, group, cut, sheet, i + 1) != 0 {
+    if bytes[i + 1] != 0 {
         return 255;
     }
-    known(row, wide(word_of(library, user, group, cut, sheet, i + 2)))
+    known(row, wide(word_in(bytes, i + 2)))
 }

@@ -4,8 +4,8 @@ use mathlib.Core.Path.{_≡_, refl, sym, ap, _∙_}
 use mathlib.Core.Bool.{Bool, true, false, not}
 use mathlib.Core.List.{List}
 use mathlib.Core.Option.{none, some}
-use Prim.Native.Nat.{ℕ, suc, _+_, _≤_, _<_}
-use native.Mathlib.Nat.{zero-add}
+use Prim.Native.Nat.{ℕ, suc, _+_, _-_, _≤_, _<_}
+use native.Mathlib.Nat.{zero-add, add-zero, add-assoc}
 use native.Mathlib.Numerals.{add-one}
 use native.Mathlib.Omega.{arith}
 use lib.Dec.{eqb, leb, nleb→lt}
@@ -19,11 +19,12 @@ use Rattle.theory.proofs.Bools.{not-or-l, not-or-r}
 use Rattle.theory.proofs.All.{All}
 use Rattle.theory.proofs.Cut.{split-class, split-other}
 use Rattle.theory.proofs.Answers.{some≢none, first-past, first-some, Fails, record-none}
-use Rattle.pass.specs.Pass.{numberOf, recordAt, place, recordNumber, passRefusal, passOf, fill, filled, Filled}
+use Rattle.pass.specs.Pass.{numberOf, recordAt, place, recordNumber, passRefusal, shifted, passOf, fill, filled, Filled}
+use Rattle.pass.specs.declared.Pass.{Pass}
 use Rattle.pass.specs.declared.Pass.the-variants.{Fine, Refused}
 use Rattle.pass.proofs.Starts.{fill-class, fill-other}
 use Rattle.pass.proofs.Whole.{Whole, whole-at, at-whole, whole-unless, records-stop, end-stop, records-here, length-here, class-here, other-here}
-use Rattle.pass.proofs.Numbers.{number-torn}
+use Rattle.pass.proofs.Numbers.{number-torn, torn}
 use Rattle.pass.proofs.Places.{answer, place-class, place-other, place-refuses}
 use Rattle.pass.proofs.Walk.{rest, walk-stop, walk-step, walk-class, walk-other}
 
@@ -97,12 +98,14 @@ module _ {s : List ℕ} {at : ℕ} (w : Whole s at) where
       ap (λ (rs : List (List ℕ)). length (splitGroups rs .groups)) (records-here w)
       ∙ ap (λ (t : Split). length (t .groups)) (split-other (recordAt s at) (recordsOf (drop (at + u16 s at) s)) (other-here w e))
 
-  module _ (row : List ℕ) (n : ℕ) where
-    rows-class : u16 s (at + 2) ≡ 1 → fill row n at (recordsOf (drop at s)) ≡ fill (set row n at) (suc n) (at + u16 s at) (recordsOf (drop (at + u16 s at) s))
-    rows-class e = rw (records-here w, fill-class row n at (recordAt s at) (recordsOf (drop (at + u16 s at) s)) (class-here w e), length-here w)
+  module _ (row : List ℕ) (n from : ℕ) where
+    rows-class : u16 s (at + 2) ≡ 1
+        → fill row n (from + at) (recordsOf (drop at s)) ≡ fill (set row n (from + at)) (suc n) (from + (at + u16 s at)) (recordsOf (drop (at + u16 s at) s))
+    rows-class e = rw (records-here w, fill-class row n (from + at) (recordAt s at) (recordsOf (drop (at + u16 s at) s)) (class-here w e), length-here w, add-assoc from at (u16 s at))
 
-    rows-other : (u16 s (at + 2) ≡ 1 → ⊥) → fill row n at (recordsOf (drop at s)) ≡ fill row n (at + u16 s at) (recordsOf (drop (at + u16 s at) s))
-    rows-other e = rw (records-here w, fill-other row n at (recordAt s at) (recordsOf (drop (at + u16 s at) s)) (other-here w e), length-here w)
+    rows-other : (u16 s (at + 2) ≡ 1 → ⊥)
+        → fill row n (from + at) (recordsOf (drop at s)) ≡ fill row n (from + (at + u16 s at)) (recordsOf (drop (at + u16 s at) s))
+    rows-other e = rw (records-here w, fill-other row n (from + at) (recordAt s at) (recordsOf (drop (at + u16 s at) s)) (other-here w e), length-here w, add-assoc from at (u16 s at))
 
 -- bytes that begin with no whole record
 module _ (s : List ℕ) (e : wholeFirst s ≡ false) where
@@ -120,25 +123,29 @@ module _ (s : List ℕ) (e : wholeFirst s ≡ false) where
 
 -- ---- the pass at a byte
 
--- the pass stands at byte `at`, after c classes and k records of the open group, and has made `row` of `row₀`
-pub record Going (sheet : ℕ) (s : List ℕ) (base : ℕ) (row₀ row : List ℕ) (at c k : ℕ) : Type 0 where
+-- the pass stands at byte `at` of some bytes that begin at byte `from` of their sheet, after c classes and k records of the open group, and has made `row` of `row₀`
+pub record Going (sheet : ℕ) (s : List ℕ) (base from : ℕ) (row₀ row : List ℕ) (at c k : ℕ) : Type 0 where
   pub before : ℕ  -- the kind of the record before
   pub rest : rest (answer recordTests) sheet s at c k before ≡ recordRefusal sheet base s
   pub end : at + wholeEnd (drop at s) ≡ wholeEnd s
-  pub rows : fill row c at (recordsOf (drop at s)) ≡ filled row₀ base s
+  pub rows : fill row c (from + at) (recordsOf (drop at s)) ≡ filled row₀ base from s
   pub count : c + classCount (drop at s) ≡ base + classCount s
   pub classes : c ≤ 256
   pub records : k ≤ 255
   pub long : length row ≡ length row₀
   pub inside : at ≤ length s
 
-pub begin : (sheet : ℕ) (s : List ℕ) (base : ℕ) (row₀ : List ℕ) → base ≤ 256 → Going sheet s base row₀ row₀ 0 base 0
+-- how the pass ends, and what it has made of the row
+abbrev pub Ended : ℕ → List ℕ → ℕ → ℕ → List ℕ → List ℕ → Pass → Type 0
+Ended sheet s base from row₀ row p = (p ≡ passOf (shifted from (passRefusal sheet base s)) (base + classCount s)) × Filled (passRefusal sheet base s) base from s row₀ row
+
+pub begin : (sheet : ℕ) (s : List ℕ) (base from : ℕ) (row₀ : List ℕ) → base ≤ 256 → Going sheet s base from row₀ row₀ 0 base 0
 unfolding rest answer recordRefusal locatedIn filled
-begin sheet s base row₀ h = record {
+begin sheet s base from row₀ h = record {
   before = 0;
   rest = refl;
   end = zero-add (wholeEnd s);
-  rows = refl;
+  rows = rw (add-zero from);
   count = refl;
   classes = h;
   records = omega arith;
@@ -146,7 +153,7 @@ begin sheet s base row₀ h = record {
   inside = omega arith;
 }
 
-module _ {sheet : ℕ} {s : List ℕ} {base : ℕ} {row₀ row : List ℕ} {at c k : ℕ} (g : Going sheet s base row₀ row at c k) where
+module _ {sheet : ℕ} {s : List ℕ} {base from : ℕ} {row₀ row : List ℕ} {at c k : ℕ} (g : Going sheet s base from row₀ row at c k) where
   -- the whole sheet is passed
   module _ (h : length s ≤ at) where
     ends-none : passRefusal sheet base s ≡ none
@@ -160,10 +167,10 @@ module _ {sheet : ℕ} {s : List ℕ} {base : ℕ} {row₀ row : List ℕ} {at c
     ends-count : c ≡ base + classCount s
     ends-count = omega (arith, g .count, none-count (drop at s) (end-stop s at h))
 
-    pub ends : (Fine c ≡ passOf (passRefusal sheet base s) (base + classCount s)) × Filled (passRefusal sheet base s) base s row₀ row
+    pub ends : Ended sheet s base from row₀ row (Fine c)
     ends = (
       rw (ends-none, ← ends-count),
-      record { long = g .long; rows = λ e. sym (none-fill (drop at s) (end-stop s at h) row c at) ∙ g .rows },
+      record { long = g .long; rows = λ e. sym (none-fill (drop at s) (end-stop s at h) row c (from + at)) ∙ g .rows },
     )
 
   module _ {number : ℕ} (e : number ≡ recordNumber sheet s at c k) where
@@ -183,12 +190,12 @@ module _ {sheet : ℕ} {s : List ℕ} {base : ℕ} {row₀ row : List ℕ} {at c
             first-past _ _ (sym (g .rest) ∙ walk-stop (answer recordTests) sheet s at c k (g .before) w) ∙ rw (ne-eqb (wholeEnd s) (length s) (λ d. omega arith), l, m)
 
     -- the record at hand is refused
-    pub stops : at < length s → (number ≡ 0 → ⊥) → (m : ℕ) → (Refused number at ≡ passOf (passRefusal sheet base s) m) × Filled (passRefusal sheet base s) base s row₀ row
-    stops h z m = (rw (refused h z), record { long = g .long; rows = λ n. absurd (some≢none _ (sym (refused h z) ∙ n)) })
+    pub stops : at < length s → (number ≡ 0 → ⊥) → Ended sheet s base from row₀ row (Refused number (from + at))
+    stops h z = (rw (refused h z), record { long = g .long; rows = λ n. absurd (some≢none _ (sym (refused h z) ∙ n)) })
 
     module _ (z : number ≡ 0) {l kk c′ k′ : ℕ} {row′ : List ℕ} (el : l ≡ u16 s at) (ek : kk ≡ u16 s (at + 2)) where
       -- a CLASS record is passed
-      pub class-on : kk ≡ 1 → row′ ≡ set row c at → c′ ≡ c + 1 → k′ ≡ 1 → Going sheet s base row₀ row′ (at + l) c′ k′
+      pub class-on : kk ≡ 1 → row′ ≡ set row c (from + at) → c′ ≡ c + 1 → k′ ≡ 1 → Going sheet s base from row₀ row′ (at + l) c′ k′
       class-on one es ec en =
           let p = passed sheet s at c k (sym e ∙ z) in
           let w = p .here in
@@ -199,7 +206,7 @@ module _ {sheet : ℕ} {s : List ℕ} {base : ℕ} {row₀ row : List ℕ} {at c
             rest = rw (el, ec, en, add-one)
                 (sym (first-past _ _ (passed-answer sheet s at c k (sym e ∙ z) (g .before))) ∙ sym (walk-class (answer recordTests) sheet s at c k (g .before) w o) ∙ g .rest);
             end = rw el (omega (arith, end-step w, g .end));
-            rows = rw (el, es, ec, add-one) (sym (rows-class w row c o) ∙ g .rows);
+            rows = rw (el, es, ec, add-one) (sym (rows-class w row c from o) ∙ g .rows);
             count = rw el (omega (arith, count-class w o, g .count));
             classes = omega arith;
             records = omega arith;
@@ -208,7 +215,7 @@ module _ {sheet : ℕ} {s : List ℕ} {base : ℕ} {row₀ row : List ℕ} {at c
           }
 
       -- another record is passed
-      pub other-on : (kk ≡ 1 → ⊥) → row′ ≡ row → c′ ≡ c → k′ ≡ k + 1 → Going sheet s base row₀ row′ (at + l) c′ k′
+      pub other-on : (kk ≡ 1 → ⊥) → row′ ≡ row → c′ ≡ c → k′ ≡ k + 1 → Going sheet s base from row₀ row′ (at + l) c′ k′
       other-on other es ec en =
           let p = passed sheet s at c k (sym e ∙ z) in
           let w = p .here in
@@ -219,10 +226,14 @@ module _ {sheet : ℕ} {s : List ℕ} {base : ℕ} {row₀ row : List ℕ} {at c
             rest = rw (el, ec, en, add-one)
                 (sym (first-past _ _ (passed-answer sheet s at c k (sym e ∙ z) (g .before))) ∙ sym (walk-other (answer recordTests) sheet s at c k (g .before) w o) ∙ g .rest);
             end = rw el (omega (arith, end-step w, g .end));
-            rows = rw (el, es, ec) (sym (rows-other w row c o) ∙ g .rows);
+            rows = rw (el, es, ec) (sym (rows-other w row c from o) ∙ g .rows);
             count = rw el (omega (arith, count-other w o, g .count));
             classes = omega (arith, g .classes);
             records = omega arith;
             long = rw es (g .long);
             inside = omega (arith, w);
           }
+
+  -- fewer bytes are left than a record has
+  pub torn-ends : at < length s → length s - at < 4 → Ended sheet s base from row₀ row (Refused 2 (from + at))
+  torn-ends h l = stops (torn sheet s at c k (λ w. omega arith)) h (λ e. omega arith)

@@ -1,3 +1,4 @@
+pub mod Words
 pub mod Tables
 pub mod Names
 pub mod Whole
@@ -7,3 +8,4 @@ pub mod Places
 pub mod Walk
 pub mod Starts
 pub mod Going
+pub mod Joining

@@ -1,7 +1,7 @@
 -- The number that refuses what begins at a byte: first whether a whole record does, then the tests of that record in their order.
 -- Assumes nothing.
-use mathlib.Core.Path.{_≡_, refl, sym}
-use mathlib.Core.Bool.{Bool, true, false, not, _||_, or-false}
+use mathlib.Core.Path.{_≡_, refl, sym, _∙_}
+use mathlib.Core.Bool.{Bool, true, false, not, _&&_, _||_, or-false}
 use mathlib.Core.List.{List, [], _∷_}
 use Prim.Native.Nat.{ℕ, zero, suc, _+_, _-_, _≤_}
 use native.Mathlib.Omega.{arith}
@@ -11,9 +11,9 @@ use borrow.Author.Tests.{lt-leb}
 use Rattle.spec.specs.Record.{u16, kind, isClass, bodyFits}
 use Rattle.spec.specs.Sheet.{wholeFirst}
 use Rattle.spec.specs.Refusals.{recordTests}
-use Rattle.pass.specs.Pass.{homeFits, sizeFits, bodyAt, orderNumber, numberOf, recordAt, place, recordNumber}
+use Rattle.pass.specs.Pass.{homeFits, sizeFits, nameAt, nameStart, fixedAt, orderNumber, orElse, headNumber, numberOf, recordAt, place, recordNumber}
 use Rattle.pass.proofs.Whole.{Whole, at-whole, not-whole, length-here, kind-here}
-use Rattle.pass.proofs.Bodies.{kind-fits, length-fits, body-fits}
+use Rattle.pass.proofs.Bodies.{kind-fits, length-fits, bodyAt, body-fits}
 
 -- ---- no whole record begins at a byte
 
@@ -40,11 +40,6 @@ placed sheet at n k r h = go (isClass r) refl
     go : (b : Bool) → isClass r ≡ b → recordTests (place sheet at n k 0 r) ≡ (3, not (homeFits sheet (kind r))) ∷ (4, not (sizeFits (kind r) (length r))) ∷ (6, not (isClass r || ltb 0 k)) ∷ (5, not (bodyFits sheet r)) ∷ (7, full (isClass r) n k) ∷ []
     go true e = rw (e, place, kind-fits sheet r, length-fits r, or-false (leb 256 n))
     go false e = rw (e, place, kind-fits sheet r, length-fits r, lt-leb 256 (n - 1) (omega arith))
-
--- the first of two numbers that is not 0
-abbrev orElse : ℕ → ℕ → ℕ
-orElse zero m = m
-orElse (suc i) m = suc i
 
 or-second : {i : ℕ} (m : ℕ) → i ≡ 0 → orElse i m ≡ m
 or-second m e = rw e
@@ -84,19 +79,55 @@ unfolding orderNumber
 order-size sheet kind n k e = early-size (homeFits sheet kind) (sizeFits kind n) (eqb kind 1 || ltb 0 k) e
 
 whole-number : (sheet : ℕ) (s : List ℕ) (at n k : ℕ) → Whole s at → n ≤ 256
-    → recordNumber sheet s at n k ≡ orElse (orderNumber sheet (u16 s (at + 2)) (u16 s at) k) (late (bodyAt sheet s at (u16 s (at + 2)) (u16 s at)) (full (eqb (u16 s (at + 2)) 1) n k))
+    → recordNumber sheet s at n k ≡ orElse (orderNumber sheet (u16 s (at + 2)) (u16 s at) k) (late (bodyAt sheet s at (u16 s at) (u16 s (at + 2))) (full (eqb (u16 s (at + 2)) 1) n k))
 unfolding recordNumber recordAt orderNumber kind
 whole-number sheet s at n k w h =
     let r = recordAt s at in
     let ek = kind-here w in
     rw (at-whole w, recordNumber, placed sheet at n k r h, length-here w, ek)
-    (decided (homeFits sheet (u16 s (at + 2))) (sizeFits (u16 s (at + 2)) (u16 s at)) (eqb (u16 s (at + 2)) 1 || ltb 0 k) (bodyFits sheet r) (bodyAt sheet s at (u16 s (at + 2)) (u16 s at)) (full (eqb (u16 s (at + 2)) 1) n k)
+    (decided (homeFits sheet (u16 s (at + 2))) (sizeFits (u16 s (at + 2)) (u16 s at)) (eqb (u16 s (at + 2)) 1 || ltb 0 k) (bodyFits sheet r) (bodyAt sheet s at (u16 s at) (u16 s (at + 2))) (full (eqb (u16 s (at + 2)) 1) n k)
     (λ e. rw ek at (body-fits sheet s at (u16 s at) (rw ek e))))
 
--- in the code's variables
-module _ (sheet k : ℕ) {s : List ℕ} {at n : ℕ} (w : Whole s at) (h : n ≤ 256) {len kind i : ℕ} (el : len ≡ u16 s at) (ek : kind ≡ u16 s (at + 2)) (ei : i ≡ orderNumber sheet kind len k) where
-  pub by-order : (i ≡ 0 → ⊥) → i ≡ recordNumber sheet s at n k
-  by-order z = rw (whole-number sheet s at n k w h, ← el, ← ek, ← ei) (sym (or-first i _ z))
+-- ---- the tests before the name
 
-  pub by-body : i ≡ 0 → recordNumber sheet s at n k ≡ late (bodyAt sheet s at kind len) (full (eqb kind 1) n k)
-  by-body z = rw (whole-number sheet s at n k w h, ← el, ← ek, ← ei) (or-second _ z)
+-- in the code's variables
+module _ (sheet : ℕ) (s : List ℕ) (at kind n k : ℕ) {i : ℕ} (ei : i ≡ orderNumber sheet kind n k) where
+  pub by-order : (i ≡ 0 → ⊥) → i ≡ headNumber sheet s at kind n k
+  unfolding headNumber
+  by-order z = rw (← ei) (sym (or-first i _ z))
+
+  pub by-fixed : i ≡ 0 → {f : Bool} → f ≡ fixedAt sheet s at kind → headNumber sheet s at kind n k ≡ elim f [ true ↦ 0 | false ↦ 5 ]
+  unfolding headNumber
+  by-fixed z e = rw (← ei, ← e) (or-second _ z)
+
+-- no sheet has the kind
+pub no-home : (sheet : ℕ) (s : List ℕ) (at k n j : ℕ) → homeFits sheet k ≡ false → 3 ≡ headNumber sheet s at k n j
+no-home sheet s at k n j z = by-order sheet s at k n j (unfold orderNumber in rw (z, orderNumber)) (λ e. omega arith)
+
+-- what a head with a number, or without one, says of all tests
+head-some : (i : ℕ) (f g e : Bool) → (orElse i (elim f [ true ↦ 0 | false ↦ 5 ]) ≡ 0 → ⊥) → orElse i (elim f [ true ↦ 0 | false ↦ 5 ]) ≡ orElse i (late (f && g) e)
+head-some zero true g e z = absurd (z refl)
+head-some zero false g e z = refl
+head-some (suc i) f g e z = refl
+
+head-none : (i : ℕ) (f g e : Bool) → orElse i (elim f [ true ↦ 0 | false ↦ 5 ]) ≡ 0 → (i ≡ 0) × (orElse i (late (f && g) e) ≡ late g e)
+head-none zero true g e z = (refl, refl)
+head-none zero false g e z = absurd (omega (arith, z))
+head-none (suc i) f g e z = absurd (omega (arith, z))
+
+pub head-size : (sheet : ℕ) (s : List ℕ) (at kind n k : ℕ) {i : ℕ} → i ≡ headNumber sheet s at kind n k → i ≡ 0 → sizeFits kind n ≡ true
+unfolding headNumber
+head-size sheet s at kind n k e z = order-size sheet kind n k (head-none (orderNumber sheet kind n k) (fixedAt sheet s at kind) true true (sym e ∙ z) .0)
+
+module _ (sheet k : ℕ) {s : List ℕ} {at n : ℕ} (w : Whole s at) (h : n ≤ 256) {len kind i : ℕ} (el : len ≡ u16 s at) (ek : kind ≡ u16 s (at + 2)) (ei : i ≡ headNumber sheet s at kind len k) where
+  in-all : recordNumber sheet s at n k ≡ orElse (orderNumber sheet kind len k) (late (fixedAt sheet s at kind && nameAt s at len (nameStart kind len)) (full (eqb kind 1) n k))
+  in-all = rw (el, ek) (whole-number sheet s at n k w h)
+
+  pub by-head : (i ≡ 0 → ⊥) → i ≡ recordNumber sheet s at n k
+  unfolding headNumber
+  by-head z = ei ∙ head-some (orderNumber sheet kind len k) (fixedAt sheet s at kind) (nameAt s at len (nameStart kind len)) (full (eqb kind 1) n k) (λ q. z (ei ∙ q)) ∙ sym in-all
+
+  pub by-name : i ≡ 0 → recordNumber sheet s at n k ≡ late (nameAt s at len (nameStart kind len)) (full (eqb kind 1) n k)
+  unfolding headNumber
+  by-name z =
+      in-all ∙ head-none (orderNumber sheet kind len k) (fixedAt sheet s at kind) (nameAt s at len (nameStart kind len)) (full (eqb kind 1) n k) (sym ei ∙ z) .1

@@ -27,15 +27,6 @@ module _ (row : List ℕ) (n at : ℕ) (r : List ℕ) (rs : List (List ℕ)) whe
 
 -- ---- the row of any records
 
-long : (row : List ℕ) (n at : ℕ) (rs : List (List ℕ)) → length (fill row n at rs) ≡ length row
-long row n at [] = unfold fill in refl
-long row n at (r ∷ rs) = go (isClass r) refl (long (set row n at) (suc n) (at + length r) rs) (long row n (at + length r) rs)
-  where
-    go : (b : Bool) → isClass r ≡ b → length (fill (set row n at) (suc n) (at + length r) rs) ≡ length (set row n at)
-        → length (fill row n (at + length r) rs) ≡ length row → length (fill row n at (r ∷ rs)) ≡ length row
-    go true e f g = rw (fill-class row n at r rs e) (f ∙ length-set row n at)
-    go false e f g = rw (fill-other row n at r rs e) g
-
 below : (row : List ℕ) (n at : ℕ) (rs : List (List ℕ)) (j : ℕ) → j < n → getD (fill row n at rs) j 0 ≡ getD row j 0
 below row n at [] j h = unfold fill in refl
 below row n at (r ∷ rs) j h = go (isClass r) refl (below (set row n at) (suc n) (at + length r) rs j (omega arith)) (below row n (at + length r) rs j h)
@@ -89,15 +80,11 @@ right row n at (r ∷ rs) = go (isClass r) refl (right (set row n at) (suc n) (a
     go true e f g = right-class row n at r rs e f
     go false e f g = right-other row n at r rs e g
 
--- ---- the row of a sheet
+-- ---- the row of some bytes of a sheet
 
-pub filled-long : (row : List ℕ) (n : ℕ) (s : List ℕ) → length (filled row n s) ≡ length row
+pub filled-below : (row : List ℕ) (n at : ℕ) (s : List ℕ) (j : ℕ) → j < n → getD (filled row n at s) j 0 ≡ getD row j 0
 unfolding filled
-filled-long row n s = long row n 0 (recordsOf s)
-
-pub filled-below : (row : List ℕ) (n : ℕ) (s : List ℕ) (j : ℕ) → j < n → getD (filled row n s) j 0 ≡ getD row j 0
-unfolding filled
-filled-below row n s j h = below row n 0 (recordsOf s) j h
+filled-below row n at s j h = below row n at (recordsOf s) j h
 
 -- where no record stands before the first CLASS record
 pub sheet-start : (s : List ℕ) → splitGroups (recordsOf s) .loose ≡ [] → (i : ℕ) → startFrom 0 (splitGroups (recordsOf s)) i ≡ groupStart s i
@@ -105,6 +92,6 @@ unfolding groupsOf groupStart startFrom concat
 sheet-start s e i = omega (arith, ap (λ (rs : List (List ℕ)). length (concat rs)) e)
 
 pub filled-start : (row : List ℕ) (n : ℕ) (s : List ℕ) → splitGroups (recordsOf s) .loose ≡ [] → n + classCount s ≤ length row
-    → (i : ℕ) → i < classCount s → getD (filled row n s) (n + i) 0 ≡ groupStart s i
+    → (i : ℕ) → i < classCount s → getD (filled row n 0 s) (n + i) 0 ≡ groupStart s i
 unfolding filled classCount groupsOf
 filled-start row n s e l i h = right row n 0 (recordsOf s) i l h ∙ sheet-start s e i

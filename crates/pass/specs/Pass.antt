@@ -1,10 +1,10 @@
 -- The first pass by positions: the number that refuses the record at a byte, how the pass ends, and the row of the bytes where groups begin.
 -- Assumes nothing.
 use mathlib.Core.Path.{_≡_}
-use mathlib.Core.Bool.{Bool, true, false, not, _&&_, _||_}
+use mathlib.Core.Bool.{Bool, true, false, _&&_, _||_}
 use mathlib.Core.List.{List, [], _∷_}
 use mathlib.Core.Option.{Option, none, some}
-use Prim.Native.Nat.{ℕ, zero, suc, _+_, _-_}
+use Prim.Native.Nat.{ℕ, zero, suc, _+_, _-_, _*_}
 use lib.Dec.{eqb, leb, ltb}
 use lib.ListN.{length, getD, take, drop, set}
 use Rattle.spec.specs.Lists.{firstOf}
@@ -13,6 +13,11 @@ use Rattle.spec.specs.Sheet.{wholeFirst, recordsOf, Located}
 use Rattle.spec.specs.Refusals.{Refusal, recordTests, recordRefusal, tornRefusal}
 use Rattle.pass.specs.declared.Pass.{Pass}
 use Rattle.pass.specs.declared.Pass.the-variants.{Fine, Refused}
+
+-- the number that bytes make, the lowest first
+unfoldable pub joined : List ℕ → ℕ
+joined [] = 0
+joined (b ∷ bs) = joined bs * 256 + b
 
 -- ---- one record, by kind and length
 
@@ -38,19 +43,23 @@ sizeFits k n = getD
 unfoldable pub nameAt : List ℕ → ℕ → ℕ → ℕ → Bool
 nameAt s at n j = nameFits (take ((at + n) - (at + j)) (drop (at + j) s))
 
--- the body of the record at `at` is one of its kind
-unfoldable pub bodyAt : ℕ → List ℕ → ℕ → ℕ → ℕ → Bool
-bodyAt sheet s at k n = getD
-    (false
-    ∷ (classFlagsFit sheet (u16 s (at + 4)) && eqb (u8 s (at + 7)) 0 && nameAt s at n 12)
+-- the byte of a record with length n where its name begins, n if it has none
+unfoldable pub nameStart : ℕ → ℕ → ℕ
+nameStart k n = getD (n ∷ 12 ∷ n ∷ 10 ∷ 8 ∷ n ∷ n ∷ 6 ∷ n ∷ []) k n
+
+-- what stands at fixed places in the record at `at`, before a name, is right for its kind
+unfoldable pub fixedAt : ℕ → List ℕ → ℕ → ℕ → Bool
+fixedAt sheet s at k = getD
+    (true
+    ∷ (classFlagsFit sheet (u16 s (at + 4)) && eqb (u8 s (at + 7)) 0)
     ∷ true
-    ∷ (ltb (u16 s (at + 4)) 8 && tyFits (tyAt s (at + 6)) && nameAt s at n 10)
-    ∷ (tyFits (tyAt s (at + 4)) && nameAt s at n 8)
+    ∷ (ltb (u16 s (at + 4)) 8 && tyFits (tyAt s (at + 6)))
+    ∷ tyFits (tyAt s (at + 4))
     ∷ true
     ∷ true
-    ∷ (ltb (u16 s (at + 4)) 2 && nameAt s at n 6)
+    ∷ ltb (u16 s (at + 4)) 2
     ∷ true
-    ∷ []) k false
+    ∷ []) k true
 
 -- the number that refuses kind, length or place of a record in its group, or 0: 3, 4, 6
 unfoldable pub orderNumber : ℕ → ℕ → ℕ → ℕ → ℕ
@@ -59,6 +68,15 @@ orderNumber sheet kind n k =
       | true ↦ elim (sizeFits kind n) [ true ↦ elim (eqb kind 1 || ltb 0 k) [ true ↦ 0 | false ↦ 6 ] | false ↦ 4 ]
       | false ↦ 3
     ]
+
+-- the first of two numbers that is not 0
+abbrev pub orElse : ℕ → ℕ → ℕ
+orElse zero m = m
+orElse (suc i) m = suc i
+
+-- the number that refuses kind, length, place or the fixed bytes of the record at `at`, or 0: 3, 4, 6, 5
+unfoldable pub headNumber : ℕ → List ℕ → ℕ → ℕ → ℕ → ℕ → ℕ
+headNumber sheet s at kind n k = orElse (orderNumber sheet kind n k) (elim (fixedAt sheet s at kind) [ true ↦ 0 | false ↦ 5 ])
 
 -- ---- a record at its place
 
@@ -88,6 +106,11 @@ recordNumber sheet s at n k = elim (wholeFirst (drop at s)) [ true ↦ numberOf 
 unfoldable pub passRefusal : ℕ → ℕ → List ℕ → Option Refusal
 passRefusal sheet n s = firstOf (recordRefusal sheet n s ∷ tornRefusal sheet s ∷ [])
 
+-- a refusal k bytes further on
+abbrev pub shifted : ℕ → Option Refusal → Option Refusal
+shifted k none = none
+shifted k (some r) = some (record { number = r .number; sheet = r .sheet; byte = k + r .byte })
+
 abbrev pub passOf : Option Refusal → ℕ → Pass
 passOf none n = Fine n
 passOf (some r) n = Refused (r .number) (r .byte)
@@ -97,10 +120,10 @@ unfoldable pub fill : List ℕ → ℕ → ℕ → List (List ℕ) → List ℕ
 fill row n at [] = row
 fill row n at (r ∷ rs) = elim (isClass r) [ true ↦ fill (set row n at) (suc n) (at + length r) rs | false ↦ fill row n (at + length r) rs ]
 
-unfoldable pub filled : List ℕ → ℕ → List ℕ → List ℕ
-filled row n s = fill row n 0 (recordsOf s)
+unfoldable pub filled : List ℕ → ℕ → ℕ → List ℕ → List ℕ
+filled row n at s = fill row n at (recordsOf s)
 
--- what the pass makes of the row
-pub record Filled (o : Option Refusal) (n : ℕ) (s before after : List ℕ) : Type 0 where
+-- what the pass of bytes that begin at byte `at` of their sheet makes of the row
+pub record Filled (o : Option Refusal) (n at : ℕ) (s before after : List ℕ) : Type 0 where
   pub long : length after ≡ length before
-  pub rows : o ≡ none → after ≡ filled before n s
+  pub rows : o ≡ none → after ≡ filled before n at s

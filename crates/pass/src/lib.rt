@@ -1,16 +1,14 @@
-// The first pass over a sheet: each record by itself, refusals 2 to 7. On the way it fills the row of the bytes where the groups begin.
-use view::Cut;
-use view::byte_at;
-use view::view_len;
-use view::word_at;
+// The first pass over a sheet, or over whole groups of one: each record by itself, refusals 2 to 7. On the way it fills the row of the bytes where the
+// groups begin.
+use view::word_in;
 ghost use mathlib.Core.Path.{_≡_};
 ghost use mathlib.Core.Bool.{true};
+ghost use mathlib.Core.List.{_++_};
 ghost use Prim.Native.Nat.{_+_, _-_, _≤_, _<_};
 ghost use lib.ListN.{length, take, drop};
-ghost use Rattle.spec.specs.Record.{nameFits, tyFits, tyAt, classFlagsFit};
+ghost use Rattle.spec.specs.Record.{u16, nameFits, tyFits, tyAt, classFlagsFit};
 ghost use Rattle.spec.specs.Sheet.{classCount};
-ghost use Rattle.view.specs.View.{Fits, spliced};
-ghost use Rattle.pass.specs.Pass.{homeFits, sizeFits, bodyAt, orderNumber, recordNumber, passRefusal, passOf, Filled};
+ghost use Rattle.pass.specs.Pass.{joined, homeFits, sizeFits, nameStart, fixedAt, orderNumber, headNumber, recordNumber, passRefusal, shifted, passOf, Filled};
 
 // The number of classes counted so far, or the refusal's number and byte.
 pub enum Pass {
@@ -24,6 +22,13 @@ const HOMES: [u8; 9] = [0, 3, 3, 2, 2, 2, 2, 1, 2];
 const SHORTEST: [u16; 9] = [1, 13, 6, 11, 9, 8, 6, 7, 8];
 
 const LONGEST: [u16; 9] = [0, 112, 6, 110, 108, 8, 6, 106, 8];
+
+// In each of eight bytes: the highest bit, 1, and 160.
+const TOPS: u64 = 0x8080808080808080;
+
+const ONES: u64 = 0x0101010101010101;
+
+const LIMITS: u64 = 0xa0a0a0a0a0a0a0a0;
 
 // Whether a sheet (0 library, 1 user) may have the kind.
 fn home_fits(sheet: u8, kind: usize) -> bool
@@ -68,23 +73,58 @@ fn class_flags_fit(sheet: u8, flags: u16) -> bool
 }
 
 // Whether the type at i is one: its code is known, and a primitive names no class.
-fn type_fits(user: &[u8], group: &[u8], cut: Cut, i: usize) -> bool
-    requires { ⌜ Fits cut (now user) ⌝ }
-    requires { ⌜ i < 65000 ⌝ }
-    ensures { λ r. ⌜ r ≡ tyFits (tyAt (spliced (now (user .entry)) (now (group .entry)) cut) i) ⌝ }
+fn type_fits(bytes: &[u8], i: usize) -> bool
+    requires { ⌜ i + 3 < length (now bytes) ⌝ }
+    ensures { λ r. ⌜ r ≡ tyFits (tyAt (now (bytes .entry)) i) ⌝ }
 {
-    let code = byte_at(user, group, cut, i + 1);
+    let code = bytes[i + 1];
     if code == 0 {
         return true;
     }
     if 8 < code {
         return false;
     }
-    word_at(user, group, cut, i + 2) == 0
+    word_in(bytes, i + 2) == 0
 }
 
-// Whether those bytes of a slice may stand in a name.
-fn bytes_fit(bytes: &[u8], from: usize, to: usize) -> bool
+fn wide(x: u8) -> u64
+    ensures { λ r. ⌜ (r ≡ x) × (r < 256) ⌝ }
+{
+    x as u64
+}
+
+// The number that four bytes make.
+fn four_in(bytes: &[u8], i: usize) -> u64
+    requires { ⌜ i + 4 ≤ length (now bytes) ⌝ }
+    ensures { λ r. ⌜ (r ≡ joined (take 4 (drop i (now (bytes .entry))))) × (r < 4294967296) ⌝ }
+{
+    wide(bytes[i])
+        + 256 * wide(bytes[i + 1])
+        + 65536 * wide(bytes[i + 2])
+        + 16777216 * wide(bytes[i + 3])
+}
+
+// Whether the four bytes at i and the four at j may stand in a name, all eight at once: none is over 127, none is 127, none is under 33. A byte that
+// breaks the rule has its highest bit set in the number that is tested, and no other has.
+fn eight_fit(bytes: &[u8], i: usize, j: usize) -> bool
+    requires { ⌜ (i + 4 ≤ length (now bytes)) × (j + 4 ≤ length (now bytes)) ⌝ }
+    ensures { λ r. ⌜ r ≡ nameFits (take 4 (drop i (now (bytes .entry))) ++ take 4 (drop j (now (bytes .entry)))) ⌝ }
+{
+    let w = four_in(bytes, i) + 4294967296 * four_in(bytes, j);
+    if w & TOPS != 0 {
+        return false;
+    }
+    if (w + ONES) & TOPS != 0 {
+        return false;
+    }
+    if (LIMITS - w) & TOPS != 0 {
+        return false;
+    }
+    true
+}
+
+// Whether the bytes from `from` to `to` may stand in a name, one by one.
+fn few_fit(bytes: &[u8], from: usize, to: usize) -> bool
     requires { ⌜ (from ≤ to) × (to ≤ length (now bytes)) ⌝ }
     ensures { λ r. ⌜ r ≡ nameFits (take (to - from) (drop from (now (bytes .entry)))) ⌝ }
 {
@@ -102,74 +142,66 @@ fn bytes_fit(bytes: &[u8], from: usize, to: usize) -> bool
     true
 }
 
-// Whether the bytes from `from` to `to` may stand in a name. Most names stand before the cut, and are read there at once.
-fn name_fits(user: &[u8], group: &[u8], cut: Cut, from: usize, to: usize) -> bool
-    requires { ⌜ Fits cut (now user) ⌝ }
-    requires { ⌜ (from ≤ to) × (to ≤ length (spliced (now user) (now group) cut)) ⌝ }
-    ensures { λ r. ⌜ r ≡ nameFits (take (to - from) (drop from (spliced (now (user .entry)) (now (group .entry)) cut))) ⌝ }
+// Whether the bytes from `from` to `to` may stand in a name, eight at a time. The last ones may be tested twice.
+fn name_fits(bytes: &[u8], from: usize, to: usize) -> bool
+    requires { ⌜ (from ≤ to) × (to ≤ length (now bytes)) ⌝ }
+    ensures { λ r. ⌜ r ≡ nameFits (take (to - from) (drop from (now (bytes .entry)))) ⌝ }
 {
-    if to <= cut.from {
-        return bytes_fit(user, from, to);
+    if to - from < 4 {
+        return few_fit(bytes, from, to);
     }
+    if to - from < 8 {
+        return eight_fit(bytes, from, to - 4);
+    }
+    let last = to - 8;
     let mut i = from;
-    while i < to {
-        let b = byte_at(user, group, cut, i);
-        if b < 33 {
+    while i < last {
+        if eight_fit(bytes, i, i + 4) {
+            i += 8;
+        } else {
             return false;
         }
-        if 126 < b {
-            return false;
-        }
-        i += 1;
     }
-    true
+    eight_fit(bytes, last, last + 4)
 }
 
-// Whether the body of the record at `at` is one of its kind.
-fn body_fits(
-    user: &[u8],
-    group: &[u8],
-    cut: Cut,
-    sheet: u8,
-    at: usize,
-    kind: usize,
-    len: usize,
-) -> bool
-    requires { ⌜ (sheet < 2) × Fits cut (now user) ⌝ }
-    requires { ⌜ (at + len ≤ length (spliced (now user) (now group) cut)) × (length (spliced (now user) (now group) cut) ≤ 32768) ⌝ }
-    requires { ⌜ sizeFits kind len ≡ true ⌝ }
-    ensures { λ r. ⌜ r ≡ bodyAt sheet (spliced (now (user .entry)) (now (group .entry)) cut) at kind len ⌝ }
+// Whether what stands at fixed places in the record at `at` is right for its kind.
+fn fixed_fits(bytes: &[u8], sheet: u8, at: usize, kind: usize) -> bool
+    requires { ⌜ (sheet < 2) × (at + nameStart kind 0 ≤ length (now bytes)) ⌝ }
+    ensures { λ r. ⌜ r ≡ fixedAt sheet (now (bytes .entry)) at kind ⌝ }
 {
     if kind == 1 {
-        let flags = word_at(user, group, cut, at + 4);
-        if class_flags_fit(sheet, flags) {
-            if byte_at(user, group, cut, at + 7) == 0 {
-                return name_fits(user, group, cut, at + 12, at + len);
-            }
+        if class_flags_fit(sheet, word_in(bytes, at + 4)) {
+            return bytes[at + 7] == 0;
         }
         return false;
     }
     if kind == 3 {
-        if word_at(user, group, cut, at + 4) < 8 {
-            if type_fits(user, group, cut, at + 6) {
-                return name_fits(user, group, cut, at + 10, at + len);
-            }
+        if word_in(bytes, at + 4) < 8 {
+            return type_fits(bytes, at + 6);
         }
         return false;
     }
     if kind == 4 {
-        if type_fits(user, group, cut, at + 4) {
-            return name_fits(user, group, cut, at + 8, at + len);
-        }
-        return false;
+        return type_fits(bytes, at + 4);
     }
     if kind == 7 {
-        if word_at(user, group, cut, at + 4) < 2 {
-            return name_fits(user, group, cut, at + 6, at + len);
-        }
-        return false;
+        return word_in(bytes, at + 4) < 2;
     }
     true
+}
+
+// The byte of a record of n bytes where its name begins, n if it has none.
+fn name_start(kind: u16, n: usize) -> usize
+    ensures { λ r. ⌜ r ≡ nameStart kind n ⌝ }
+{
+    match kind {
+        1 => 12,
+        3 => 10,
+        4 => 8,
+        7 => 6,
+        _ => n,
+    }
 }
 
 // The number that refuses the kind, the length or the place of a record with no CLASS before it, or 0.
@@ -195,39 +227,58 @@ fn order_number(sheet: u8, kind: usize, len: u16, k: usize) -> u8
     3
 }
 
-// The number that refuses what begins at `at`, after c classes and k records of the open group, or 0.
-fn record_number(
-    user: &[u8],
-    group: &[u8],
-    cut: Cut,
-    sheet: u8,
-    end: usize,
-    at: usize,
-    c: usize,
-    k: usize,
-) -> u8
-    requires { ⌜ (sheet < 2) × Fits cut (now user) ⌝ }
-    requires { ⌜ (end ≡ length (spliced (now user) (now group) cut)) × (end ≤ 32768) ⌝ }
-    requires { ⌜ (at < end) × (c ≤ 256) ⌝ }
-    ensures { λ r. ⌜ r ≡ recordNumber sheet (spliced (now (user .entry)) (now (group .entry)) cut) at c k ⌝ }
+// The number that refuses the kind, the length, the place or the fixed bytes of the record at `at`, or 0.
+fn kind_number(bytes: &[u8], sheet: u8, at: usize, kind: usize, len: u16, k: usize) -> u8
+    requires { ⌜ (sheet < 2) × (at + len ≤ length (now bytes)) ⌝ }
+    ensures { λ r. ⌜ r ≡ headNumber sheet (now (bytes .entry)) at kind len k ⌝ }
 {
-    if end - at < 4 {
-        return 2;
-    }
-    let len = word_at(user, group, cut, at);
-    if len < 4 {
-        return 2;
-    }
-    let n = len as usize;
-    if end - at < n {
-        return 2;
-    }
-    let kind = word_at(user, group, cut, at + 2) as usize;
     let order = order_number(sheet, kind, len, k);
     if order != 0 {
         return order;
     }
-    if body_fits(user, group, cut, sheet, at, kind, n) {
+    if fixed_fits(bytes, sheet, at, kind) {
+        return 0;
+    }
+    5
+}
+
+// The same. The kind is a constant in each call, so that the compiler keeps only the tests of that kind.
+fn head_number(bytes: &[u8], sheet: u8, at: usize, kind: u16, len: u16, k: usize) -> u8
+    requires { ⌜ (sheet < 2) × (at + len ≤ length (now bytes)) ⌝ }
+    ensures { λ r. ⌜ r ≡ headNumber sheet (now (bytes .entry)) at kind len k ⌝ }
+{
+    match kind {
+        1 => kind_number(bytes, sheet, at, 1, len, k),
+        2 => kind_number(bytes, sheet, at, 2, len, k),
+        3 => kind_number(bytes, sheet, at, 3, len, k),
+        4 => kind_number(bytes, sheet, at, 4, len, k),
+        5 => kind_number(bytes, sheet, at, 5, len, k),
+        6 => kind_number(bytes, sheet, at, 6, len, k),
+        7 => kind_number(bytes, sheet, at, 7, len, k),
+        8 => kind_number(bytes, sheet, at, 8, len, k),
+        _ => 3,
+    }
+}
+
+// The number that refuses what begins at `at`, whose length and kind are read already, after c classes and k records of the open group, or 0.
+fn record_number(bytes: &[u8], sheet: u8, at: usize, kind: u16, len: u16, c: usize, k: usize) -> u8
+    requires { ⌜ (sheet < 2) × (c ≤ 256) ⌝ }
+    requires { ⌜ at + 4 ≤ length (now bytes) ⌝ }
+    requires { ⌜ (len ≡ u16 (now bytes) at) × (kind ≡ u16 (now bytes) (at + 2)) ⌝ }
+    ensures { λ r. ⌜ r ≡ recordNumber sheet (now (bytes .entry)) at c k ⌝ }
+{
+    if len < 4 {
+        return 2;
+    }
+    let n = len as usize;
+    if bytes.len() - at < n {
+        return 2;
+    }
+    let head = head_number(bytes, sheet, at, kind, len, k);
+    if head != 0 {
+        return head;
+    }
+    if name_fits(bytes, at + name_start(kind, n), at + n) {
         if kind == 1 {
             if c == 256 {
                 return 7;
@@ -242,42 +293,35 @@ fn record_number(
     5
 }
 
-// The first pass of a sheet (0 library, 1 user), where `base` classes stand before it.
-pub fn first_pass(
-    user: &[u8],
-    group: &[u8],
-    cut: Cut,
-    sheet: u8,
-    base: usize,
-    starts: &mut [u16],
-) -> Pass
-    requires { ⌜ (sheet < 2) × Fits cut (now user) ⌝ }
-    requires { ⌜ length (spliced (now user) (now group) cut) ≤ 32768 ⌝ }
+// The first pass of some bytes of a sheet (0 library, 1 user), where `base` classes stand before them and the first is byte `from` of the sheet.
+pub fn first_pass(bytes: &[u8], sheet: u8, base: usize, from: usize, starts: &mut [u16]) -> Pass
+    requires { ⌜ (sheet < 2) × (from + length (now bytes) ≤ 32768) ⌝ }
     requires { ⌜ (base ≤ 256) × (256 ≤ length (now starts)) ⌝ }
-    ensures answer { λ r. ⌜ r ≡ passOf (passRefusal sheet base (spliced (now (user .entry)) (now (group .entry)) cut))
-        (base + classCount (spliced (now (user .entry)) (now (group .entry)) cut)) ⌝ }
-    ensures starts { λ r. ⌜ Filled (passRefusal sheet base (spliced (now (user .entry)) (now (group .entry)) cut)) base
-        (spliced (now (user .entry)) (now (group .entry)) cut) (now (starts .entry)) (now (starts .exit)) ⌝ }
+    ensures answer { λ r. ⌜ r ≡ passOf (shifted from (passRefusal sheet base (now (bytes .entry)))) (base + classCount (now (bytes .entry))) ⌝ }
+    ensures starts { λ r. ⌜ Filled (passRefusal sheet base (now (bytes .entry))) base from (now (bytes .entry)) (now (starts .entry)) (now (starts .exit)) ⌝ }
 {
-    let end = view_len(user, group, cut);
+    let end = bytes.len();
     let mut at = 0;
     let mut c = base;
     let mut k = 0;
-    while at < end {
-        let number = record_number(user, group, cut, sheet, end, at, c, k);
+    while 4 <= end - at {
+        let len = word_in(bytes, at);
+        let kind = word_in(bytes, at + 2);
+        let number = record_number(bytes, sheet, at, kind, len, c, k);
         if number != 0 {
-            return Pass::Refused(number, at);
+            return Pass::Refused(number, from + at);
         }
-        let len = word_at(user, group, cut, at);
-        let kind = word_at(user, group, cut, at + 2);
         if kind == 1 {
-            starts[c] = at as u16;
+            starts[c] = (from + at) as u16;
             c += 1;
             k = 1;
         } else {
             k += 1;
         }
         at += len as usize;
+    }
+    if at < end {
+        return Pass::Refused(2, from + at);
     }
     Pass::Fine(c)
 }

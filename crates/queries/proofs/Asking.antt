@@ -2,7 +2,7 @@
 -- Assumes nothing.
 use mathlib.Core.Path.{_≡_, refl, sym, ap, _∙_, subst}
 use mathlib.Core.Bool.{Bool, true, false, not, _||_}
-use mathlib.Core.List.{List, map}
+use mathlib.Core.List.{List, [], map}
 use mathlib.Core.Option.{Option, none, some}
 use Prim.Native.Nat.{ℕ, _≤_}
 use native.Mathlib.Omega.{arith}
@@ -20,6 +20,7 @@ use Rattle.theory.proofs.Answers.{first-none, first-past, first-some, if-none}
 use Rattle.theory.proofs.Accept.{sound}
 use Rattle.theory.proofs.Falls.{Falls, falls}
 use Rattle.view.specs.View.{Fits}
+use Rattle.view.proofs.Splice.{plain-fits}
 use Rattle.groups.specs.Groups.{Indexed, startOf}
 use Rattle.overlay.specs.Memo.{Right}
 use Rattle.form.specs.declared.Checked.{Checked}
@@ -105,8 +106,8 @@ module _ (library user : List ℕ) (used : ℕ) {p : Checked} {row memo : List �
     pub told : (presentRefusal library user used ≡ none) × ((nlib ≡ classCount library) × (n ≡ total library (take used user)))
     told = fine-none (presentRefusal library user used) (sym f ∙ a .0)
 
-    pub fits : Fits (record { from = used; to = used; used = used }) user
-    fits = record { ordered = omega arith; within = omega arith; there = used-there library user used (told .0) }
+    pub fits : Fits (record { from = used; to = used; used = used }) user []
+    fits = plain-fits user used (used-there library user used (told .0))
 
     module _ {s : List ℕ} (q : s ≡ take used user) where
       pub indexed : Indexed library s nlib n row

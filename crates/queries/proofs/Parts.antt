@@ -17,7 +17,7 @@ use Rattle.theory.specs.Claims.{sheetOf}
 use Rattle.theory.proofs.Bools.{t-false}
 use Rattle.theory.proofs.Answers.{first-none, if-none}
 use Rattle.groups.specs.Groups.{Indexed, sheetNumber, startOf}
-use Rattle.groups.proofs.Classes.{library-sheet, user-sheet, class-size, class-room, class-long, end-small, group-tiled}
+use Rattle.groups.proofs.Classes.{library-sheet, user-sheet, size-read, class-room, class-long, end-small, group-tiled}
 use Rattle.queries.specs.Answers.{placedAnswer}
 use Rattle.queries.specs.declared.Placed.{Placed}
 use Rattle.queries.specs.declared.Placed.the-variants.{At, Refused}
@@ -46,13 +46,10 @@ part-is library user c = go (ltb c (classCount library))
     go false = refl
 
 module _ {library user : List ℕ} {nlib n : ℕ} {row : List ℕ} (x : Indexed library user nlib n row) {c : ℕ} (h : c < n) where
-  pub size-read : {sheet at len : ℕ} → sheet ≡ sheetNumber nlib c → at ≡ startOf library user c → len ≡ u16 (sheetOf library user sheet) at → len ≡ length (classRecord (group library user c))
-  size-read es ea el = el ∙ rw (es, ea) (sym (class-size x h))
-
   -- the part by what the code reads
-  pub part-read : {sheet at len : ℕ} → sheet ≡ sheetNumber nlib c → at ≡ startOf library user c → len ≡ u16 (sheetOf library user sheet) at
+  pub part-read : {sheet at len : ℕ} → sheet ≡ sheetNumber nlib c → at ≡ startOf library user c → len ≡ u16 (classRecord (group library user c)) 0
       → record { sheet = sheet; start = at + 12; size = len - 12 } ≡ namePart library user c
-  part-read es ea el = rw (size-read es ea el, es, ea, x .nlib-is) (sym (part-is library user c))
+  part-read es ea el = rw (size-read x h el, es, ea, x .nlib-is) (sym (part-is library user c))
 
   -- it lies inside its sheet
   pub part-within : namePart library user c .start + namePart library user c .size ≤ length (sheetOf library user (namePart library user c .sheet))

@@ -1,9 +1,9 @@
 // What is asked of one class: its overlay markers and its name.
 use form::Checked;
 use form::present;
+use groups::class_word;
 use groups::group_start;
 use groups::sheet_of;
-use groups::word_of;
 use overlay::overlay;
 use view::Cut;
 ghost use Rattle.spec.specs.Promises.{Marks, Places, Names};
@@ -22,7 +22,7 @@ pub enum Placed {
 }
 
 // The overlay markers of a class of either sheet; `used` bytes of the user buffer are its sheet.
-pub fn marks(library: &[u8], user: &[u8], used: usize, class: usize) -> Marked
+pub fn marks<'a>(library: &'a [u8], user: &'a [u8], used: usize, class: usize) -> Marked
     ensures { λ r. ⌜ Marks (now (library .entry)) (now (user .entry)) used class (markedAnswer r) ⌝ }
 {
     let mut starts = [0u16; 256];
@@ -56,7 +56,7 @@ pub fn marks(library: &[u8], user: &[u8], used: usize, class: usize) -> Marked
 }
 
 // Where a class's name stands: for a caller that wants the refusal, or cannot be handed a part of a slice.
-pub fn name_place(library: &[u8], user: &[u8], used: usize, class: usize) -> Placed
+pub fn name_place<'a>(library: &'a [u8], user: &'a [u8], used: usize, class: usize) -> Placed
     ensures { λ r. ⌜ Places (now (library .entry)) (now (user .entry)) used class (placedAnswer r) ⌝ }
 {
     let mut starts = [0u16; 256];
@@ -76,7 +76,7 @@ pub fn name_place(library: &[u8], user: &[u8], used: usize, class: usize) -> Pla
             let none = &library[0..0];
             let sheet = sheet_of(nlib, class);
             let at = group_start(library, user, none, cut, &starts, nlib, n, class);
-            let len = word_of(library, user, none, cut, sheet, at);
+            let len = class_word(library, user, none, cut, &starts, nlib, n, class, 0);
             Placed::At(sheet, at + 12, len as usize - 12)
         }
     }

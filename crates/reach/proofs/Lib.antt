@@ -1,2 +1,3 @@
 pub mod Depending
 pub mod Scanning
+pub mod Library

@@ -9,7 +9,9 @@ use Rattle.spec.specs.Lists.{gather, span}
 use Rattle.spec.specs.Record.{encloser}
 use Rattle.spec.specs.Sheet.{Group, classRecord}
 use Rattle.spec.specs.Verdicts.{dependsOn}
+use Rattle.groups.specs.Groups.{between}
 use Rattle.named.specs.Named.{firstNamed, secondNamed}
+use Rattle.lanes.specs.Lanes.{Run, SettledAt, Enclosers}
 
 -- the classes that a group names, 65535 where a record names fewer than two: along BUILDS or along every record
 unfoldable pub namedIn : Bool → Group → List ℕ
@@ -21,6 +23,11 @@ stepsOf g builds m = namedIn builds (g m)
 -- the encloser of a class; a number that is not lower is none
 unfoldable pub outerOf : (ℕ → Group) → ℕ → ℕ
 outerOf g m = encloser (classRecord (g m))
+
+-- Class m has drawn along all that the records in these bytes name. Only the bytes and the row of marks were asked, so it holds for all steps and enclosers that they are right for.
+pub record Scanned (bytes marks : List ℕ) (builds : Bool) (n lanes m : ℕ) (s₀ s : List ℕ) (r : ℕ) : Type 0 where
+  pub run : (step : ℕ → List ℕ) (outer : ℕ → ℕ) → step m ≡ namedIn builds (between bytes 0 (length bytes)) → Enclosers outer m marks
+      → Run step outer n lanes (SettledAt step outer n lanes m) s₀ s r
 
 -- the first k entries of a row are none, the others are kept
 pub record Emptied (k : ℕ) (before after : List ℕ) : Type 0 where

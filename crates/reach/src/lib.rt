@@ -1,9 +1,7 @@
 // The search along what the records of both sheets name: each class draws the least owner that reaches it, until nothing changes.
+use groups::class_bytes;
 use groups::class_word;
-use groups::group_end;
-use groups::group_start;
-use groups::sheet_of;
-use groups::word_of;
+use groups::nth_in;
 use lanes::draw_lanes;
 use lanes::either;
 use lanes::fill;
@@ -11,6 +9,7 @@ use lanes::place;
 use named::first_named;
 use named::second_named;
 use view::Cut;
+use view::word_in;
 ghost use mathlib.Core.Path.{_≡_};
 ghost use mathlib.Core.Option.{none};
 ghost use Prim.Native.Nat.{ℕ, _*_, _≤_, _<_};
@@ -18,9 +17,9 @@ ghost use lib.ListN.{length, getD};
 ghost use Rattle.spec.specs.Sheet.{group as groupOf};
 ghost use Rattle.spec.specs.Refusals.{formRefusal};
 ghost use Rattle.view.specs.View.{Fits, spliced};
-ghost use Rattle.groups.specs.Groups.{Indexed};
+ghost use Rattle.groups.specs.Groups.{AtRecord, Indexed};
 ghost use Rattle.lanes.specs.Lanes.{Enclosers, Run, SettledAt, AllSettled, SeedsFit, Least};
-ghost use Rattle.reach.specs.Reach.{stepsOf, outerOf, dependentRow};
+ghost use Rattle.reach.specs.Reach.{stepsOf, outerOf, Scanned, dependentRow};
 
 fn wide(x: u16) -> usize
     ensures { λ r. ⌜ (r ≡ x) × (r < 65536) ⌝ }
@@ -29,10 +28,10 @@ fn wide(x: u16) -> usize
 }
 
 // Marks the enclosers of class m in a row of zeros.
-pub fn enclosers(
-    library: &[u8],
-    user: &[u8],
-    group: &[u8],
+pub fn enclosers<'a>(
+    library: &'a [u8],
+    user: &'a [u8],
+    group: &'a [u8],
     cut: Cut,
     starts: &[u16],
     nlib: usize,
@@ -40,7 +39,7 @@ pub fn enclosers(
     m: usize,
     marks: &mut [u8],
 )
-    requires { ⌜ Fits cut (now user) ⌝ }
+    requires { ⌜ Fits cut (now user) (now group) ⌝ }
     requires { ⌜ Indexed (now library) (spliced (now user) (now group) cut) nlib n (now starts) ⌝ }
     requires { ⌜ (m < n) × (m ≤ length (now marks)) × ((x : ℕ) → getD (now marks) x 0 ≡ 0) ⌝ }
     ensures { λ r. ⌜ Enclosers (outerOf (groupOf (now (library .entry)) (spliced (now (user .entry)) (now (group .entry)) cut))) m (now (marks .exit)) ⌝ }
@@ -54,11 +53,45 @@ pub fn enclosers(
     }
 }
 
-// Class m draws along all that its records name.
-fn visit(
-    library: &[u8],
-    user: &[u8],
-    group: &[u8],
+// Class m, whose bytes these are, draws along all that its records name, in a single lane until it has 0. The row of marks holds its enclosers.
+fn scan(
+    bytes: &[u8],
+    marks: &[u8],
+    n: usize,
+    builds: bool,
+    lanes: usize,
+    m: usize,
+    row: &mut [u8],
+) -> usize
+    requires { ⌜ AtRecord (now bytes) (length (now bytes)) 0 ⌝ }
+    requires { ⌜ (n ≤ 256) × (lanes ≤ 256) × (lanes * 256 ≤ length (now row)) × (length (now marks) ≡ 256) × (m < n) ⌝ }
+    ensures { λ r. ⌜ Scanned (now (bytes .entry)) (now (marks .entry)) builds n lanes m (now (row .entry)) (now (row .exit)) r ⌝ }
+{
+    let mut at = 0;
+    let mut added = 0;
+    while at < bytes.len() {
+        let t = first_named(bytes, at, builds);
+        let got = draw_lanes(marks, n, lanes, m, t, row);
+        let so_far = either(added, got);
+        let u = second_named(bytes, at, builds);
+        let more = draw_lanes(marks, n, lanes, m, u, row);
+        added = either(so_far, more);
+        if lanes == 1 {
+            if row[m] == 0 {
+                return added;
+            }
+        }
+        at += wide(word_in(bytes, at));
+    }
+    added
+}
+
+// Class m draws along all that its records name, unless there is nothing to draw: in a single lane nothing is lower than 0, and along BUILDS
+// a class that builds nothing has no step. No library class builds.
+fn visit<'a>(
+    library: &'a [u8],
+    user: &'a [u8],
+    group: &'a [u8],
     cut: Cut,
     starts: &[u16],
     nlib: usize,
@@ -68,34 +101,37 @@ fn visit(
     m: usize,
     row: &mut [u8],
 ) -> usize
-    requires { ⌜ Fits cut (now user) ⌝ }
+    requires { ⌜ Fits cut (now user) (now group) ⌝ }
     requires { ⌜ Indexed (now library) (spliced (now user) (now group) cut) nlib n (now starts) ⌝ }
     requires { ⌜ (m < n) × (lanes ≤ 256) × (lanes * 256 ≤ length (now row)) ⌝ }
     ensures { λ r. ⌜ Run (stepsOf (groupOf (now (library .entry)) (spliced (now (user .entry)) (now (group .entry)) cut)) builds) (outerOf (groupOf (now (library .entry)) (spliced (now (user .entry)) (now (group .entry)) cut))) n lanes (SettledAt (stepsOf (groupOf (now (library .entry)) (spliced (now (user .entry)) (now (group .entry)) cut)) builds) (outerOf (groupOf (now (library .entry)) (spliced (now (user .entry)) (now (group .entry)) cut))) n lanes m) (now (row .entry)) (now (row .exit)) r ⌝ }
 {
+    if lanes == 1 {
+        if row[m] == 0 {
+            return 0;
+        }
+    }
+    if builds {
+        if m < nlib {
+            return 0;
+        }
+    }
+    let bytes = class_bytes(library, user, group, cut, starts, nlib, n, m);
+    if builds {
+        if nth_in(bytes, 6, 0) == bytes.len() {
+            return 0;
+        }
+    }
     let mut marks = [0u8; 256];
     enclosers(library, user, group, cut, starts, nlib, n, m, &mut marks);
-    let sheet = sheet_of(nlib, m);
-    let end = group_end(library, user, group, cut, starts, nlib, n, m);
-    let mut at = group_start(library, user, group, cut, starts, nlib, n, m);
-    let mut added = 0;
-    while at < end {
-        let t = first_named(library, user, group, cut, sheet, at, builds);
-        let got = draw_lanes(&marks, n, lanes, m, t, row);
-        let so_far = either(added, got);
-        let u = second_named(library, user, group, cut, sheet, at, builds);
-        let more = draw_lanes(&marks, n, lanes, m, u, row);
-        added = either(so_far, more);
-        at += wide(word_of(library, user, group, cut, sheet, at));
-    }
-    added
+    scan(bytes, &marks, n, builds, lanes, m, row)
 }
 
 // Each class draws once, in rising or in falling order.
-fn sweep(
-    library: &[u8],
-    user: &[u8],
-    group: &[u8],
+fn sweep<'a>(
+    library: &'a [u8],
+    user: &'a [u8],
+    group: &'a [u8],
     cut: Cut,
     starts: &[u16],
     nlib: usize,
@@ -105,7 +141,7 @@ fn sweep(
     up: bool,
     row: &mut [u8],
 ) -> usize
-    requires { ⌜ Fits cut (now user) ⌝ }
+    requires { ⌜ Fits cut (now user) (now group) ⌝ }
     requires { ⌜ Indexed (now library) (spliced (now user) (now group) cut) nlib n (now starts) ⌝ }
     requires { ⌜ (lanes ≤ 256) × (lanes * 256 ≤ length (now row)) ⌝ }
     ensures { λ r. ⌜ Run (stepsOf (groupOf (now (library .entry)) (spliced (now (user .entry)) (now (group .entry)) cut)) builds) (outerOf (groupOf (now (library .entry)) (spliced (now (user .entry)) (now (group .entry)) cut))) n lanes (AllSettled (stepsOf (groupOf (now (library .entry)) (spliced (now (user .entry)) (now (group .entry)) cut)) builds) (outerOf (groupOf (now (library .entry)) (spliced (now (user .entry)) (now (group .entry)) cut))) n lanes) (now (row .entry)) (now (row .exit)) r ⌝ }
@@ -134,10 +170,10 @@ fn sweep(
 }
 
 // Sweeps to and fro until nothing changes.
-pub fn close(
-    library: &[u8],
-    user: &[u8],
-    group: &[u8],
+pub fn close<'a>(
+    library: &'a [u8],
+    user: &'a [u8],
+    group: &'a [u8],
     cut: Cut,
     starts: &[u16],
     nlib: usize,
@@ -146,7 +182,7 @@ pub fn close(
     lanes: usize,
     row: &mut [u8],
 )
-    requires { ⌜ Fits cut (now user) ⌝ }
+    requires { ⌜ Fits cut (now user) (now group) ⌝ }
     requires { ⌜ Indexed (now library) (spliced (now user) (now group) cut) nlib n (now starts) ⌝ }
     requires { ⌜ (lanes ≤ 256) × (lanes * 256 ≤ length (now row)) ⌝ }
     requires { ⌜ SeedsFit (outerOf (groupOf (now library) (spliced (now user) (now group) cut))) n lanes (now row) ⌝ }
@@ -173,10 +209,10 @@ pub fn close(
 }
 
 // Writes 0 at each class that depends on d, 255 at the others.
-pub fn dependents(
-    library: &[u8],
-    user: &[u8],
-    group: &[u8],
+pub fn dependents<'a>(
+    library: &'a [u8],
+    user: &'a [u8],
+    group: &'a [u8],
     cut: Cut,
     starts: &[u16],
     nlib: usize,
@@ -184,7 +220,7 @@ pub fn dependents(
     d: usize,
     row: &mut [u8],
 )
-    requires { ⌜ Fits cut (now user) ⌝ }
+    requires { ⌜ Fits cut (now user) (now group) ⌝ }
     requires { ⌜ Indexed (now library) (spliced (now user) (now group) cut) nlib n (now starts) ⌝ }
     requires { ⌜ formRefusal (now library) (spliced (now user) (now group) cut) ≡ none ⌝ }
     requires { ⌜ (d < n) × (256 ≤ length (now row)) ⌝ }

@@ -16,30 +16,23 @@ use Rattle.spec.specs.Record.{u16}
 use Rattle.spec.specs.Sheet.{Group, group, isInterface}
 use Rattle.spec.specs.Rules.{Fault, clean, placeIn, verdictOf}
 use Rattle.spec.specs.Relations.{At, here, next}
-use Rattle.theory.specs.Claims.{sheetOf}
 use Rattle.theory.proofs.All.{keep-yes, keep-no}
 use Rattle.theory.proofs.Members.{keep-mem, numbered-at}
 use Rattle.theory.proofs.Slots.{place-own, place-other}
 use Rattle.theory.proofs.Faults.{Stands}
 use Rattle.pass.specs.Pass.{recordAt}
-use Rattle.groups.specs.Groups.{sheetNumber, startOf, between, Indexed}
+use Rattle.groups.specs.Groups.{between, Indexed, AtRecord, Carries}
 use Rattle.groups.proofs.Between.{tiled-end}
-use Rattle.groups.proofs.Walks.{AtRecord, walk-here, walk-next}
+use Rattle.groups.proofs.Walks.{walk-here, walk-next}
 use Rattle.groups.proofs.Few.{group-few}
 use Rattle.second.specs.Second.{Sized}
 use Rattle.second.proofs.Positions.{walk-sized}
 use Rattle.breaks.specs.Breaking.{breaksAt}
-use Rattle.rules.specs.Walk.{onlyFirst, asked, foundIn, found, afterward, classesFrom, firstClass, nextClass, walked}
+use Rattle.rules.specs.Walk.{onlyFirst, asked, foundIn, found, afterward, classesFrom, firstClass, nextClass, walked, RuleAt}
 use Rattle.rules.proofs.Ascent.{Spot, left, Onward, Begins, after-self, from-there, from-past, onward, begins}
 use Rattle.rules.proofs.Hits.{asked-all, asked-one}
 use Rattle.rules.proofs.Records.{walk-part}
 use Rattle.rules.proofs.Verdicts.{Ground, verdict, none-found, first-found}
-
--- the rules below this one find nothing
-pub record RuleAt (nlib : ℕ) (g : ℕ → Group) (c rule : ℕ) : Type 0 where
-  pub some : 1 ≤ rule
-  pub few : rule ≤ 11
-  pub clear : (i : ℕ) → 1 ≤ i → i < rule → walked nlib g i c ≡ []
 
 -- this rule finds what it finds from class t on
 pub record ClassAt (nlib n : ℕ) (g : ℕ → Group) (c rule t : ℕ) : Type 0 where
@@ -48,11 +41,12 @@ pub record ClassAt (nlib n : ℕ) (g : ℕ → Group) (c rule t : ℕ) : Type 0 
   pub concrete : 7 ≤ rule → t < n → T (not (isInterface (g c)))
   pub rest : walked nlib g rule c ≡ gather (found nlib g rule c) (classesFrom nlib g n c t)
 
--- and from record k of class t on, which begins at `at`
+-- and from record k of class t on, which begins at `at` of the class's bytes
 pub record RecordAt (library user : List ℕ) (nlib n c rule t : ℕ) (s : List ℕ) (end at k : ℕ) : Type 0 where
   pub rules : RuleAt nlib (group library user) c rule
   pub spot : Spot n (group library user) c t
   pub concrete : 7 ≤ rule → T (not (isInterface (group library user c)))
+  pub carries : Carries s (group library user t)
   pub place : AtRecord s end at
   pub few : k + length (between s at end) ≤ 255
   pub one : onlyFirst nlib rule t ≡ true → k + length (between s at end) ≤ 1
@@ -60,9 +54,6 @@ pub record RecordAt (library user : List ℕ) (nlib n c rule t : ℕ) (s : List 
   pub rest : walked nlib (group library user) rule c ≡ foundIn nlib (group library user) rule c t k (between s at end) ++ gather (found nlib (group library user) rule c) (afterward nlib (group library user) c t)
 
 -- ---- rules
-
-pub rule-start : (nlib : ℕ) (g : ℕ → Group) (c : ℕ) → RuleAt nlib g c 1
-rule-start nlib g c = record { some = omega arith; few = omega arith; clear = λ i h k. absurd (omega arith) }
 
 pub rule-end : {nlib n : ℕ} {g : ℕ → Group} → Ground nlib n g → {c rule : ℕ} → nlib ≤ c → c < n → RuleAt nlib g c rule → 10 < rule → verdictOf nlib g c ≡ clean
 rule-end w user there r h = none-found w user there (λ i a b. r .clear i a (omega arith))
@@ -147,17 +138,17 @@ module _ {library user : List ℕ} {nlib n : ℕ} {starts : List ℕ} (x : Index
   at-left ys here = here
   at-left ys (next a) = next (at-left ys a)
 
-  pub record-start : {rule t sheet end at : ℕ} → ClassAt nlib n g c rule t → t < n → sheet ≡ sheetNumber nlib t → end ≡ startOf library user t + length (concat (asked nlib g rule t)) → at ≡ startOf library user t
-      → RecordAt library user nlib n c rule t (sheetOf library user sheet) end at 0
+  pub record-start : {rule t end : ℕ} {s : List ℕ} → ClassAt nlib n g c rule t → t < n → Carries s (g t) → end ≡ length (concat (asked nlib g rule t)) → RecordAt library user nlib n c rule t s end 0 0
   unfolding found gather
-  record-start {rule} {t} {sheet} {end} {at} k h es ee ea =
+  record-start {rule} {t} {end} {s} k h carries ee =
       let p = part rule t in
-      let q = walk-part x h (asked nlib g rule t) (p .after) (p .is) es ee ea in
-      let b : between (sheetOf library user sheet) at end ≡ asked nlib g rule t = q .1 in
+      let q = walk-part carries (asked nlib g rule t) (p .after) (p .is) ee in
+      let b : between s 0 end ≡ asked nlib g rule t = q .1 in
       record {
         rules = k .rules;
         spot = k .spot;
         concrete = λ l. k .concrete l h;
+        carries = carries;
         place = q .0;
         few = omega (arith, ap length b, group-few x t, ap length (p .is), length-append (asked nlib g rule t) (p .after));
         one = λ e. omega (arith, ap length b, p .alone e);
@@ -178,10 +169,6 @@ module _ {library user : List ℕ} {nlib n : ℕ} {starts : List ℕ} (x : Index
           },
           o .less,
         )
-
-    -- the length that the code read
-    pub record-length : {l v sheet : ℕ} → l ≡ v → v ≡ u16 (sheetOf library user sheet) at → sheet ≡ sheetNumber nlib t → l ≡ u16 (sheetOf library user (sheetNumber nlib t)) at
-    record-length a b e = a ∙ b ∙ ap (λ (k : ℕ). u16 (sheetOf library user k) at) e
 
     module _ (h : at < end) where
       more : between s at end ≡ recordAt s at ∷ between s (at + u16 s at) end
@@ -207,6 +194,7 @@ module _ {library user : List ℕ} {nlib n : ℕ} {starts : List ℕ} (x : Index
             rules = f .rules;
             spot = f .spot;
             concrete = f .concrete;
+            carries = f .carries;
             place = walk-next (f .place) h;
             few = omega (arith, f .few, ap length more);
             one = λ q. omega (arith, f .one q, ap length more);

@@ -1,28 +1,26 @@
 -- The classes and records that a rule asks, by the numbers that the code reads.
 -- Assumes nothing.
-use mathlib.Core.Path.{_≡_, refl, sym, ap, ap₂, _∙_}
+use mathlib.Core.Path.{_≡_, refl, sym, ap, _∙_}
 use mathlib.Core.Bool.{Bool, true, false, not, _&&_, _||_}
 use mathlib.Core.List.{List}
-use Prim.Native.Nat.{ℕ, _+_, _/_, _%_, _^_, _≤_, _<_}
+use Prim.Native.Nat.{ℕ, _/_, _%_, _^_, _≤_, _<_}
 use native.Mathlib.Omega.{arith}
 use lib.Dec.{eqb, ltb, lt→ltb}
 use lib.ListN.{length, getD}
 use borrow.Author.Tests.{eq-eqb, ne-eqb, lt-ltb, le-ltb}
 use Rattle.spec.specs.Lists.{concat}
 use Rattle.spec.specs.Record.{u16, bit, flags, superclass}
-use Rattle.spec.specs.Sheet.{Group, group, classRecord, isInterface}
+use Rattle.spec.specs.Sheet.{Group, classRecord, isInterface}
 use Rattle.spec.specs.Classes.{hasMarker}
 use Rattle.spec.specs.Rules.{judgedFor, placeIn}
-use Rattle.theory.specs.Claims.{sheetOf}
 use Rattle.theory.proofs.Bools.{t-true, or-l, or-r, eq→eqb}
 use Rattle.theory.proofs.Slots.{place-own, place-other}
-use Rattle.groups.specs.Groups.{sheetNumber, startOf, endOf, Indexed}
-use Rattle.groups.proofs.Classes.{class-size, class-low}
+use Rattle.groups.specs.Groups.{Carries}
 use Rattle.overlay.specs.Types.{Known}
 use Rattle.breaks.specs.Breaking.{ruleMarker}
 use Rattle.rules.specs.Walk.{onlyFirst, asked, firstClass, nextClass}
 use Rattle.rules.proofs.Hits.{asked-all, asked-one}
-use Rattle.rules.proofs.Records.{first-length}
+use Rattle.rules.proofs.Records.{first-length, all-length}
 
 not-true : (b : Bool) → not b ≡ true → b ≡ false
 not-true true e = sym e
@@ -101,22 +99,13 @@ module _ (nlib rule t : ℕ) where
   unfolding onlyFirst
   only-last h a b = rw (le-ltb t nlib h, ne-eqb rule 3 a, ne-eqb rule 4 b)
 
-module _ {library user : List ℕ} {nlib n : ℕ} {row : List ℕ} (x : Indexed library user nlib n row) {t : ℕ} (h : t < n) (rule : ℕ) where
-  -- after the CLASS record
-  pub end-first : {b : Bool} → b ≡ onlyFirst nlib rule t → b ≡ true → {sheet at l v : ℕ} → sheet ≡ sheetNumber nlib t → at ≡ startOf library user t → l ≡ v → v ≡ u16 (sheetOf library user sheet) at
-      → at + l ≡ startOf library user t + length (concat (asked nlib (group library user) rule t))
-  end-first eb e {sheet} {at} {l} {v} es ea el ev =
-      let a : l ≡ length (concat (asked nlib (group library user) rule t)) =
-      el ∙ ev ∙ ap₂ (λ (k i : ℕ). u16 (sheetOf library user k) i) es ea ∙ sym (class-size x h) ∙ sym (first-length (group library user t))
-      ∙ ap (λ (rs : Group). length (concat rs)) (sym (asked-one nlib (group library user) rule t (sym eb ∙ e))) in
-      ap₂ (λ (i j : ℕ). i + j) ea a
+-- where those end that the rule asks, in the bytes of the class
+module _ (nlib : ℕ) (g : ℕ → Group) (rule t : ℕ) {bytes : List ℕ} (w : Carries bytes (g t)) {b : Bool} (eb : b ≡ onlyFirst nlib rule t) where
+  pub end-first : b ≡ true → 0 < length bytes → {l v : ℕ} → l ≡ v → v ≡ u16 bytes 0 → l ≡ length (concat (asked nlib g rule t))
+  end-first e h el ev = el ∙ ev ∙ sym (first-length w h) ∙ ap (λ (rs : Group). length (concat rs)) (sym (asked-one nlib g rule t (sym eb ∙ e)))
 
-  pub end-all : {b : Bool} → b ≡ onlyFirst nlib rule t → b ≡ false → {end : ℕ} → end ≡ endOf library user t → end ≡ startOf library user t + length (concat (asked nlib (group library user) rule t))
-  unfolding endOf
-  end-all eb e ee = ee ∙ ap (λ (rs : Group). startOf library user t + length (concat rs)) (sym (asked-all nlib (group library user) rule t (sym eb ∙ e)))
-
-  pub start-low : {at : ℕ} → at ≡ startOf library user t → at + 13 ≤ 32768
-  start-low e = omega (arith, e, class-low x h)
+  pub end-all : b ≡ false → length bytes ≡ length (concat (asked nlib g rule t))
+  end-all e = sym (all-length w) ∙ ap (λ (rs : Group). length (concat rs)) (sym (asked-all nlib g rule t (sym eb ∙ e)))
 
 -- ---- where a fault stands
 

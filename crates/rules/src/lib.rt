@@ -1,27 +1,24 @@
 // The verdict of one class: the first broken rule and the lowest record that breaks it.
 use breaks::breaks;
 use breaks::rule_set;
-use groups::class_word;
-use groups::group_end;
-use groups::group_start;
-use groups::sheet_of;
-use groups::word_of;
+use groups::class_bytes;
 use markers::has;
 use overlay::known;
 use view::Cut;
+use view::word_in;
 ghost use mathlib.Core.Path.{_≡_};
 ghost use mathlib.Core.Option.{none};
-ghost use Prim.Native.Nat.{_+_, _≤_, _<_};
+ghost use Prim.Native.Nat.{ℕ, _≤_, _<_};
 ghost use lib.ListN.{length};
 ghost use Rattle.spec.specs.Lists.{concat};
-ghost use Rattle.spec.specs.Sheet.{group as groupOf};
+ghost use Rattle.spec.specs.Sheet.{Group, group as groupOf};
 ghost use Rattle.spec.specs.Rules.{placeIn, verdictOf};
 ghost use Rattle.spec.specs.Refusals.{formRefusal};
 ghost use Rattle.view.specs.View.{Fits, spliced};
-ghost use Rattle.groups.specs.Groups.{startOf, Indexed};
+ghost use Rattle.groups.specs.Groups.{Carries, Indexed};
 ghost use Rattle.overlay.specs.Types.{Known};
 ghost use Rattle.captured.specs.Captured.{Shown};
-ghost use Rattle.rules.specs.Walk.{onlyFirst, asked, firstClass, nextClass};
+ghost use Rattle.rules.specs.Walk.{onlyFirst, asked, firstClass, nextClass, RuleAt};
 ghost use Rattle.rules.specs.Line.{lineOf};
 
 // Rule and record; 0 and 0 is clean.
@@ -37,10 +34,10 @@ fn wide(x: u16) -> usize
 }
 
 // The first class that the rule asks: the superclass for rules 7 to 10, since inherited faults stand at record 0; n if the rule does not apply.
-fn first_class(
-    library: &[u8],
-    user: &[u8],
-    group: &[u8],
+fn first_class<'a>(
+    library: &'a [u8],
+    user: &'a [u8],
+    group: &'a [u8],
     cut: Cut,
     starts: &[u16],
     nlib: usize,
@@ -49,7 +46,7 @@ fn first_class(
     rule: u8,
     c: usize,
 ) -> usize
-    requires { ⌜ Fits cut (now user) ⌝ }
+    requires { ⌜ Fits cut (now user) (now group) ⌝ }
     requires { ⌜ Indexed (now library) (spliced (now user) (now group) cut) nlib n (now starts) ⌝ }
     requires { ⌜ Known (groupOf (now library) (spliced (now user) (now group) cut)) (now markers) ⌝ }
     requires { ⌜ c < n ⌝ }
@@ -58,31 +55,33 @@ fn first_class(
     if rule < 7 {
         return c;
     }
-    let flags = class_word(library, user, group, cut, starts, nlib, n, c, 4);
-    if flags % 2 == 1 {
+    let bytes = class_bytes(library, user, group, cut, starts, nlib, n, c);
+    if word_in(bytes, 4) % 2 == 1 {
         return n;
     }
     if !has(known(markers, c), rule_set(rule)) {
         return n;
     }
-    wide(class_word(library, user, group, cut, starts, nlib, n, c, 8))
+    wide(word_in(bytes, 8))
 }
 
-// The class after t: its superclass, after the root c itself, after c none.
-fn next_class(
-    library: &[u8],
-    user: &[u8],
-    group: &[u8],
+// The class after t: its superclass, after the root c itself, after c none. The bytes are those of t.
+fn next_class<'a>(
+    library: &'a [u8],
+    user: &'a [u8],
+    group: &'a [u8],
     cut: Cut,
     starts: &[u16],
     nlib: usize,
     n: usize,
     c: usize,
     t: usize,
+    bytes: &[u8],
 ) -> usize
-    requires { ⌜ Fits cut (now user) ⌝ }
+    requires { ⌜ Fits cut (now user) (now group) ⌝ }
     requires { ⌜ Indexed (now library) (spliced (now user) (now group) cut) nlib n (now starts) ⌝ }
     requires { ⌜ t < n ⌝ }
+    requires { ⌜ Carries (now bytes) (groupOf (now library) (spliced (now user) (now group) cut) t) ⌝ }
     ensures { λ r. ⌜ r ≡ nextClass nlib (groupOf (now (library .entry)) (spliced (now (user .entry)) (now (group .entry)) cut)) n c t ⌝ }
 {
     if t == c {
@@ -91,7 +90,7 @@ fn next_class(
     if t < nlib {
         return c;
     }
-    wide(class_word(library, user, group, cut, starts, nlib, n, t, 8))
+    wide(word_in(bytes, 8))
 }
 
 // Whether the CLASS record alone is asked: of the root, and by rules 3, 4 and 6.
@@ -110,29 +109,15 @@ fn first_only(nlib: usize, rule: u8, t: usize) -> bool
     rule == 6
 }
 
-// The byte after the last record of class t that the rule asks.
-fn asked_end(
-    library: &[u8],
-    user: &[u8],
-    group: &[u8],
-    cut: Cut,
-    starts: &[u16],
-    nlib: usize,
-    n: usize,
-    rule: u8,
-    t: usize,
-) -> usize
-    requires { ⌜ Fits cut (now user) ⌝ }
-    requires { ⌜ Indexed (now library) (spliced (now user) (now group) cut) nlib n (now starts) ⌝ }
-    requires { ⌜ t < n ⌝ }
-    ensures { λ r. ⌜ r ≡ startOf (now (library .entry)) (spliced (now (user .entry)) (now (group .entry)) cut) t + length (concat (asked nlib (groupOf (now (library .entry)) (spliced (now (user .entry)) (now (group .entry)) cut)) rule t)) ⌝ }
+// The byte after the last record of class t that the rule asks, among the bytes of t.
+fn asked_end(nlib: usize, rule: u8, t: usize, bytes: &[u8]) -> usize
+    requires { ⌜ 1 < length (now bytes) ⌝ }
+    ensures { λ r. ⌜ ((g : ℕ → Group) → Carries (now (bytes .entry)) (g t) → r ≡ length (concat (asked nlib g rule t))) ⌝ }
 {
     if first_only(nlib, rule, t) {
-        let at = group_start(library, user, group, cut, starts, nlib, n, t);
-        let len = wide(word_of(library, user, group, cut, sheet_of(nlib, t), at));
-        return at + len;
+        return wide(word_in(bytes, 0));
     }
-    group_end(library, user, group, cut, starts, nlib, n, t)
+    bytes.len()
 }
 
 // Where a fault of record k of class t stands in class c.
@@ -143,11 +128,11 @@ fn place(c: usize, t: usize, k: usize) -> u8
     if t == c { k as u8 } else { 0 }
 }
 
-// The verdict of user class c.
-pub fn verdict_of(
-    library: &[u8],
-    user: &[u8],
-    group: &[u8],
+// The verdict of user class c, where no rule before `first` finds anything.
+pub fn verdict_of<'a>(
+    library: &'a [u8],
+    user: &'a [u8],
+    group: &'a [u8],
     cut: Cut,
     starts: &[u16],
     nlib: usize,
@@ -155,25 +140,27 @@ pub fn verdict_of(
     markers: &[u8],
     row: &[u8],
     c: usize,
+    first: u8,
 ) -> Verdict
-    requires { ⌜ Fits cut (now user) ⌝ }
+    requires { ⌜ Fits cut (now user) (now group) ⌝ }
     requires { ⌜ Indexed (now library) (spliced (now user) (now group) cut) nlib n (now starts) ⌝ }
     requires { ⌜ formRefusal (now library) (spliced (now user) (now group) cut) ≡ none ⌝ }
     requires { ⌜ Known (groupOf (now library) (spliced (now user) (now group) cut)) (now markers) ⌝ }
     requires { ⌜ Shown (groupOf (now library) (spliced (now user) (now group) cut)) n (now row) ⌝ }
     requires { ⌜ (nlib ≤ c) × (c < n) ⌝ }
+    requires { ⌜ RuleAt nlib (groupOf (now library) (spliced (now user) (now group) cut)) c first ⌝ }
     ensures { λ r. ⌜ lineOf r ≡ verdictOf nlib (groupOf (now (library .entry)) (spliced (now (user .entry)) (now (group .entry)) cut)) c ⌝ }
 {
-    let mut rule: u8 = 1;
+    let mut rule = first;
     let found = 'judged: loop {
         if 10 < rule {
             break 'judged Verdict { rule: 0, record: 0 };
         }
         let mut t = first_class(library, user, group, cut, starts, nlib, n, markers, rule, c);
         while t < n {
-            let sheet = sheet_of(nlib, t);
-            let end = asked_end(library, user, group, cut, starts, nlib, n, rule, t);
-            let mut at = group_start(library, user, group, cut, starts, nlib, n, t);
+            let bytes = class_bytes(library, user, group, cut, starts, nlib, n, t);
+            let end = asked_end(nlib, rule, t, bytes);
+            let mut at = 0;
             let mut k = 0;
             while at < end {
                 if breaks(
@@ -190,6 +177,7 @@ pub fn verdict_of(
                     c,
                     t,
                     k,
+                    bytes,
                     at,
                 ) {
                     break 'judged Verdict {
@@ -197,10 +185,10 @@ pub fn verdict_of(
                         record: place(c, t, k),
                     };
                 }
-                at += wide(word_of(library, user, group, cut, sheet, at));
+                at += wide(word_in(bytes, at));
                 k += 1;
             }
-            t = next_class(library, user, group, cut, starts, nlib, n, c, t);
+            t = next_class(library, user, group, cut, starts, nlib, n, c, t, bytes);
         }
         rule += 1;
     };

@@ -119,7 +119,7 @@ module _ (g : ℕ → Group) (nlib n c : ℕ) (r : List ℕ) where
       ∙ class-there n (target r) [] _
       ∙ ap (nineUnless (ltb (target r) n)) (eight (ltb (target r) c && isInterface (g (target r))) 0)
 
-  pub field-is : kind r ≡ FIELD → formNumber g nlib n c r ≡ fieldNumber g n c (isStatic r) (fieldTy r)
+  pub field-is : kind r ≡ FIELD → formNumber g nlib n c r ≡ fieldNumber n (isInterface (g c)) (isStatic r) (fieldTy r)
   unfolding later numberOf fieldNumber
   field-is e =
       by-number FIELD e (references-field r (eq→eqb e))

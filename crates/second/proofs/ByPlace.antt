@@ -7,21 +7,18 @@ use Prim.Native.Nat.{ℕ, _+_}
 use native.Mathlib.Omega.{arith}
 use lib.Dec.{leb, ltb}
 use Rattle.spec.specs.Record.{u16, bit, CLASS, IMPLEMENTS, FIELD, LOCAL, USES, BUILDS, MEMBER, REFERS, Ty, tyAt}
-use Rattle.spec.specs.Sheet.{Group}
+use Rattle.spec.specs.Sheet.{Group, isInterface}
 use Rattle.pass.specs.Pass.{recordAt}
-use Rattle.second.specs.Second.{Sized, formNumber, nineUnless, typeThere, classNumber, implementsNumber, fieldNumber, usesNumber, refersNumber}
-use Rattle.second.proofs.ByKind.{refusing, nine, index-there, class-is, implements-is, field-is, local-is, uses-is, builds-is, member-is, refers-is}
+use Rattle.second.specs.Second.{Sized, formNumber, nineUnless, typeThere, implementsNumber, fieldNumber, usesNumber, refersNumber}
+use Rattle.second.proofs.ByKind.{refusing, nine, index-there, implements-is, field-is, local-is, uses-is, builds-is, member-is, refers-is}
 use Rattle.second.proofs.Positions.{kind-is, last-kind, target-at, index-at, static-at, field-type-at, local-type-at}
 
 -- `k` is the kind that stands there
 module _ (g : ℕ → Group) (nlib n c : ℕ) {s : List ℕ} {at : ℕ} (z : Sized s at) {k : ℕ} (ek : k ≡ u16 s (at + 2)) where
-  pub class-at : k ≡ CLASS → {m : ℕ} → m ≡ classNumber g nlib n c (recordAt s at) → m ≡ formNumber g nlib n c (recordAt s at)
-  class-at e em = em ∙ sym (class-is g nlib n c (recordAt s at) (kind-is z ek e))
-
-  pub field-at : k ≡ FIELD → {m : ℕ} → m ≡ fieldNumber g n c (bit 2 (u16 s (at + 4))) (tyAt s (at + 6)) → m ≡ formNumber g nlib n c (recordAt s at)
-  field-at e em =
+  pub field-at : k ≡ FIELD → {face : Bool} → face ≡ isInterface (g c) → {m : ℕ} → m ≡ fieldNumber n face (bit 2 (u16 s (at + 4))) (tyAt s (at + 6)) → m ≡ formNumber g nlib n c (recordAt s at)
+  field-at e ef em =
       let q = kind-is z ek e in
-      em ∙ sym (field-is g nlib n c (recordAt s at) q ∙ ap₂ (λ (b : Bool) (t : Ty). fieldNumber g n c b t) (static-at z q) (field-type-at z q))
+      em ∙ sym (field-is g nlib n c (recordAt s at) q ∙ rw (← ef, static-at z q, field-type-at z q))
 
   -- whether its type names a class that isn't there
   pub local-at : k ≡ LOCAL → {absent : Bool} → absent ≡ not (typeThere n (tyAt s (at + 4))) → (b : Bool) → absent ≡ b → refusing 9 b 0 ≡ formNumber g nlib n c (recordAt s at)

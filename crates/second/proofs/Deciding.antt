@@ -1,18 +1,20 @@
--- A CLASS record refused by the first of its tests that it meets, and a record of any other kind, both read at their place in the sheet.
+-- A CLASS record refused by the first of its tests that it meets, read in the bytes of its class.
 -- Assumes nothing.
-use mathlib.Core.Path.{_≡_, refl, sym, _∙_}
+use mathlib.Core.Path.{_≡_, refl, sym, ap, _∙_}
 use mathlib.Core.Bool.{Bool, true, false, not, _&&_}
 use mathlib.Core.List.{List, [], _∷_}
-use Prim.Native.Nat.{ℕ, _+_}
+use Prim.Native.Nat.{ℕ, _+_, _%_, _<_}
 use native.Mathlib.Omega.{arith}
-use lib.Dec.{eqb, eqb→eq}
-use Rattle.spec.specs.Record.{u16, bit, kind, isClass, CLASS, flags, superclass, encloser}
-use Rattle.spec.specs.Sheet.{Group}
+use lib.Dec.{eqb}
+use Rattle.spec.specs.Record.{u16, bit, flags, superclass, encloser}
+use Rattle.spec.specs.Sheet.{Group, group, classRecord, isInterface}
 use Rattle.spec.specs.Refusals.{superclassFits, encloserFits, nameMet}
-use Rattle.theory.proofs.Bools.{true-t}
+use Rattle.theory.proofs.Parts.{u16-take}
 use Rattle.pass.specs.Pass.{numberOf, recordAt}
-use Rattle.second.specs.Second.{Sized, nineUnless, eightUnless, thereOrNone, superclassOk, encloserOk, classNumber}
-use Rattle.second.proofs.Positions.{flags-at, superclass-at, encloser-at}
+use Rattle.groups.specs.Groups.{Carries, Indexed}
+use Rattle.names.proofs.Printing.{class-first, class-opens}
+use Rattle.second.specs.Second.{nineUnless, eightUnless, thereOrNone, superclassOk, encloserOk, classNumber}
+use Rattle.second.proofs.Leaves.{odd-bit}
 
 -- ---- one test after the other
 
@@ -57,17 +59,29 @@ in-order true true false false e m = refl
 in-order true true false true false m = refl
 in-order true true false true true m = refl
 
--- read at their places: `w` and `v` are the superclass and the encloser as they stand there, `up` and `outer` the same as wide numbers
-module _ (g : ℕ → Group) (nlib n c : ℕ) {s : List ℕ} {at : ℕ} (z : Sized s at) (h : isClass (recordAt s at) ≡ true) where
-  of-fields : numberOf (classTests g nlib n c (superclass (recordAt s at)) (encloser (recordAt s at)) (flags (recordAt s at)) (nameMet g c (recordAt s at))) ≡ classNumber g nlib n c (recordAt s at)
-  unfolding classNumber superclassFits encloserFits superclassOk encloserOk
-  of-fields = in-order _ _ _ _ _ _
+-- read in the bytes of class c, where its CLASS record comes first: `w` and `v` are the superclass and the encloser as they stand there, `up` and `outer` the same as wide numbers
+module _ {library user : List ℕ} {nlib n : ℕ} {row : List ℕ} (x : Indexed library user nlib n row) {c : ℕ} (h : c < n) {bytes : List ℕ} (k : Carries bytes (group library user c)) where
+  abbrev g : ℕ → Group
+  g = group library user
 
-  pub class-tests : {up w : ℕ} → up ≡ w → w ≡ u16 s (at + 8) → {outer v : ℕ} → outer ≡ v → v ≡ u16 s (at + 10) → {f : ℕ} → f ≡ u16 s (at + 4)
-      → Deciding (classTests g nlib n c up outer f (nameMet g c (recordAt s at))) (classNumber g nlib n c (recordAt s at))
+  first-word : (j : ℕ) → j + 1 < 12 → u16 bytes j ≡ u16 (classRecord (g c)) j
+  unfolding recordAt
+  first-word j l = sym (u16-take (u16 bytes 0) bytes j (omega (arith, class-opens x h k .long))) ∙ ap (λ (r : List ℕ). u16 r j) (class-first x h k)
+
+  of-fields : (r : List ℕ) → numberOf (classTests g nlib n c (superclass r) (encloser r) (flags r) (nameMet g c r)) ≡ classNumber g nlib n c r
+  unfolding classNumber superclassFits encloserFits superclassOk encloserOk
+  of-fields r = in-order _ _ _ _ _ _
+
+  pub class-tests : {up w : ℕ} → up ≡ w → w ≡ u16 bytes 8 → {outer v : ℕ} → outer ≡ v → v ≡ u16 bytes 10 → {f : ℕ} → f ≡ u16 bytes 4
+      → Deciding (classTests g nlib n c up outer f (nameMet g c (classRecord (g c)))) (classNumber g nlib n c (classRecord (g c)))
+  unfolding superclass encloser flags
   class-tests {up} eu ew {outer} eo ev {f} ef =
-      let k : kind (recordAt s at) ≡ CLASS = eqb→eq (kind (recordAt s at)) CLASS (true-t h) in
-      let p : up ≡ superclass (recordAt s at) = eu ∙ ew ∙ sym (superclass-at z k) in
-      let q : outer ≡ encloser (recordAt s at) = eo ∙ ev ∙ sym (encloser-at z k) in
-      let r : f ≡ flags (recordAt s at) = ef ∙ sym (flags-at z CLASS k (omega arith)) in
-      record { is = rw (p, q, r) of-fields }
+      let p : up ≡ u16 (classRecord (g c)) 8 = eu ∙ ew ∙ first-word 8 (omega arith) in
+      let q : outer ≡ u16 (classRecord (g c)) 10 = eo ∙ ev ∙ first-word 10 (omega arith) in
+      let r : f ≡ u16 (classRecord (g c)) 4 = ef ∙ first-word 4 (omega arith) in
+      record { is = rw (p, q, r) (of-fields (classRecord (g c))) }
+
+  -- whether the class is an interface
+  pub face-is : {f : ℕ} → f ≡ u16 bytes 4 → eqb (f % 2) 1 ≡ isInterface (g c)
+  unfolding isInterface flags
+  face-is {f} ef = odd-bit f ∙ ap (bit 0) (ef ∙ first-word 4 (omega arith))

@@ -1,7 +1,7 @@
 -- The small tests of the second pass: the lowest flag of a class, a type whose class is not there, and a FIELD by its type and flags.
 -- Assumes nothing.
 use mathlib.Core.Path.{_≡_, sym, ap, _∙_}
-use mathlib.Core.Bool.{Bool, true, false, not, Bool·not-not}
+use mathlib.Core.Bool.{Bool, true, false, not, or-true, Bool·not-not}
 use mathlib.Core.List.{List}
 use Prim.Native.Nat.{ℕ, _+_, _/_, _%_}
 use native.Mathlib.Nat.{div-one}
@@ -9,7 +9,6 @@ use lib.Dec.{eqb, leb}
 use lib.ListN.{getD}
 use borrow.Author.Tests.{ne-eqb}
 use Rattle.spec.specs.Record.{u8, u16, bit, tyAt}
-use Rattle.spec.specs.Sheet.{Group, isInterface}
 use Rattle.second.specs.Second.{nineUnless, eightUnless, typeThere, fieldNumber}
 use Rattle.second.proofs.ByKind.{past-last}
 
@@ -28,22 +27,30 @@ module _ (s : List ℕ) (n i : ℕ) where
   unfolding typeThere tyAt u8
   type-plain e z = rw (← e, ne-eqb _ _ z)
 
--- ---- a FIELD at `at`, by whether its type's class is absent, its flags and its class
+-- ---- a FIELD at `at`, by whether its type's class is absent, its class and its flags
 
-module _ (g : ℕ → Group) (s : List ℕ) (n at c : ℕ) {absent : Bool} (e : absent ≡ not (typeThere n (tyAt s (at + 6)))) where
+module _ (s : List ℕ) (n at : ℕ) (face : Bool) {absent : Bool} (e : absent ≡ not (typeThere n (tyAt s (at + 6)))) where
+  abbrev Number : ℕ → Type 0
+  Number m = m ≡ fieldNumber n face (bit 2 (u16 s (at + 4))) (tyAt s (at + 6))
+
   its-type : typeThere n (tyAt s (at + 6)) ≡ not absent
   its-type = sym (Bool·not-not (typeThere n (tyAt s (at + 6)))) ∙ ap not (sym e)
 
-  pub field-absent : absent ≡ true → 9 ≡ fieldNumber g n c (bit 2 (u16 s (at + 4))) (tyAt s (at + 6))
+  pub field-absent : absent ≡ true → Number 9
   unfolding fieldNumber nineUnless
   field-absent h = rw (its-type, h, nineUnless)
 
-  module _ (h : absent ≡ false) {word : ℕ} (ew : word ≡ u16 s (at + 4)) where
-    pub field-static : word / 4 % 2 ≡ 1 → 0 ≡ fieldNumber g n c (bit 2 (u16 s (at + 4))) (tyAt s (at + 6))
-    unfolding fieldNumber nineUnless eightUnless bit
-    field-static f = rw (its-type, h, ← ew, f, nineUnless)
+  module _ (h : absent ≡ false) where
+    pub field-plain : face ≡ false → Number 0
+    unfolding fieldNumber nineUnless eightUnless
+    field-plain f = rw (its-type, h, f, or-true (bit 2 (u16 s (at + 4))), nineUnless)
 
-    pub field-own : (word / 4 % 2 ≡ 1 → ⊥) → {face : Bool} → face ≡ isInterface (g c) → (b : Bool) → face ≡ b
-        → eightUnless (not b) 0 ≡ fieldNumber g n c (bit 2 (u16 s (at + 4))) (tyAt s (at + 6))
-    unfolding fieldNumber nineUnless bit
-    field-own f ei b eb = rw (its-type, h, ← ew, ne-eqb _ _ f, ← ei, eb, nineUnless)
+    -- in an interface
+    module _ (f : face ≡ true) {word : ℕ} (ew : word ≡ u16 s (at + 4)) where
+      pub field-static : word / 4 % 2 ≡ 1 → Number 0
+      unfolding fieldNumber nineUnless eightUnless bit
+      field-static q = rw (its-type, h, ← ew, q, nineUnless)
+
+      pub field-own : (word / 4 % 2 ≡ 1 → ⊥) → Number 8
+      unfolding fieldNumber nineUnless eightUnless bit
+      field-own q = rw (its-type, h, ← ew, ne-eqb _ _ q, f, nineUnless)

@@ -1,6 +1,6 @@
--- Names compared byte by byte: that of a class with that of a record, and those of the classes below one by one.
+-- Names compared byte by byte: those of two classes, and those of the classes below one by one.
 -- Assumes nothing.
-use mathlib.Core.Path.{_≡_, refl, sym, ap, _∙_}
+use mathlib.Core.Path.{_≡_, refl, sym, ap, ap₂, _∙_}
 use mathlib.Core.Bool.{Bool, true, false, _&&_, _||_}
 use mathlib.Core.List.{List, _∷_}
 use Prim.Native.Nat.{ℕ, zero, suc, _+_, _-_, _≤_, _<_}
@@ -15,99 +15,72 @@ use Rattle.spec.specs.Lists.{any, elem, sameList, span}
 use Rattle.spec.specs.Record.{u16, className}
 use Rattle.spec.specs.Sheet.{Group, group, classRecord}
 use Rattle.spec.specs.Refusals.{nameMet}
-use Rattle.theory.specs.Claims.{sheetOf}
 use Rattle.theory.proofs.Bools.{t-false, not-mono}
-use Rattle.theory.proofs.Parts.{part-length, part-byte}
 use Rattle.pass.specs.Pass.{recordAt}
-use Rattle.pass.proofs.Whole.{length-here}
-use Rattle.groups.specs.Groups.{sheetNumber, startOf, Indexed}
-use Rattle.groups.proofs.Classes.{class-long, class-room, group-tiled, sheet-low}
-use Rattle.names.specs.Names.{printOf, Printed}
-use Rattle.names.proofs.Printing.{class-there, own-length}
+use Rattle.groups.specs.Groups.{Carries, Indexed}
+use Rattle.names.specs.Names.{printOf, Opens, Printed}
+use Rattle.names.proofs.Printing.{first-length, first-byte, class-first}
 use Rattle.names.proofs.Telling.{same-list, all-told}
-use Rattle.second.specs.Second.{Sized}
-use Rattle.second.proofs.Positions.{whole, ends-within}
 
 -- ---- two lists
 
 other-length : (xs ys : List ℕ) → (length xs ≡ length ys → ⊥) → false ≡ sameList xs ys
 other-length xs ys n = sym (t-false (sameList xs ys) (not-mono (sameList xs ys) false (λ t. n (ap length (same-list xs ys t))) tt))
 
--- ---- the names of two records of one length: a at `from` of the sheet s, b at `at` of the sheet t. The bytes from j on decide
-pub record Comparing (s t : List ℕ) (from at len : ℕ) (a b : List ℕ) (j : ℕ) : Type 0 where
-  pub first : a ≡ take len (drop from s)
-  pub second : b ≡ take len (drop at t)
-  pub first-ends : from + len ≤ length s
-  pub second-ends : at + len ≤ length t
-  pub first-small : length s ≤ 32768
-  pub second-small : length t ≤ 32768
-  pub within : j ≤ len
-  pub rest : sameList (drop j a) (drop j b) ≡ sameList (className a) (className b)
+-- ---- the names in the records that come first, both of length `len`. The bytes from j on decide
+pub record Comparing (a b : List ℕ) (len j : ℕ) : Type 0 where
+  pub first-opens : Opens a
+  pub second-opens : Opens b
+  pub first : len ≡ u16 a 0
+  pub second : len ≡ u16 b 0
+  pub rest : sameList (drop j (recordAt a 0)) (drop j (recordAt b 0)) ≡ sameList (className (recordAt a 0)) (className (recordAt b 0))
 
-module _ {s t : List ℕ} {from at len : ℕ} {a b : List ℕ} {j : ℕ} (w : Comparing s t from at len a b j) where
-  first-length : length a ≡ len
-  first-length = ap length (w .first) ∙ part-length s from len (w .first-ends)
-
-  second-length : length b ≡ len
-  second-length = ap length (w .second) ∙ part-length t at len (w .second-ends)
-
-  pub compared : len ≤ j → true ≡ sameList (className a) (className b)
-  unfolding sameList
-  compared h =
-      let la : length a ≤ j = omega (arith, first-length) in
-      let lb : length b ≤ j = omega (arith, second-length) in
-      rw (drop-of-length-le a la, drop-of-length-le b lb) at (w .rest)
-
-  module _ (h : j < len) {x y : ℕ} (ex : x ≡ getD s (from + j) 0) (ey : y ≡ getD t (at + j) 0) where
-    here : (eqb x y && sameList (drop (j + 1) a) (drop (j + 1) b)) ≡ sameList (className a) (className b)
-    unfolding sameList
-    here =
-        let p : x ≡ getD a j 0 = ex ∙ sym (part-byte s from len j h) ∙ ap (λ (r : List ℕ). getD r j 0) (sym (w .first)) in
-        let q : y ≡ getD b j 0 = ey ∙ sym (part-byte t at len j h) ∙ ap (λ (r : List ℕ). getD r j 0) (sym (w .second)) in
-        let la : j < length a = omega (arith, first-length) in
-        let lb : j < length b = omega (arith, second-length) in
-        rw (p, q, add-one j) (rw (drop-cons a j 0 la, drop-cons b j 0 lb) at (w .rest))
-
-    pub differs : (x ≡ y → ⊥) → false ≡ sameList (className a) (className b)
-    differs n = rw (ne-eqb x y n) at here
-
-    pub compares-on : x ≡ y → Comparing s t from at len a b (j + 1)
-    compares-on e = record {
-      first = w .first;
-      second = w .second;
-      first-ends = w .first-ends;
-      second-ends = w .second-ends;
-      first-small = w .first-small;
-      second-small = w .second-small;
-      within = omega arith;
-      rest = rw (eq-eqb x y e) at here;
-    }
-
--- ---- the name of class d, and that of the record at a byte of a sheet
-
--- `w` is the length that stands where class d begins, and `v` the same as a wide number
-module _ {library user : List ℕ} {nlib n : ℕ} {row : List ℕ} (x : Indexed library user nlib n row) {d : ℕ} (h : d < n) {t : List ℕ} {at : ℕ} (z : Sized t at)
-    {other from v w len : ℕ} (eo : other ≡ sheetNumber nlib d) (ef : from ≡ startOf library user d) (ev : v ≡ w) (ew : w ≡ u16 (sheetOf library user other) from)
-    (el : len ≡ length (recordAt t at)) where
-  pub lengths-differ : (v ≡ len → ⊥) → false ≡ sameList (className (classRecord (group library user d))) (className (recordAt t at))
+-- `w` and `u` are the lengths that stand there, and `v` and `len` the same as wide numbers
+module _ {a b : List ℕ} (oa : Opens a) (ob : Opens b) {v w : ℕ} (ev : v ≡ w) (ew : w ≡ u16 a 0) {len u : ℕ} (el : len ≡ u) (eu : u ≡ u16 b 0) where
+  pub lengths-differ : (v ≡ len → ⊥) → false ≡ sameList (className (recordAt a 0)) (className (recordAt b 0))
   unfolding className
   lengths-differ n =
-      let a = classRecord (group library user d) in
-      let b = recordAt t at in
-      other-length (drop 12 a) (drop 12 b) (λ e. n (omega (arith, el, own-length x h eo ef ev ew, class-long x h, length-drop 12 a, length-drop 12 b)))
+      other-length (drop 12 (recordAt a 0)) (drop 12 (recordAt b 0)) (λ e. n (omega (arith, ev ∙ ew, el ∙ eu, oa .long, ob .long, first-length oa, first-length ob, length-drop 12 (recordAt a 0), length-drop 12 (recordAt b 0))))
 
-  pub compares : length t ≤ 32768 → v ≡ len → Comparing (sheetOf library user other) t from at len (classRecord (group library user d)) (recordAt t at) 12
-  unfolding className recordAt
-  compares small e = record {
-    first = sym (class-there x h eo ef) ∙ ap (λ (k : ℕ). take k (drop from (sheetOf library user other))) (sym ew ∙ sym ev ∙ e);
-    second = ap (λ (k : ℕ). take k (drop at t)) (sym (length-here (whole z)) ∙ sym el);
-    first-ends = rw (eo, ef) (omega (arith, e, own-length x h eo ef ev ew, class-room x h, group-tiled x h));
-    second-ends = omega (arith, el, ends-within z);
-    first-small = sheet-low x other;
-    second-small = small;
-    within = omega (arith, e, own-length x h eo ef ev ew, class-long x h);
-    rest = refl;
-  }
+  pub compares : v ≡ len → Comparing a b len 12
+  unfolding className
+  compares e = record { first-opens = oa; second-opens = ob; first = sym e ∙ ev ∙ ew; second = el ∙ eu; rest = refl }
+
+module _ {a b : List ℕ} {len j : ℕ} (w : Comparing a b len j) where
+  pub first-room : j < len → j < length a
+  first-room h = omega (arith, w .first, w .first-opens .within)
+
+  pub second-room : j < len → j < length b
+  second-room h = omega (arith, w .second, w .second-opens .within)
+
+  pub compared : len ≤ j → true ≡ sameList (className (recordAt a 0)) (className (recordAt b 0))
+  unfolding sameList
+  compared h =
+      let la : length (recordAt a 0) ≤ j = omega (arith, first-length (w .first-opens), w .first) in
+      let lb : length (recordAt b 0) ≤ j = omega (arith, first-length (w .second-opens), w .second) in
+      rw (drop-of-length-le (recordAt a 0) la, drop-of-length-le (recordAt b 0) lb) at (w .rest)
+
+  module _ (h : j < len) where
+    here : (eqb (getD a j 0) (getD b j 0) && sameList (drop (j + 1) (recordAt a 0)) (drop (j + 1) (recordAt b 0))) ≡ sameList (className (recordAt a 0)) (className (recordAt b 0))
+    unfolding sameList
+    here =
+        let la : j < length (recordAt a 0) = omega (arith, first-length (w .first-opens), w .first) in
+        let lb : j < length (recordAt b 0) = omega (arith, first-length (w .second-opens), w .second) in
+        let ra : j < u16 a 0 = omega (arith, w .first) in
+        let rb : j < u16 b 0 = omega (arith, w .second) in
+        rw (← first-byte (w .first-opens) j ra, ← first-byte (w .second-opens) j rb, add-one j) (rw (drop-cons (recordAt a 0) j 0 la, drop-cons (recordAt b 0) j 0 lb) at (w .rest))
+
+    pub differs : (getD a j 0 ≡ getD b j 0 → ⊥) → false ≡ sameList (className (recordAt a 0)) (className (recordAt b 0))
+    differs n = rw (ne-eqb _ _ n) at here
+
+    pub compares-on : getD a j 0 ≡ getD b j 0 → Comparing a b len (j + 1)
+    compares-on e = record { first-opens = w .first-opens; second-opens = w .second-opens; first = w .first; second = w .second; rest = rw (eq-eqb _ _ e) at here }
+
+-- so of two classes, by their bytes
+pub class-names : {library user : List ℕ} {nlib n : ℕ} {row : List ℕ} → Indexed library user nlib n row → {c d : ℕ} → c < n → d < n → {a b : List ℕ}
+    → Carries a (group library user d) → Carries b (group library user c) → {r : Bool} → r ≡ sameList (className (recordAt a 0)) (className (recordAt b 0))
+    → r ≡ sameList (className (classRecord (group library user d))) (className (classRecord (group library user c)))
+class-names x hc hd ka kb e = e ∙ ap₂ (λ (p q : List ℕ). sameList (className p) (className q)) (class-first x hd ka) (class-first x hc kb)
 
 -- ---- the classes below c
 

@@ -1,207 +1,139 @@
--- The second pass at a byte: what is left of the refusals and of the count of classes comes to what the whole sheet gives.
+-- The second pass class by class: the records of a class by their places in its bytes, and the classes of a sheet one after the other.
 -- Assumes nothing.
 use mathlib.Core.Path.{_≡_, refl, sym, ap, _∙_, subst}
-use mathlib.Core.Bool.{Bool, true, false, not}
-use mathlib.Core.List.{List}
-use mathlib.Core.Option.{none}
-use Prim.Native.Nat.{ℕ, suc, _+_, _-_, _≤_, _<_}
+use mathlib.Core.Bool.{false, not}
+use mathlib.Core.List.{List, [], _∷_}
+use Prim.Native.Nat.{ℕ, _+_, _≤_, _<_}
 use native.Mathlib.Nat.{zero-add}
-use native.Mathlib.Numerals.{add-one}
-use native.Mathlib.Decide.{ℕ-discrete}
 use native.Mathlib.Omega.{arith}
-use lib.Dec.{T, eqb, ltb→lt}
-use lib.ListN.{length, drop}
+use lib.Dec.{T, eqb→eq}
+use lib.ListN.{length}
 use borrow.Author.Tests.{eq-eqb, ne-eqb}
-use Rattle.spec.specs.Lists.{all}
-use Rattle.spec.specs.Record.{u16, kind, isClass, lengthFits}
-use Rattle.spec.specs.Sheet.{Group, recordsOf, wholeEnd, classCount, Located, locate, locatedIn}
-use Rattle.spec.specs.Refusals.{refuseIf, formTests}
-use Rattle.theory.proofs.Bools.{t-true}
+use Rattle.spec.specs.Lists.{any}
+use Rattle.spec.specs.Record.{u16, kind, isClass, CLASS}
+use Rattle.spec.specs.Sheet.{Group, group, classRecord}
+use Rattle.spec.specs.Refusals.{oneClass}
+use Rattle.theory.proofs.Bools.{t-false, true-t, and-l, and-r, not-or-l, not-or-r}
 use Rattle.theory.proofs.All.{All}
-use Rattle.theory.proofs.Answers.{first-past, first-some}
-use Rattle.theory.proofs.Accept.{Passed, Clear}
-use Rattle.pass.specs.Pass.{numberOf, recordAt, place, passOf}
+use Rattle.theory.proofs.Form.{group-one-class}
+use Rattle.pass.specs.Pass.{recordAt}
+use Rattle.pass.specs.declared.Pass.{Pass}
 use Rattle.pass.specs.declared.Pass.the-variants.{Fine, Refused}
-use Rattle.pass.proofs.Whole.{Whole, at-whole, whole-unless, end-stop, records-here, length-here, kind-here, class-here, other-here}
-use Rattle.pass.proofs.Places.{answer, classPlace, otherPlace, place-other, by-place, classesAfter, recordsAfter, locate-cons, place-refuses}
-use Rattle.pass.proofs.Walk.{rest, walk-stop, walk-class, walk-other, walk-step}
-use Rattle.pass.proofs.Going.{end-step, count-class, count-other, none-end, none-count}
-use Rattle.second.specs.Second.{Sized, formNumber, formIn, openedBy}
+use Rattle.pass.proofs.Whole.{length-here, kind-here}
+use Rattle.groups.specs.Groups.{startOf, between, AtRecord, Carries, Indexed}
+use Rattle.groups.proofs.Between.{tiled-end}
+use Rattle.groups.proofs.Walks.{walk-on, walk-here, walk-next}
+use Rattle.groups.proofs.Classes.{class-low}
+use Rattle.names.proofs.Printing.{first-length, class-first, class-opens}
+use Rattle.second.specs.Second.{Sized, classNumber, formNumber, formOf}
+use Rattle.second.proofs.Positions.{walk-sized, whole}
+use Rattle.second.proofs.ByKind.{class-is}
 
--- ---- one record
+-- ---- one record more
 
--- the class of a record of kind k after c classes: the last one opened
-unfoldable pub classOf : ℕ → ℕ → ℕ
-classOf k c = openedBy k c - 1
+module _ (g : ℕ → Group) (nlib n c at : ℕ) (r : List ℕ) (rs : Group) where
+  pub form-stop : (formNumber g nlib n c r ≡ 0 → ⊥) → formOf g nlib n c at (r ∷ rs) ≡ Refused (formNumber g nlib n c r) at
+  unfolding formOf
+  form-stop h = rw (ne-eqb (formNumber g nlib n c r) 0 h, formOf)
 
--- a record as the tests of the second pass see it: its class and its bytes
-seen : ℕ → List ℕ → Located
-seen c r = record { sheet = 0; byte = 0; class = c; recordNumber = 0; before = 0; grouped = true; bytes = r }
+  pub form-on : formNumber g nlib n c r ≡ 0 → formOf g nlib n c at (r ∷ rs) ≡ formOf g nlib n c (at + length r) rs
+  unfolding formOf
+  form-on h = rw (eq-eqb (formNumber g nlib n c r) 0 h, formOf)
 
-tests-seen : (g : ℕ → Group) (nlib n : ℕ) (l : Located) → formTests g nlib n l ≡ formTests g nlib n (seen (l .class) (l .bytes))
-unfolding formTests seen
-tests-seen g nlib n l = refl
+-- ---- records that are no CLASS records
 
-place-seen : (sheet at c k b : ℕ) (r : List ℕ) → seen (place sheet at c k b r .class) (place sheet at c k b r .bytes) ≡ seen (classOf (kind r) c) r
-unfolding place classOf openedBy
-place-seen sheet at c k b r = go (isClass r)
-  where
-    go : (x : Bool)
-        → (let l : Located = elim x as (λ (y : Bool). Located) [ true ↦ classPlace sheet at c k b r | false ↦ otherPlace sheet at c k b r ] in seen (l .class) (l .bytes) ≡ seen (elim x as (λ (y : Bool). ℕ) [ true ↦ c + 1 | false ↦ c ] - 1) r)
-    go true = ap (λ (m : ℕ). seen m r) (let e : c ≡ c + 1 - 1 = omega arith in e)
-    go false = refl
+pub others : (rs : Group) → T (not (any isClass rs)) → All (λ r. isClass r ≡ false) rs
+unfolding any
+others [] t = tt
+others (r ∷ rs) t = (t-false (isClass r) (not-or-l (isClass r) (any isClass rs) t), others rs (not-or-r (isClass r) (any isClass rs) t))
 
-module _ (g : ℕ → Group) (nlib n sheet : ℕ) {s : List ℕ} {at : ℕ} (w : Whole s at) (c k b : ℕ) where
-  abbrev number-here : ℕ
-  number-here = formNumber g nlib n (classOf (u16 s (at + 2)) c) (recordAt s at)
+-- the walk over those of class c stands at `at` of its bytes; what is left comes to `all`
+pub record Going (g : ℕ → Group) (nlib n c start : ℕ) (bytes : List ℕ) (all : Pass) (at : ℕ) : Type 0 where
+  pub place : AtRecord bytes (length bytes) at
+  pub others : All (λ r. isClass r ≡ false) (between bytes at (length bytes))
+  pub rest : formOf g nlib n c (start + at) (between bytes at (length bytes)) ≡ all
 
-  tests-here : numberOf (formTests g nlib n (place sheet at c k b (recordAt s at))) ≡ number-here
-  unfolding formNumber seen
-  tests-here =
-      ap numberOf
-      (tests-seen g nlib n (place sheet at c k b (recordAt s at))
-      ∙ ap (formTests g nlib n) (place-seen sheet at c k b (recordAt s at) ∙ ap (λ (x : ℕ). seen (classOf x c) (recordAt s at)) (kind-here w)))
+module _ {g : ℕ → Group} {nlib n c start : ℕ} {bytes : List ℕ} {all : Pass} {at : ℕ} (w : Going g nlib n c start bytes all at) where
+  pub goes-end : length bytes ≤ at → Fine c ≡ all
+  unfolding formOf
+  goes-end h = ap (formOf g nlib n c (start + at)) (sym (tiled-end bytes at (length bytes) h)) ∙ w .rest
 
-  answer-here : answer (formTests g nlib n) (place sheet at c k b (recordAt s at)) ≡ refuseIf (not (eqb number-here 0)) number-here sheet at
-  answer-here =
-      place-refuses (formTests g nlib n) sheet at c k b (recordAt s at) (unfold formTests all in tt)
-      ∙ ap (λ (m : ℕ). refuseIf (not (eqb m 0)) m sheet at) tests-here
+  module _ (h : at < length bytes) where
+    pub goes-room : (4 ≤ u16 bytes at) × (at + u16 bytes at ≤ length bytes)
+    goes-room = walk-on (w .place) h
 
--- ---- the pass at a byte
+    pub goes-sized : Sized bytes at
+    goes-sized = walk-sized (w .place) h
 
--- the pass stands at byte `at` after c classes
-pub record Passing (g : ℕ → Group) (nlib n sheet : ℕ) (s : List ℕ) (base at c : ℕ) : Type 0 where
-  pub inGroup : ℕ  -- the records of the open group
-  pub before : ℕ  -- the kind of the record before
-  pub rest : rest (answer (formTests g nlib n)) sheet s at c inGroup before ≡ formIn g nlib n sheet base s
-  pub passed : All Passed (locate sheet at c inGroup before (recordsOf (drop at s)))
-  pub count : c + classCount (drop at s) ≡ base + classCount s
-  pub opened : 0 < inGroup → base < c
-  pub base-low : base ≤ c
-  pub end : at + wholeEnd (drop at s) ≡ length s
-  pub inside : at ≤ length s
+    split : between bytes at (length bytes) ≡ recordAt bytes at ∷ between bytes (at + u16 bytes at) (length bytes)
+    unfolding recordAt
+    split = walk-here (w .place) h
 
-pub begin : (g : ℕ → Group) (nlib n sheet : ℕ) (s : List ℕ) (base : ℕ) → Clear sheet base s → Passing g nlib n sheet s base 0 base
-unfolding rest answer formIn locatedIn
-begin g nlib n sheet s base h = record {
-  inGroup = 0;
-  before = 0;
-  rest = refl;
-  passed = h .passed;
-  count = refl;
-  opened = λ z. omega arith;
-  base-low = omega arith;
-  end = zero-add (wholeEnd s) ∙ h .end;
-  inside = omega arith;
-}
+    no-class : All (λ r. isClass r ≡ false) (recordAt bytes at ∷ between bytes (at + u16 bytes at) (length bytes))
+    no-class = subst (All (λ r. isClass r ≡ false)) split (w .others)
 
--- the first located record, and the others
-module _ (sheet c k b : ℕ) {s : List ℕ} {at : ℕ} (w : Whole s at) (h : All Passed (locate sheet at c k b (recordsOf (drop at s)))) where
-  located : Passed (place sheet at c k b (recordAt s at))
-      × All Passed (locate sheet (at + u16 s at) (classesAfter (isClass (recordAt s at)) c) (recordsAfter (isClass (recordAt s at)) k) (kind (recordAt s at)) (recordsOf (drop (at + u16 s at) s)))
-  located =
-      let q = subst (All Passed) (ap (locate sheet at c k b) (records-here w) ∙ locate-cons sheet at c k b (recordAt s at) (recordsOf (drop (at + u16 s at) s))) h in
-      (q .0, subst (λ (m : ℕ). All Passed (locate sheet (at + m) (classesAfter (isClass (recordAt s at)) c) (recordsAfter (isClass (recordAt s at)) k) (kind (recordAt s at)) (recordsOf (drop (at + u16 s at) s)))) (length-here w) (q .1))
+    pub goes-other : {k : ℕ} → k ≡ u16 bytes (at + 2) → k ≡ 1 → ⊥
+    goes-other ek e = true-t (sym (no-class .0) ∙ eq-eqb (kind (recordAt bytes at)) 1 (kind-here (whole goes-sized) ∙ sym ek ∙ e))
 
-  others-class : u16 s (at + 2) ≡ 1 → All Passed (locate sheet (at + u16 s at) (suc c) 1 (kind (recordAt s at)) (recordsOf (drop (at + u16 s at) s)))
-  unfolding classesAfter recordsAfter
-  others-class e =
-      subst (λ (x : Bool). All Passed (locate sheet (at + u16 s at) (classesAfter x c) (recordsAfter x k) (kind (recordAt s at)) (recordsOf (drop (at + u16 s at) s)))) (class-here w e) (located .1)
+    module _ {number : ℕ} (en : number ≡ formNumber g nlib n c (recordAt bytes at)) where
+      pub goes-stop : (number ≡ 0 → ⊥) → {b : ℕ} → b ≡ start → Refused number (b + at) ≡ all
+      goes-stop z eb =
+          rw (en, eb) (sym (form-stop g nlib n c (start + at) (recordAt bytes at) (between bytes (at + u16 bytes at) (length bytes)) (λ q. z (en ∙ q))) ∙ ap (formOf g nlib n c (start + at)) (sym split) ∙ w .rest)
 
-  others-other : (u16 s (at + 2) ≡ 1 → ⊥) → All Passed (locate sheet (at + u16 s at) c (suc k) (kind (recordAt s at)) (recordsOf (drop (at + u16 s at) s)))
-  unfolding classesAfter recordsAfter
-  others-other e =
-      subst (λ (x : Bool). All Passed (locate sheet (at + u16 s at) (classesAfter x c) (recordsAfter x k) (kind (recordAt s at)) (recordsOf (drop (at + u16 s at) s)))) (other-here w e) (located .1)
+      pub goes-on : number ≡ 0 → {l v : ℕ} → l ≡ v → v ≡ u16 bytes at → Going g nlib n c start bytes all (at + l)
+      goes-on z {l} el ev =
+          let m : start + at + length (recordAt bytes at) ≡ start + (at + u16 bytes at) = omega (arith, length-here (whole goes-sized)) in
+          rw (el ∙ ev) (record {
+            place = walk-next (w .place) h;
+            others = no-class .1;
+            rest = ap (λ (i : ℕ). formOf g nlib n c i (between bytes (at + u16 bytes at) (length bytes))) (sym m) ∙ sym (form-on g nlib n c (start + at) (recordAt bytes at) (between bytes (at + u16 bytes at) (length bytes)) (sym en ∙ z)) ∙ ap (formOf g nlib n c (start + at)) (sym split) ∙ w .rest;
+          })
 
-place-grouped : (sheet at c k b : ℕ) (r : List ℕ) → isClass r ≡ false → T (place sheet at c k b r .grouped) → 0 < k
-place-grouped sheet at c k b r e t = ltb→lt 0 k (rw (place-other sheet at c k b r e) at t)
+-- ---- the bytes of class c: its CLASS record, then the others
 
-opened-class : (k c : ℕ) → k ≡ 1 → openedBy k c ≡ c + 1
-unfolding openedBy
-opened-class k c e = rw (eq-eqb k 1 e, openedBy)
+module _ {library user : List ℕ} {nlib n : ℕ} {row : List ℕ} (x : Indexed library user nlib n row) {c : ℕ} (h : c < n) {bytes : List ℕ} (k : Carries bytes (group library user c)) where
+  abbrev g : ℕ → Group
+  g = group library user
 
-opened-other : (k c : ℕ) → (k ≡ 1 → ⊥) → openedBy k c ≡ c
-unfolding openedBy
-opened-other k c n = rw (ne-eqb k 1 n, openedBy)
+  abbrev start : ℕ
+  start = startOf library user c
 
-module _ {g : ℕ → Group} {nlib n sheet : ℕ} {s : List ℕ} {base at c : ℕ} (p : Passing g nlib n sheet s base at c) where
-  -- the whole sheet is passed
-  pub ends : length s ≤ at → Fine c ≡ passOf (formIn g nlib n sheet base s) (base + classCount s)
-  ends h =
-      let e = end-stop s at h in
-      let k : c ≡ base + classCount s = omega (arith, p .count, none-count (drop at s) e) in
-      rw (sym (p .rest) ∙ walk-stop (answer (formTests g nlib n)) sheet s at c (p .inGroup) (p .before) e, ← k)
+  -- those after the CLASS record
+  abbrev tail : Group
+  tail = between bytes (u16 bytes 0) (length bytes)
 
-  module _ (h : at < length s) where
-    pub here : Whole s at
-    here = whole-unless s at (λ e. omega (arith, none-end (drop at s) e, p .end))
+  nonempty : 0 < length bytes
+  nonempty = omega (arith, class-opens x h k)
 
-    first : Passed (place sheet at c (p .inGroup) (p .before) (recordAt s at))
-    first = located sheet c (p .inGroup) (p .before) here (p .passed) .0
+  parts : g c ≡ classRecord (g c) ∷ tail
+  unfolding recordAt
+  parts =
+      sym (k .records) ∙ walk-here (k .place) nonempty ∙ ap (λ (r : List ℕ). r ∷ between bytes (0 + u16 bytes 0) (length bytes)) (class-first x h k) ∙ ap (λ (i : ℕ). classRecord (g c) ∷ between bytes i (length bytes)) (zero-add (u16 bytes 0))
 
-    pub sized : Sized s at
-    sized = record { whole = at-whole here; size = t-true _ (rw (by-place sheet at c (p .inGroup) (p .before) (recordAt s at) (λ l. l .bytes ≡ recordAt s at) refl refl) at (first .lengthFits)) }
+  one : T (oneClass (classRecord (g c) ∷ tail))
+  one = subst (λ (p : Group). T (oneClass p)) parts (group-one-class library user c (omega (arith, x .n-is)))
 
-    -- a class is open, and it is one of the sheet's
-    pub class-open : {k c′ : ℕ} → k ≡ u16 s (at + 2) → c′ ≡ openedBy k c → (base < c′) × (c′ ≤ base + classCount s)
-    class-open {k} {c′} ek ec = go (ℕ-discrete (u16 s (at + 2)) 1)
-      where
-        go : Dec (u16 s (at + 2) ≡ 1) → (base < c′) × (c′ ≤ base + classCount s)
-        go (yes e) =
-            let q : c′ ≡ c + 1 = ec ∙ opened-class k c (ek ∙ e) in
-            (omega (arith, p .base-low), omega (arith, p .count, count-class here e))
-        go (no ne) =
-            let q : c′ ≡ c = ec ∙ opened-other k c (λ z. ne (sym ek ∙ z)) in
-            (omega (arith, p .opened (place-grouped sheet at c (p .inGroup) (p .before) (recordAt s at) (other-here here ne) (first .grouped))), omega (arith, p .count))
+  its-kind : kind (classRecord (g c)) ≡ CLASS
+  unfolding oneClass
+  its-kind = eqb→eq (kind (classRecord (g c))) CLASS (and-l (isClass (classRecord (g c))) (not (any isClass tail)) one)
 
-    module _ {k c′ number : ℕ} (ek : k ≡ u16 s (at + 2)) (ec : c′ ≡ openedBy k c) (en : number ≡ formNumber g nlib n (c′ - 1) (recordAt s at)) where
-      is-number : number ≡ formNumber g nlib n (classOf (u16 s (at + 2)) c) (recordAt s at)
-      unfolding classOf
-      is-number = en ∙ ap (λ (x : ℕ). formNumber g nlib n (x - 1) (recordAt s at)) (ec ∙ ap (λ (x : ℕ). openedBy x c) ek)
+  -- `l` is the length of the CLASS record, and `v` the same as it stands there
+  pub goes-start : {l v : ℕ} → l ≡ v → v ≡ u16 bytes 0 → Going g nlib n c start bytes (formOf g nlib n c (start + u16 bytes 0) tail) l
+  unfolding oneClass
+  goes-start el ev = rw (el ∙ ev) (record { place = subst (AtRecord bytes (length bytes)) (zero-add (u16 bytes 0)) (walk-next (k .place) nonempty); others = others tail (and-r (isClass (classRecord (g c))) (not (any isClass tail)) one); rest = refl })
 
-      answered : answer (formTests g nlib n) (place sheet at c (p .inGroup) (p .before) (recordAt s at)) ≡ refuseIf (not (eqb number 0)) number sheet at
-      answered = answer-here g nlib n sheet here c (p .inGroup) (p .before) ∙ ap (λ (m : ℕ). refuseIf (not (eqb m 0)) m sheet at) (sym is-number)
+  module _ {number : ℕ} (en : number ≡ classNumber g nlib n c (classRecord (g c))) where
+    is-form : number ≡ formNumber g nlib n c (classRecord (g c))
+    is-form = en ∙ sym (class-is g nlib n c (classRecord (g c)) its-kind)
 
-      -- the record at hand is refused
-      pub stops : (number ≡ 0 → ⊥) → (m : ℕ) → Refused number at ≡ passOf (formIn g nlib n sheet base s) m
-      unfolding refuseIf
-      stops z m =
-          rw (sym (p .rest) ∙ walk-step (answer (formTests g nlib n)) sheet s at c (p .inGroup) (p .before) here ∙ first-some {a = record { number = number; sheet = sheet; byte = at }} _ (answered ∙ rw (ne-eqb number 0 z)))
+    pub class-stops : (number ≡ 0 → ⊥) → {b : ℕ} → b ≡ start → Refused number b ≡ formOf g nlib n c start (g c)
+    class-stops z eb = rw (is-form, eb) (sym (form-stop g nlib n c start (classRecord (g c)) tail (λ q. z (is-form ∙ q))) ∙ ap (formOf g nlib n c start) (sym parts))
 
-      -- it is passed
-      pub goes-on : number ≡ 0 → {l : ℕ} → l ≡ u16 s at → Passing g nlib n sheet s base (at + l) c′
-      unfolding refuseIf
-      goes-on z {l} el = go (ℕ-discrete (u16 s (at + 2)) 1)
-        where
-          fine : answer (formTests g nlib n) (place sheet at c (p .inGroup) (p .before) (recordAt s at)) ≡ none
-          fine = answered ∙ rw z
+    pub class-passes : number ≡ 0 → {p : Pass} → p ≡ formOf g nlib n c (start + u16 bytes 0) tail → p ≡ formOf g nlib n c start (g c)
+    class-passes z ep =
+        let m : length (classRecord (g c)) ≡ u16 bytes 0 = ap length (sym (class-first x h k)) ∙ first-length (class-opens x h k) in
+        ep ∙ ap (λ (i : ℕ). formOf g nlib n c (start + i) tail) (sym m) ∙ sym (form-on g nlib n c start (classRecord (g c)) tail (sym is-form ∙ z)) ∙ ap (formOf g nlib n c start) (sym parts)
 
-          go : Dec (u16 s (at + 2) ≡ 1) → Passing g nlib n sheet s base (at + l) c′
-          go (yes e) =
-              let q : c′ ≡ suc c = ec ∙ opened-class k c (ek ∙ e) ∙ add-one c in
-              rw (el, q)
-              (record {
-                inGroup = 1;
-                before = kind (recordAt s at);
-                rest = sym (first-past _ _ fine) ∙ sym (walk-class (answer (formTests g nlib n)) sheet s at c (p .inGroup) (p .before) here e) ∙ p .rest;
-                passed = others-class sheet c (p .inGroup) (p .before) here (p .passed) e;
-                count = omega (arith, p .count, count-class here e);
-                opened = λ y. omega (arith, p .base-low);
-                base-low = omega (arith, p .base-low);
-                end = omega (arith, p .end, end-step here);
-                inside = omega (arith, here);
-              })
-          go (no ne) =
-              let q : c′ ≡ c = ec ∙ opened-other k c (λ y. ne (sym ek ∙ y)) in
-              rw (el, q)
-              (record {
-                inGroup = suc (p .inGroup);
-                before = kind (recordAt s at);
-                rest = sym (first-past _ _ fine) ∙ sym (walk-other (answer (formTests g nlib n)) sheet s at c (p .inGroup) (p .before) here ne) ∙ p .rest;
-                passed = others-other sheet c (p .inGroup) (p .before) here (p .passed) ne;
-                count = omega (arith, p .count, count-other here ne);
-                opened = λ y. p .opened (place-grouped sheet at c (p .inGroup) (p .before) (recordAt s at) (other-here here ne) (first .grouped));
-                base-low = p .base-low;
-                end = omega (arith, p .end, end-step here);
-                inside = omega (arith, here);
-              })
+  -- sums of the two fit
+  pub start-low : start + length bytes ≤ 65536
+  start-low = omega (arith, class-low x h, k .place .small)

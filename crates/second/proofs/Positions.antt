@@ -1,6 +1,6 @@
 -- What stands in the record that begins at a byte of a sheet, read at its place in the sheet.
 -- Assumes nothing.
-use mathlib.Core.Path.{_≡_, sym, ap, _∙_}
+use mathlib.Core.Path.{_≡_, refl, sym, ap, _∙_}
 use mathlib.Core.Bool.{true, false}
 use mathlib.Core.List.{List}
 use Prim.Native.Nat.{ℕ, _+_, _≤_, _<_}
@@ -8,16 +8,14 @@ use native.Mathlib.Omega.{arith}
 use lib.ListN.{length, getD}
 use borrow.Author.Tests.{ne-eqb}
 use Rattle.spec.specs.Record.{u8, u16, bit, kind, isKind, CLASS, IMPLEMENTS, FIELD, LOCAL, USES, BUILDS, MEMBER, REFERS, flags, ownMarkers, superclass, encloser, target, index, tyAt, fieldTy, localTy, isStatic}
-use Rattle.theory.specs.Claims.{sheetOf}
 use Rattle.theory.proofs.Bools.{t-true, true-t}
 use Rattle.theory.proofs.Parts.{part-byte, part-word, part-type}
 use Rattle.pass.specs.Pass.{recordAt, sizeFits}
-use Rattle.pass.proofs.Tables.{shortest, size-known, at-least}
+use Rattle.pass.proofs.Tables.{each, shortest, size-known, at-least}
 use Rattle.pass.proofs.Bodies.{length-fits}
 use Rattle.pass.proofs.Whole.{Whole, whole-at, at-whole, length-here, kind-here}
-use Rattle.groups.specs.Groups.{Indexed}
-use Rattle.groups.proofs.Classes.{sheet-low}
-use Rattle.groups.proofs.Walks.{AtRecord, walk-on, size-here}
+use Rattle.groups.specs.Groups.{AtRecord}
+use Rattle.groups.proofs.Walks.{walk-on, size-here}
 use Rattle.second.specs.Second.{Sized}
 
 -- ---- a record that a walk stands at
@@ -34,6 +32,11 @@ walk-sized {s} {end} {at} w h =
 no-kind : (n : ℕ) → sizeFits 0 n ≡ true → ⊥
 unfolding sizeFits
 no-kind n e = true-t e
+
+six-long : (k : ℕ) → k < 9 → (k ≡ 0 → ⊥) → 6 ≤ getD shortest k 0
+six-long k h n =
+    each (λ j. (j ≡ 0 → ⊥) → 6 ≤ getD shortest j 0) 9
+    (λ z. absurd (z refl), (λ z. omega arith, (λ z. omega arith, (λ z. omega arith, (λ z. omega arith, (λ z. omega arith, (λ z. omega arith, (λ z. omega arith, (λ z. omega arith, tt))))))))) k h n
 
 six-or-more : (k : ℕ) → (k ≡ 0 → ⊥) → (k ≡ 1 → ⊥) → (k ≡ 2 → ⊥) → (k ≡ 3 → ⊥) → (k ≡ 4 → ⊥) → (k ≡ 5 → ⊥) → 6 ≤ k
 six-or-more k n0 n1 n2 n3 n4 n5 = omega arith
@@ -54,15 +57,25 @@ module _ {s : List ℕ} {at : ℕ} (z : Sized s at) where
   pub kind-not : {k : ℕ} → k ≡ u16 s (at + 2) → (j : ℕ) → (k ≡ j → ⊥) → isKind j (recordAt s at) ≡ false
   kind-not ek j n = ne-eqb _ _ (λ q. n (ek ∙ sym (kind-here whole) ∙ q))
 
-  pub ends-within : at + length (recordAt s at) ≤ length s
-  ends-within = omega (arith, length-here whole, whole)
-
   fits : sizeFits (kind (recordAt s at)) (length (recordAt s at)) ≡ true
   fits = sym (length-fits (recordAt s at)) ∙ z .size
 
   -- as long as the shortest record of its kind
   pub long-enough : (k : ℕ) → kind (recordAt s at) ≡ k → getD shortest k 0 ≤ u16 s at
   long-enough k e = omega (arith, at-least k e fits, length-here whole)
+
+  -- so it ends within the bytes, and every record has 6
+  pub kind-room : (k : ℕ) → kind (recordAt s at) ≡ k → at + getD shortest k 0 ≤ length s
+  kind-room k e = omega (arith, long-enough k e, whole)
+
+  pub room-of : {k : ℕ} → k ≡ u16 s (at + 2) → (j : ℕ) → k ≡ j → at + getD shortest j 0 ≤ length s
+  room-of ek j e = kind-room j (kind-is ek e)
+
+  pub room : at + 6 ≤ length s
+  room =
+      let k = kind (recordAt s at) in
+      let h = six-long k (size-known k (length (recordAt s at)) fits) (λ q. no-kind (length (recordAt s at)) (rw q at fits)) in
+      omega (arith, kind-room k refl)
 
   pub last-kind : {k : ℕ} → k ≡ u16 s (at + 2) → (k ≡ CLASS → ⊥) → (k ≡ IMPLEMENTS → ⊥) → (k ≡ FIELD → ⊥) → (k ≡ LOCAL → ⊥) → (k ≡ USES → ⊥) → (k ≡ MEMBER → ⊥) → (k ≡ REFERS → ⊥)
       → kind (recordAt s at) ≡ BUILDS
@@ -119,6 +132,3 @@ module _ {s : List ℕ} {at : ℕ} (z : Sized s at) where
   local-type-at e = type-at LOCAL 4 e (omega arith)
 
 -- ---- it begins below the end of a short sheet
-
-pub at-low : {library user : List ℕ} {nlib n : ℕ} {row : List ℕ} → Indexed library user nlib n row → (sheet : ℕ) {at : ℕ} → Sized (sheetOf library user sheet) at → at + 4 ≤ 32768
-at-low {library} {user} x sheet {at} z = omega (arith, sheet-low x sheet, whole-at (sheetOf library user sheet) at (z .whole))

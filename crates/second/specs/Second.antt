@@ -2,17 +2,19 @@
 -- Assumes nothing.
 use mathlib.Core.Path.{_≡_}
 use mathlib.Core.Bool.{Bool, true, false, not, _&&_, _||_}
-use mathlib.Core.List.{List, _∷_, map}
+use mathlib.Core.List.{List, [], _∷_, map}
 use mathlib.Core.Option.{Option}
-use Prim.Native.Nat.{ℕ, _+_}
+use Prim.Native.Nat.{ℕ, _+_, _≤_, _<_}
 use lib.Dec.{eqb, leb, ltb}
-use lib.ListN.{length, drop}
+use lib.ListN.{length, getD, drop}
 use Rattle.spec.specs.Lists.{firstOf, elem}
 use Rattle.spec.specs.Record.{bit, none16, flags, superclass, encloser, Ty, lengthFits, LOCAL, MEMBER}
 use Rattle.spec.specs.Sheet.{Group, locatedIn, wholeFirst, ofKind, isInterface}
 use Rattle.spec.specs.Classes.{enclosers}
 use Rattle.spec.specs.Refusals.{Refusal, refuseRecord, formTests, superclassFits, encloserFits, nameMet}
 use Rattle.pass.specs.Pass.{numberOf, recordAt}
+use Rattle.pass.specs.declared.Pass.{Pass}
+use Rattle.pass.specs.declared.Pass.the-variants.{Fine, Refused}
 
 -- a whole record begins at a byte, and its length is one of its kind
 pub record Sized (s : List ℕ) (at : ℕ) : Type 0 where
@@ -53,8 +55,9 @@ classNumber g nlib n c r =
 unfoldable pub implementsNumber : (ℕ → Group) → ℕ → ℕ → ℕ → ℕ
 implementsNumber g n c t = nineUnless (ltb t n) (eightUnless (ltb t c && isInterface (g t)) 0)
 
-unfoldable pub fieldNumber : (ℕ → Group) → ℕ → ℕ → Bool → Ty → ℕ
-fieldNumber g n c static t = nineUnless (typeThere n t) (eightUnless (static || not (isInterface (g c))) 0)
+-- a FIELD by whether its class is an interface, whether it is static, and its type
+unfoldable pub fieldNumber : ℕ → Bool → Bool → Ty → ℕ
+fieldNumber n face static t = nineUnless (typeThere n t) (eightUnless (static || not face) 0)
 
 unfoldable pub usesNumber : (ℕ → Group) → ℕ → ℕ → ℕ → ℕ → ℕ
 usesNumber g n c t i = nineUnless (ltb t n) (nineUnless (ltb i (length (ofKind LOCAL (g t)))) (eightUnless (elem t (c ∷ enclosers g c)) 0))
@@ -69,14 +72,30 @@ superclassOk g c f up = elim (eqb c 0 || bit 0 f) [ true ↦ eqb up none16 | fal
 unfoldable pub encloserOk : ℕ → ℕ → ℕ → ℕ → Bool
 encloserOk nlib c f outer = elim (eqb outer none16) [ true ↦ not (bit 1 f) | false ↦ leb nlib c && leb nlib outer && ltb outer c ]
 
--- how many classes stand before a sheet, and after a record
+-- how many classes stand before a sheet, and the class after its last one
 unfoldable pub firstClass : ℕ → ℕ → ℕ
 firstClass nlib sheet = elim (eqb sheet 0) [ true ↦ 0 | false ↦ nlib ]
 
-unfoldable pub openedBy : ℕ → ℕ → ℕ
-openedBy k c = elim (eqb k 1) [ true ↦ c + 1 | false ↦ c ]
+unfoldable pub classesEnd : ℕ → ℕ → ℕ → ℕ
+classesEnd nlib n sheet = elim (eqb sheet 0) [ true ↦ nlib | false ↦ n ]
+
+-- ---- records that others name by an index
+
+-- how many class c has: MEMBER in the library, LOCAL in the user sheet
+unfoldable pub countOf : ℕ → (ℕ → Group) → ℕ → ℕ
+countOf nlib g c = elim (ltb c nlib) [ true ↦ length (ofKind MEMBER (g c)) | false ↦ length (ofKind LOCAL (g c)) ]
+
+-- the row holds that number of each of n classes
+pub record Counts (g : ℕ → Group) (nlib n : ℕ) (row : List ℕ) : Type 0 where
+  pub long : n ≤ length row
+  pub counts : (d : ℕ) → d < n → getD row d 0 ≡ countOf nlib g d
 
 -- ---- the whole
+
+-- the first of some records of class c that is refused, by its number and its byte, where the first begins at `at`
+unfoldable pub formOf : (ℕ → Group) → ℕ → ℕ → ℕ → ℕ → Group → Pass
+formOf g nlib n c at [] = Fine c
+formOf g nlib n c at (r ∷ rs) = elim (eqb (formNumber g nlib n c r) 0) [ true ↦ formOf g nlib n c (at + length r) rs | false ↦ Refused (formNumber g nlib n c r) at ]
 
 -- 9, 8, 10 along the records of one sheet, where m classes stand before it
 unfoldable pub formIn : (ℕ → Group) → ℕ → ℕ → ℕ → ℕ → List ℕ → Option Refusal

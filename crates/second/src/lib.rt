@@ -1,32 +1,35 @@
-// The second pass over both sheets: each record by what it names. Refusals 9, 8 and 10.
-use groups::byte_of;
+// The second pass over both sheets, class by class: each record by what it names. Refusals 9, 8 and 10.
+use groups::class_bytes;
 use groups::class_word;
-use groups::count_of;
+use groups::count_in;
 use groups::group_start;
-use groups::sheet_of;
-use groups::word_of;
 use names::met;
-use names::print_at;
 use pass::Pass;
 use view::Cut;
-use view::view_len;
+use view::word_in;
 ghost use mathlib.Core.Path.{_≡_};
-ghost use mathlib.Core.Bool.{true, not, _&&_, _||_};
+ghost use mathlib.Core.Bool.{not, _&&_, _||_};
 ghost use mathlib.Core.List.{_∷_};
 ghost use Prim.Native.Nat.{_+_, _≤_, _<_};
 ghost use lib.Dec.{eqb};
 ghost use lib.ListN.{length};
 ghost use Rattle.spec.specs.Lists.{elem, sameList};
-ghost use Rattle.spec.specs.Record.{u16, bit, className, tyAt, isClass};
-ghost use Rattle.spec.specs.Sheet.{group as groupOf, classRecord, isInterface, classCount};
+ghost use Rattle.spec.specs.Record.{u16, bit, className, tyAt, LOCAL, MEMBER};
+ghost use Rattle.spec.specs.Sheet.{group as groupOf, classRecord, ofKind, isInterface, classCount};
 ghost use Rattle.spec.specs.Classes.{enclosers as enclosersOf};
 ghost use Rattle.spec.specs.Refusals.{nameMet};
 ghost use Rattle.theory.specs.Claims.{sheetOf};
 ghost use Rattle.view.specs.View.{Fits, spliced};
 ghost use Rattle.pass.specs.Pass.{recordAt, passOf};
-ghost use Rattle.groups.specs.Groups.{Indexed};
-ghost use Rattle.names.specs.Names.{Printed};
-ghost use Rattle.second.specs.Second.{Sized, typeThere, classNumber, implementsNumber, fieldNumber, usesNumber, refersNumber, formNumber, formIn, thereOrNone, superclassOk, encloserOk, firstClass, openedBy};
+ghost use Rattle.groups.specs.Groups.{startOf, between, Carries, Indexed};
+ghost use Rattle.names.specs.Names.{Opens, Printed};
+ghost use Rattle.second.specs.Second.{Sized, Counts, typeThere, classNumber, implementsNumber, fieldNumber, usesNumber, refersNumber, formNumber, formOf, formIn, thereOrNone, superclassOk, encloserOk, firstClass, classesEnd, countOf};
+
+fn byte_wide(x: u8) -> usize
+    ensures { λ r. ⌜ r ≡ x ⌝ }
+{
+    x as usize
+}
 
 fn wide(x: u16) -> usize
     ensures { λ r. ⌜ (r ≡ x) × (r < 65536) ⌝ }
@@ -35,74 +38,48 @@ fn wide(x: u16) -> usize
 }
 
 // Whether class c is an interface.
-fn is_interface(
-    library: &[u8],
-    user: &[u8],
-    group: &[u8],
+fn is_interface<'a>(
+    library: &'a [u8],
+    user: &'a [u8],
+    group: &'a [u8],
     cut: Cut,
     starts: &[u16],
     nlib: usize,
     n: usize,
     c: usize,
 ) -> bool
-    requires { ⌜ Fits cut (now user) ⌝ }
+    requires { ⌜ Fits cut (now user) (now group) ⌝ }
     requires { ⌜ Indexed (now library) (spliced (now user) (now group) cut) nlib n (now starts) ⌝ }
     requires { ⌜ c < n ⌝ }
-    ensures { λ r. ⌜ r ≡ isInterface ((groupOf (now (library .entry)) (spliced (now (user .entry)) (now (group .entry)) cut)) c) ⌝ }
+    ensures { λ r. ⌜ r ≡ isInterface (groupOf (now (library .entry)) (spliced (now (user .entry)) (now (group .entry)) cut) c) ⌝ }
 {
     class_word(library, user, group, cut, starts, nlib, n, c, 4) % 2 == 1
 }
 
-// Whether the type at i of a sheet names a class that isn't there.
-fn type_absent(
-    library: &[u8],
-    user: &[u8],
-    group: &[u8],
-    cut: Cut,
-    n: usize,
-    sheet: u8,
-    i: usize,
-) -> bool
-    requires { ⌜ Fits cut (now user) ⌝ }
-    requires { ⌜ i < 65000 ⌝ }
-    ensures { λ r. ⌜ r ≡ not (typeThere n (tyAt (sheetOf (now (library .entry)) (spliced (now (user .entry)) (now (group .entry)) cut) sheet) i)) ⌝ }
+// Whether the type at i names a class that isn't there.
+fn type_absent(bytes: &[u8], n: usize, i: usize) -> bool
+    requires { ⌜ i + 3 < length (now bytes) ⌝ }
+    ensures { λ r. ⌜ r ≡ not (typeThere n (tyAt (now (bytes .entry)) i)) ⌝ }
 {
-    if byte_of(library, user, group, cut, sheet, i + 1) == 0 {
-        return n <= wide(word_of(library, user, group, cut, sheet, i + 2));
+    if bytes[i + 1] == 0 {
+        return n <= wide(word_in(bytes, i + 2));
     }
     false
 }
 
-// Whether class d has the name of the CLASS record at `at`.
-fn same_name(
-    library: &[u8],
-    user: &[u8],
-    group: &[u8],
-    cut: Cut,
-    starts: &[u16],
-    nlib: usize,
-    n: usize,
-    d: usize,
-    sheet: u8,
-    at: usize,
-    len: usize,
-) -> bool
-    requires { ⌜ Fits cut (now user) ⌝ }
-    requires { ⌜ Indexed (now library) (spliced (now user) (now group) cut) nlib n (now starts) ⌝ }
-    requires { ⌜ d < n ⌝ }
-    requires { ⌜ Sized (sheetOf (now library) (spliced (now user) (now group) cut) sheet) at ⌝ }
-    requires { ⌜ len ≡ length (recordAt (sheetOf (now library) (spliced (now user) (now group) cut) sheet) at) ⌝ }
-    ensures { λ r. ⌜ r ≡ sameList (className (classRecord ((groupOf (now (library .entry)) (spliced (now (user .entry)) (now (group .entry)) cut)) d))) (className (recordAt (sheetOf (now (library .entry)) (spliced (now (user .entry)) (now (group .entry)) cut) sheet) at)) ⌝ }
+// Whether the CLASS records that come first in the bytes of two classes have one name.
+fn same_name(a: &[u8], b: &[u8]) -> bool
+    requires { ⌜ Opens (now a) ⌝ }
+    requires { ⌜ Opens (now b) ⌝ }
+    ensures { λ r. ⌜ r ≡ sameList (className (recordAt (now (a .entry)) 0)) (className (recordAt (now (b .entry)) 0)) ⌝ }
 {
-    let other = sheet_of(nlib, d);
-    let from = group_start(library, user, group, cut, starts, nlib, n, d);
-    if wide(word_of(library, user, group, cut, other, from)) != len {
+    let len = wide(word_in(b, 0));
+    if wide(word_in(a, 0)) != len {
         return false;
     }
     let mut j = 12;
     while j < len {
-        let a = byte_of(library, user, group, cut, other, from + j);
-        if a != byte_of(library, user, group, cut, sheet, at + j) {
+        if a[j] != b[j] {
             return false;
         }
         j += 1;
@@ -110,49 +87,59 @@ fn same_name(
     true
 }
 
-// Whether a class below c has the name of the CLASS record at `at`. Only names with the same fingerprint are compared.
-fn name_met(
-    library: &[u8],
-    user: &[u8],
-    group: &[u8],
+// Whether class d has the name of class c, whose bytes those are.
+fn named_as<'a>(
+    library: &'a [u8],
+    user: &'a [u8],
+    group: &'a [u8],
+    cut: Cut,
+    starts: &[u16],
+    nlib: usize,
+    n: usize,
+    c: usize,
+    bytes: &[u8],
+    d: usize,
+) -> bool
+    requires { ⌜ Fits cut (now user) (now group) ⌝ }
+    requires { ⌜ Indexed (now library) (spliced (now user) (now group) cut) nlib n (now starts) ⌝ }
+    requires { ⌜ (c < n) × (d < n) ⌝ }
+    requires { ⌜ Carries (now bytes) (groupOf (now library) (spliced (now user) (now group) cut) c) ⌝ }
+    ensures { λ r. ⌜ r ≡ sameList (className (classRecord (groupOf (now (library .entry)) (spliced (now (user .entry)) (now (group .entry)) cut) d))) (className (classRecord (groupOf (now (library .entry)) (spliced (now (user .entry)) (now (group .entry)) cut) c))) ⌝ }
+{
+    same_name(
+        class_bytes(library, user, group, cut, starts, nlib, n, d),
+        bytes,
+    )
+}
+
+// Whether a class below c has the name of class c, whose bytes those are. Only names with the same fingerprint are compared.
+fn name_met<'a>(
+    library: &'a [u8],
+    user: &'a [u8],
+    group: &'a [u8],
     cut: Cut,
     starts: &[u16],
     nlib: usize,
     n: usize,
     prints: &[u16],
     c: usize,
-    sheet: u8,
-    at: usize,
-    len: usize,
+    bytes: &[u8],
 ) -> bool
-    requires { ⌜ Fits cut (now user) ⌝ }
+    requires { ⌜ Fits cut (now user) (now group) ⌝ }
     requires { ⌜ Indexed (now library) (spliced (now user) (now group) cut) nlib n (now starts) ⌝ }
     requires { ⌜ Printed (groupOf (now library) (spliced (now user) (now group) cut)) n (now prints) ⌝ }
-    requires { ⌜ c ≤ n ⌝ }
-    requires { ⌜ Sized (sheetOf (now library) (spliced (now user) (now group) cut) sheet) at ⌝ }
-    requires { ⌜ len ≡ length (recordAt (sheetOf (now library) (spliced (now user) (now group) cut) sheet) at) ⌝ }
-    ensures { λ r. ⌜ r ≡ nameMet (groupOf (now (library .entry)) (spliced (now (user .entry)) (now (group .entry)) cut)) c (recordAt (sheetOf (now (library .entry)) (spliced (now (user .entry)) (now (group .entry)) cut) sheet) at) ⌝ }
+    requires { ⌜ c < n ⌝ }
+    requires { ⌜ Carries (now bytes) (groupOf (now library) (spliced (now user) (now group) cut) c) ⌝ }
+    ensures { λ r. ⌜ r ≡ nameMet (groupOf (now (library .entry)) (spliced (now (user .entry)) (now (group .entry)) cut)) c (classRecord (groupOf (now (library .entry)) (spliced (now (user .entry)) (now (group .entry)) cut) c)) ⌝ }
 {
-    let print = print_at(library, user, group, cut, sheet, at, len);
+    let print = prints[c];
     if !met(prints, c, print) {
         return false;
     }
     let mut d = 0;
     while d < c {
         if prints[d] == print {
-            if same_name(
-                library,
-                user,
-                group,
-                cut,
-                starts,
-                nlib,
-                n,
-                d,
-                sheet,
-                at,
-                len,
-            ) {
+            if named_as(library, user, group, cut, starts, nlib, n, c, bytes, d) {
                 return true;
             }
         }
@@ -162,10 +149,10 @@ fn name_met(
 }
 
 // Whether t is class c or encloses it at any depth.
-fn encloses(
-    library: &[u8],
-    user: &[u8],
-    group: &[u8],
+fn encloses<'a>(
+    library: &'a [u8],
+    user: &'a [u8],
+    group: &'a [u8],
     cut: Cut,
     starts: &[u16],
     nlib: usize,
@@ -173,7 +160,7 @@ fn encloses(
     c: usize,
     t: usize,
 ) -> bool
-    requires { ⌜ Fits cut (now user) ⌝ }
+    requires { ⌜ Fits cut (now user) (now group) ⌝ }
     requires { ⌜ Indexed (now library) (spliced (now user) (now group) cut) nlib n (now starts) ⌝ }
     requires { ⌜ (c < n) × (t < n) ⌝ }
     ensures { λ r. ⌜ r ≡ elem t (c ∷ enclosersOf (groupOf (now (library .entry)) (spliced (now (user .entry)) (now (group .entry)) cut)) c) ⌝ }
@@ -228,10 +215,10 @@ fn zero_breaks(c: usize, flags: u16) -> bool
 }
 
 // Whether class c with those flags may not have that superclass.
-fn superclass_breaks(
-    library: &[u8],
-    user: &[u8],
-    group: &[u8],
+fn superclass_breaks<'a>(
+    library: &'a [u8],
+    user: &'a [u8],
+    group: &'a [u8],
     cut: Cut,
     starts: &[u16],
     nlib: usize,
@@ -240,7 +227,7 @@ fn superclass_breaks(
     flags: u16,
     up: usize,
 ) -> bool
-    requires { ⌜ Fits cut (now user) ⌝ }
+    requires { ⌜ Fits cut (now user) (now group) ⌝ }
     requires { ⌜ Indexed (now library) (spliced (now user) (now group) cut) nlib n (now starts) ⌝ }
     requires { ⌜ c < n ⌝ }
     ensures { λ r. ⌜ r ≡ not (superclassOk (groupOf (now (library .entry)) (spliced (now (user .entry)) (now (group .entry)) cut)) c flags up) ⌝ }
@@ -270,39 +257,35 @@ fn encloser_breaks(nlib: usize, c: usize, flags: u16, outer: usize) -> bool
     c <= outer
 }
 
-// The number that refuses the CLASS record at `at` of class c, or 0.
-fn class_number(
-    library: &[u8],
-    user: &[u8],
-    group: &[u8],
+// The number that refuses the CLASS record of class c, which comes first in its bytes, or 0.
+fn class_number<'a>(
+    library: &'a [u8],
+    user: &'a [u8],
+    group: &'a [u8],
     cut: Cut,
     starts: &[u16],
     nlib: usize,
     n: usize,
     prints: &[u16],
     c: usize,
-    sheet: u8,
-    at: usize,
-    len: usize,
+    bytes: &[u8],
 ) -> u8
-    requires { ⌜ Fits cut (now user) ⌝ }
+    requires { ⌜ Fits cut (now user) (now group) ⌝ }
     requires { ⌜ Indexed (now library) (spliced (now user) (now group) cut) nlib n (now starts) ⌝ }
     requires { ⌜ Printed (groupOf (now library) (spliced (now user) (now group) cut)) n (now prints) ⌝ }
     requires { ⌜ c < n ⌝ }
-    requires { ⌜ Sized (sheetOf (now library) (spliced (now user) (now group) cut) sheet) at ⌝ }
-    requires { ⌜ isClass (recordAt (sheetOf (now library) (spliced (now user) (now group) cut) sheet) at) ≡ true ⌝ }
-    requires { ⌜ len ≡ length (recordAt (sheetOf (now library) (spliced (now user) (now group) cut) sheet) at) ⌝ }
-    ensures { λ r. ⌜ r ≡ classNumber (groupOf (now (library .entry)) (spliced (now (user .entry)) (now (group .entry)) cut)) nlib n c (recordAt (sheetOf (now (library .entry)) (spliced (now (user .entry)) (now (group .entry)) cut) sheet) at) ⌝ }
+    requires { ⌜ Carries (now bytes) (groupOf (now library) (spliced (now user) (now group) cut) c) ⌝ }
+    ensures { λ r. ⌜ r ≡ classNumber (groupOf (now (library .entry)) (spliced (now (user .entry)) (now (group .entry)) cut)) nlib n c (classRecord (groupOf (now (library .entry)) (spliced (now (user .entry)) (now (group .entry)) cut) c)) ⌝ }
 {
-    let up = wide(word_of(library, user, group, cut, sheet, at + 8));
+    let up = wide(word_in(bytes, 8));
     if absent(n, up) {
         return 9;
     }
-    let outer = wide(word_of(library, user, group, cut, sheet, at + 10));
+    let outer = wide(word_in(bytes, 10));
     if absent(n, outer) {
         return 9;
     }
-    let flags = word_of(library, user, group, cut, sheet, at + 4);
+    let flags = word_in(bytes, 4);
     if zero_breaks(c, flags) {
         return 8;
     }
@@ -312,30 +295,17 @@ fn class_number(
     if encloser_breaks(nlib, c, flags, outer) {
         return 8;
     }
-    if name_met(
-        library,
-        user,
-        group,
-        cut,
-        starts,
-        nlib,
-        n,
-        prints,
-        c,
-        sheet,
-        at,
-        len,
-    ) {
+    if name_met(library, user, group, cut, starts, nlib, n, prints, c, bytes) {
         return 10;
     }
     0
 }
 
 // The number that refuses an IMPLEMENTS of class c that names t, or 0.
-fn implements_number(
-    library: &[u8],
-    user: &[u8],
-    group: &[u8],
+fn implements_number<'a>(
+    library: &'a [u8],
+    user: &'a [u8],
+    group: &'a [u8],
     cut: Cut,
     starts: &[u16],
     nlib: usize,
@@ -343,7 +313,7 @@ fn implements_number(
     c: usize,
     t: usize,
 ) -> u8
-    requires { ⌜ Fits cut (now user) ⌝ }
+    requires { ⌜ Fits cut (now user) (now group) ⌝ }
     requires { ⌜ Indexed (now library) (spliced (now user) (now group) cut) nlib n (now starts) ⌝ }
     requires { ⌜ c < n ⌝ }
     ensures { λ r. ⌜ r ≡ implementsNumber (groupOf (now (library .entry)) (spliced (now (user .entry)) (now (group .entry)) cut)) n c t ⌝ }
@@ -360,58 +330,100 @@ fn implements_number(
     8
 }
 
-// The number that refuses the FIELD at `at` of class c, or 0.
-fn field_number(
-    library: &[u8],
-    user: &[u8],
-    group: &[u8],
-    cut: Cut,
-    starts: &[u16],
-    nlib: usize,
-    n: usize,
-    c: usize,
-    sheet: u8,
-    at: usize,
-) -> u8
-    requires { ⌜ Fits cut (now user) ⌝ }
-    requires { ⌜ Indexed (now library) (spliced (now user) (now group) cut) nlib n (now starts) ⌝ }
-    requires { ⌜ (c < n) × (at < 32768) ⌝ }
-    ensures { λ r. ⌜ r ≡ fieldNumber (groupOf (now (library .entry)) (spliced (now (user .entry)) (now (group .entry)) cut)) n c (bit 2 (u16 (sheetOf (now (library .entry)) (spliced (now (user .entry)) (now (group .entry)) cut) sheet) (at + 4))) (tyAt (sheetOf (now (library .entry)) (spliced (now (user .entry)) (now (group .entry)) cut) sheet) (at + 6)) ⌝ }
+// The number that refuses the FIELD at `at`, or 0; `face` says whether its class is an interface.
+fn field_number(bytes: &[u8], n: usize, face: bool, at: usize) -> u8
+    requires { ⌜ at + 9 < length (now bytes) ⌝ }
+    ensures { λ r. ⌜ r ≡ fieldNumber n face (bit 2 (u16 (now (bytes .entry)) (at + 4))) (tyAt (now (bytes .entry)) (at + 6)) ⌝ }
 {
-    if type_absent(library, user, group, cut, n, sheet, at + 6) {
+    if type_absent(bytes, n, at + 6) {
         return 9;
     }
-    if word_of(library, user, group, cut, sheet, at + 4) / 4 % 2 == 1 {
-        return 0;
-    }
-    if is_interface(library, user, group, cut, starts, nlib, n, c) {
-        return 8;
+    if face {
+        if word_in(bytes, at + 4) / 4 % 2 != 1 {
+            return 8;
+        }
     }
     0
 }
 
-// The number that refuses a USES of class c that names variable i of class t, or 0.
-fn uses_number(
-    library: &[u8],
-    user: &[u8],
-    group: &[u8],
+// The number of LOCAL records of class t: the row has that of a user class.
+fn locals<'a>(
+    library: &'a [u8],
+    user: &'a [u8],
+    group: &'a [u8],
     cut: Cut,
     starts: &[u16],
     nlib: usize,
     n: usize,
+    counts: &[u8],
+    t: usize,
+) -> usize
+    requires { ⌜ Fits cut (now user) (now group) ⌝ }
+    requires { ⌜ Indexed (now library) (spliced (now user) (now group) cut) nlib n (now starts) ⌝ }
+    requires { ⌜ Counts (groupOf (now library) (spliced (now user) (now group) cut)) nlib n (now counts) ⌝ }
+    requires { ⌜ t < n ⌝ }
+    ensures { λ r. ⌜ r ≡ length (ofKind LOCAL (groupOf (now (library .entry)) (spliced (now (user .entry)) (now (group .entry)) cut) t)) ⌝ }
+{
+    if t < nlib {
+        return count_in(
+            class_bytes(library, user, group, cut, starts, nlib, n, t),
+            4,
+        );
+    }
+    byte_wide(counts[t])
+}
+
+// The number of MEMBER records of class t: the row has that of a library class.
+fn members<'a>(
+    library: &'a [u8],
+    user: &'a [u8],
+    group: &'a [u8],
+    cut: Cut,
+    starts: &[u16],
+    nlib: usize,
+    n: usize,
+    counts: &[u8],
+    t: usize,
+) -> usize
+    requires { ⌜ Fits cut (now user) (now group) ⌝ }
+    requires { ⌜ Indexed (now library) (spliced (now user) (now group) cut) nlib n (now starts) ⌝ }
+    requires { ⌜ Counts (groupOf (now library) (spliced (now user) (now group) cut)) nlib n (now counts) ⌝ }
+    requires { ⌜ t < n ⌝ }
+    ensures { λ r. ⌜ r ≡ length (ofKind MEMBER (groupOf (now (library .entry)) (spliced (now (user .entry)) (now (group .entry)) cut) t)) ⌝ }
+{
+    if t < nlib {
+        return byte_wide(counts[t]);
+    }
+    count_in(
+        class_bytes(library, user, group, cut, starts, nlib, n, t),
+        7,
+    )
+}
+
+// The number that refuses a USES of class c that names variable i of class t, or 0.
+fn uses_number<'a>(
+    library: &'a [u8],
+    user: &'a [u8],
+    group: &'a [u8],
+    cut: Cut,
+    starts: &[u16],
+    nlib: usize,
+    n: usize,
+    counts: &[u8],
     c: usize,
     t: usize,
     i: usize,
 ) -> u8
-    requires { ⌜ Fits cut (now user) ⌝ }
+    requires { ⌜ Fits cut (now user) (now group) ⌝ }
     requires { ⌜ Indexed (now library) (spliced (now user) (now group) cut) nlib n (now starts) ⌝ }
+    requires { ⌜ Counts (groupOf (now library) (spliced (now user) (now group) cut)) nlib n (now counts) ⌝ }
     requires { ⌜ c < n ⌝ }
     ensures { λ r. ⌜ r ≡ usesNumber (groupOf (now (library .entry)) (spliced (now (user .entry)) (now (group .entry)) cut)) n c t i ⌝ }
 {
     if n <= t {
         return 9;
     }
-    if count_of(library, user, group, cut, starts, nlib, n, t, 4) <= i {
+    if locals(library, user, group, cut, starts, nlib, n, counts, t) <= i {
         return 9;
     }
     if encloses(library, user, group, cut, starts, nlib, n, c, t) {
@@ -421,111 +433,79 @@ fn uses_number(
 }
 
 // The number that refuses a REFERS that names member i of class t, or 0.
-fn refers_number(
-    library: &[u8],
-    user: &[u8],
-    group: &[u8],
+fn refers_number<'a>(
+    library: &'a [u8],
+    user: &'a [u8],
+    group: &'a [u8],
     cut: Cut,
     starts: &[u16],
     nlib: usize,
     n: usize,
+    counts: &[u8],
     t: usize,
     i: usize,
 ) -> u8
-    requires { ⌜ Fits cut (now user) ⌝ }
+    requires { ⌜ Fits cut (now user) (now group) ⌝ }
     requires { ⌜ Indexed (now library) (spliced (now user) (now group) cut) nlib n (now starts) ⌝ }
+    requires { ⌜ Counts (groupOf (now library) (spliced (now user) (now group) cut)) nlib n (now counts) ⌝ }
     ensures { λ r. ⌜ r ≡ refersNumber (groupOf (now (library .entry)) (spliced (now (user .entry)) (now (group .entry)) cut)) n t i ⌝ }
 {
     if n <= t {
         return 9;
     }
-    if count_of(library, user, group, cut, starts, nlib, n, t, 7) <= i {
+    if members(library, user, group, cut, starts, nlib, n, counts, t) <= i {
         return 9;
     }
     0
 }
 
-// The number that refuses the record at `at` of class c in the second pass, or 0.
-fn form_number(
-    library: &[u8],
-    user: &[u8],
-    group: &[u8],
+// The number that refuses a record of class c that is no CLASS record, or 0.
+fn other_number<'a>(
+    library: &'a [u8],
+    user: &'a [u8],
+    group: &'a [u8],
     cut: Cut,
     starts: &[u16],
     nlib: usize,
     n: usize,
-    prints: &[u16],
+    counts: &[u8],
     c: usize,
-    sheet: u8,
+    face: bool,
+    bytes: &[u8],
     at: usize,
+    kind: u16,
 ) -> u8
-    requires { ⌜ Fits cut (now user) ⌝ }
+    requires { ⌜ Fits cut (now user) (now group) ⌝ }
     requires { ⌜ Indexed (now library) (spliced (now user) (now group) cut) nlib n (now starts) ⌝ }
-    requires { ⌜ Printed (groupOf (now library) (spliced (now user) (now group) cut)) n (now prints) ⌝ }
-    requires { ⌜ c < n ⌝ }
-    requires { ⌜ Sized (sheetOf (now library) (spliced (now user) (now group) cut) sheet) at ⌝ }
-    ensures { λ r. ⌜ r ≡ formNumber (groupOf (now (library .entry)) (spliced (now (user .entry)) (now (group .entry)) cut)) nlib n c (recordAt (sheetOf (now (library .entry)) (spliced (now (user .entry)) (now (group .entry)) cut) sheet) at) ⌝ }
+    requires { ⌜ Counts (groupOf (now library) (spliced (now user) (now group) cut)) nlib n (now counts) ⌝ }
+    requires { ⌜ (c < n) × (face ≡ isInterface (groupOf (now library) (spliced (now user) (now group) cut) c)) ⌝ }
+    requires { ⌜ Sized (now bytes) at ⌝ }
+    requires { ⌜ (kind ≡ u16 (now bytes) (at + 2)) × (kind ≡ 1 → ⊥) ⌝ }
+    ensures { λ r. ⌜ r ≡ formNumber (groupOf (now (library .entry)) (spliced (now (user .entry)) (now (group .entry)) cut)) nlib n c (recordAt (now (bytes .entry)) at) ⌝ }
 {
-    let kind = word_of(library, user, group, cut, sheet, at + 2);
-    if kind == 1 {
-        let len = wide(word_of(library, user, group, cut, sheet, at));
-        return class_number(
-            library,
-            user,
-            group,
-            cut,
-            starts,
-            nlib,
-            n,
-            prints,
-            c,
-            sheet,
-            at,
-            len,
-        );
+    if kind == 7 {
+        return 0;
     }
     if kind == 3 {
-        return field_number(library, user, group, cut, starts, nlib, n, c, sheet, at);
+        return field_number(bytes, n, face, at);
     }
     if kind == 4 {
-        if type_absent(library, user, group, cut, n, sheet, at + 4) {
+        if type_absent(bytes, n, at + 4) {
             return 9;
         }
         return 0;
     }
-    if kind == 7 {
-        return 0;
-    }
-    let t = wide(word_of(library, user, group, cut, sheet, at + 4));
+    let t = wide(word_in(bytes, at + 4));
     if kind == 2 {
         return implements_number(library, user, group, cut, starts, nlib, n, c, t);
     }
     if kind == 5 {
-        return uses_number(
-            library,
-            user,
-            group,
-            cut,
-            starts,
-            nlib,
-            n,
-            c,
-            t,
-            wide(word_of(library, user, group, cut, sheet, at + 6)),
-        );
+        let i = wide(word_in(bytes, at + 6));
+        return uses_number(library, user, group, cut, starts, nlib, n, counts, c, t, i);
     }
     if kind == 8 {
-        return refers_number(
-            library,
-            user,
-            group,
-            cut,
-            starts,
-            nlib,
-            n,
-            t,
-            wide(word_of(library, user, group, cut, sheet, at + 6)),
-        );
+        let i = wide(word_in(bytes, at + 6));
+        return refers_number(library, user, group, cut, starts, nlib, n, counts, t, i);
     }
     if n <= t {
         return 9;
@@ -533,15 +513,85 @@ fn form_number(
     0
 }
 
-// The length of a sheet.
-fn sheet_len(library: &[u8], user: &[u8], group: &[u8], cut: Cut, sheet: u8) -> usize
-    requires { ⌜ Fits cut (now user) ⌝ }
-    ensures { λ r. ⌜ r ≡ length (sheetOf (now (library .entry)) (spliced (now (user .entry)) (now (group .entry)) cut) sheet) ⌝ }
+// The records of class c after its CLASS record.
+fn others_pass<'a>(
+    library: &'a [u8],
+    user: &'a [u8],
+    group: &'a [u8],
+    cut: Cut,
+    starts: &[u16],
+    nlib: usize,
+    n: usize,
+    counts: &[u8],
+    c: usize,
+    bytes: &[u8],
+) -> Pass
+    requires { ⌜ Fits cut (now user) (now group) ⌝ }
+    requires { ⌜ Indexed (now library) (spliced (now user) (now group) cut) nlib n (now starts) ⌝ }
+    requires { ⌜ Counts (groupOf (now library) (spliced (now user) (now group) cut)) nlib n (now counts) ⌝ }
+    requires { ⌜ c < n ⌝ }
+    requires { ⌜ Carries (now bytes) (groupOf (now library) (spliced (now user) (now group) cut) c) ⌝ }
+    ensures { λ r. ⌜ r ≡ formOf (groupOf (now (library .entry)) (spliced (now (user .entry)) (now (group .entry)) cut)) nlib n c (startOf (now (library .entry)) (spliced (now (user .entry)) (now (group .entry)) cut) c + u16 (now (bytes .entry)) 0) (between (now (bytes .entry)) (u16 (now (bytes .entry)) 0) (length (now (bytes .entry)))) ⌝ }
 {
-    if sheet == 0 {
-        return library.len();
+    let face = word_in(bytes, 4) % 2 == 1;
+    let mut at = wide(word_in(bytes, 0));
+    while at < bytes.len() {
+        let kind = word_in(bytes, at + 2);
+        let number = other_number(
+            library,
+            user,
+            group,
+            cut,
+            starts,
+            nlib,
+            n,
+            counts,
+            c,
+            face,
+            bytes,
+            at,
+            kind,
+        );
+        if number != 0 {
+            return Pass::Refused(
+                number,
+                group_start(library, user, group, cut, starts, nlib, n, c) + at,
+            );
+        }
+        at += wide(word_in(bytes, at));
     }
-    view_len(user, group, cut)
+    Pass::Fine(c)
+}
+
+// The records of class c.
+fn class_pass<'a>(
+    library: &'a [u8],
+    user: &'a [u8],
+    group: &'a [u8],
+    cut: Cut,
+    starts: &[u16],
+    nlib: usize,
+    n: usize,
+    prints: &[u16],
+    counts: &[u8],
+    c: usize,
+) -> Pass
+    requires { ⌜ Fits cut (now user) (now group) ⌝ }
+    requires { ⌜ Indexed (now library) (spliced (now user) (now group) cut) nlib n (now starts) ⌝ }
+    requires { ⌜ Printed (groupOf (now library) (spliced (now user) (now group) cut)) n (now prints) ⌝ }
+    requires { ⌜ Counts (groupOf (now library) (spliced (now user) (now group) cut)) nlib n (now counts) ⌝ }
+    requires { ⌜ c < n ⌝ }
+    ensures { λ r. ⌜ r ≡ formOf (groupOf (now (library .entry)) (spliced (now (user .entry)) (now (group .entry)) cut)) nlib n c (startOf (now (library .entry)) (spliced (now (user .entry)) (now (group .entry)) cut) c) (groupOf (now (library .entry)) (spliced (now (user .entry)) (now (group .entry)) cut) c) ⌝ }
+{
+    let bytes = class_bytes(library, user, group, cut, starts, nlib, n, c);
+    let number = class_number(library, user, group, cut, starts, nlib, n, prints, c, bytes);
+    if number != 0 {
+        return Pass::Refused(
+            number,
+            group_start(library, user, group, cut, starts, nlib, n, c),
+        );
+    }
+    others_pass(library, user, group, cut, starts, nlib, n, counts, c, bytes)
 }
 
 // How many classes stand before a sheet.
@@ -554,41 +604,40 @@ fn first_class(nlib: usize, sheet: u8) -> usize
     nlib
 }
 
-// The number of classes after a record of that kind.
-fn opened(kind: u16, c: usize) -> usize
-    requires { ⌜ c < 65536 ⌝ }
-    ensures { λ r. ⌜ r ≡ openedBy kind c ⌝ }
+// The class after the last one of a sheet.
+fn classes_end(nlib: usize, n: usize, sheet: u8) -> usize
+    ensures { λ r. ⌜ r ≡ classesEnd nlib n sheet ⌝ }
 {
-    if kind == 1 {
-        return c + 1;
+    if sheet == 0 {
+        return nlib;
     }
-    c
+    n
 }
 
 // The second pass of a sheet: refusals 9, 8 and 10.
-pub fn second_pass(
-    library: &[u8],
-    user: &[u8],
-    group: &[u8],
+pub fn second_pass<'a>(
+    library: &'a [u8],
+    user: &'a [u8],
+    group: &'a [u8],
     cut: Cut,
     starts: &[u16],
     nlib: usize,
     n: usize,
     prints: &[u16],
+    counts: &[u8],
     sheet: u8,
 ) -> Pass
-    requires { ⌜ Fits cut (now user) ⌝ }
+    requires { ⌜ Fits cut (now user) (now group) ⌝ }
     requires { ⌜ Indexed (now library) (spliced (now user) (now group) cut) nlib n (now starts) ⌝ }
     requires { ⌜ Printed (groupOf (now library) (spliced (now user) (now group) cut)) n (now prints) ⌝ }
+    requires { ⌜ Counts (groupOf (now library) (spliced (now user) (now group) cut)) nlib n (now counts) ⌝ }
     requires { ⌜ sheet < 2 ⌝ }
     ensures { λ r. ⌜ r ≡ passOf (formIn (groupOf (now (library .entry)) (spliced (now (user .entry)) (now (group .entry)) cut)) nlib n sheet (firstClass nlib sheet) (sheetOf (now (library .entry)) (spliced (now (user .entry)) (now (group .entry)) cut) sheet)) (firstClass nlib sheet + classCount (sheetOf (now (library .entry)) (spliced (now (user .entry)) (now (group .entry)) cut) sheet)) ⌝ }
 {
-    let end = sheet_len(library, user, group, cut, sheet);
-    let mut at = 0;
+    let end = classes_end(nlib, n, sheet);
     let mut c = first_class(nlib, sheet);
-    while at < end {
-        c = opened(word_of(library, user, group, cut, sheet, at + 2), c);
-        let number = form_number(
+    while c < end {
+        let passed = class_pass(
             library,
             user,
             group,
@@ -597,14 +646,59 @@ pub fn second_pass(
             nlib,
             n,
             prints,
-            c - 1,
-            sheet,
-            at,
+            counts,
+            c,
         );
-        if number != 0 {
-            return Pass::Refused(number, at);
+        if let Pass::Refused(number, byte) = passed {
+            return Pass::Refused(number, byte);
         }
-        at += wide(word_of(library, user, group, cut, sheet, at));
+        c += 1;
     }
     Pass::Fine(c)
+}
+
+// How many records of class c others may name by an index: MEMBER in the library, LOCAL in the user sheet.
+fn own_count<'a>(
+    library: &'a [u8],
+    user: &'a [u8],
+    group: &'a [u8],
+    cut: Cut,
+    starts: &[u16],
+    nlib: usize,
+    n: usize,
+    c: usize,
+) -> u8
+    requires { ⌜ Fits cut (now user) (now group) ⌝ }
+    requires { ⌜ Indexed (now library) (spliced (now user) (now group) cut) nlib n (now starts) ⌝ }
+    requires { ⌜ c < n ⌝ }
+    ensures { λ r. ⌜ r ≡ countOf nlib (groupOf (now (library .entry)) (spliced (now (user .entry)) (now (group .entry)) cut)) c ⌝ }
+{
+    let bytes = class_bytes(library, user, group, cut, starts, nlib, n, c);
+    if c < nlib {
+        return count_in(bytes, 7) as u8;
+    }
+    count_in(bytes, 4) as u8
+}
+
+// Fills a row with that number of each class, so that an index is tested by one comparison.
+pub fn counts<'a>(
+    library: &'a [u8],
+    user: &'a [u8],
+    group: &'a [u8],
+    cut: Cut,
+    starts: &[u16],
+    nlib: usize,
+    n: usize,
+    row: &mut [u8],
+)
+    requires { ⌜ Fits cut (now user) (now group) ⌝ }
+    requires { ⌜ Indexed (now library) (spliced (now user) (now group) cut) nlib n (now starts) ⌝ }
+    requires { ⌜ n ≤ length (now row) ⌝ }
+    ensures { λ r. ⌜ Counts (groupOf (now (library .entry)) (spliced (now (user .entry)) (now (group .entry)) cut)) nlib n (now (row .exit)) ⌝ }
+{
+    let mut c = 0;
+    while c < n {
+        row[c] = own_count(library, user, group, cut, starts, nlib, n, c);
+        c += 1;
+    }
 }

@@ -233,7 +233,7 @@ unfolding concat
 all-concat [] h = tt
 all-concat (x ∷ xs) h = all-append Whole x (concat xs) (h .0) (all-concat xs (h .1))
 
-records-of-groups : (gs : List (List ℕ)) → All IsGroup gs → recordsOf (concat gs) ≡ concat (map recordsOf gs)
+pub records-of-groups : (gs : List (List ℕ)) → All IsGroup gs → recordsOf (concat gs) ≡ concat (map recordsOf gs)
 records-of-groups gs h =
     ap (λ (l : List (List ℕ)). recordsOf (concat l)) (sym (regroup gs h))
     ∙ ap recordsOf (concat-concat (map recordsOf gs))

@@ -112,9 +112,9 @@ fn settle(row: &mut [Verdict], scratch: &mut [u8], n: usize)
 }
 
 // As `verifier::judge`.
-pub fn judge(
-    library: &[u8],
-    user: &[u8],
+pub fn judge<'a>(
+    library: &'a [u8],
+    user: &'a [u8],
     used: usize,
     verdicts: &mut [Verdict],
     scratch: &mut [u8],
@@ -129,11 +129,11 @@ pub fn judge(
 }
 
 // As `verifier::add`.
-pub fn add(
-    library: &[u8],
+pub fn add<'a>(
+    library: &'a [u8],
     user: &mut [u8],
     used: &mut usize,
-    group: &[u8],
+    group: &'a [u8],
     verdicts: &mut [Verdict],
     scratch: &mut [u8],
 ) -> Added
@@ -147,12 +147,12 @@ pub fn add(
 }
 
 // As `verifier::replace`.
-pub fn replace(
-    library: &[u8],
+pub fn replace<'a>(
+    library: &'a [u8],
     user: &mut [u8],
     used: &mut usize,
     class: usize,
-    group: &[u8],
+    group: &'a [u8],
     verdicts: &mut [Verdict],
     scratch: &mut [u8],
 ) -> Replaced

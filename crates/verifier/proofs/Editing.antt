@@ -2,32 +2,33 @@
 -- Assumes nothing.
 use mathlib.Core.Path.{_≡_, refl, sym, ap, _∙_}
 use mathlib.Core.Bool.{Bool, true, false, _&&_}
-use mathlib.Core.List.{List}
+use mathlib.Core.List.{List, [], map}
 use mathlib.Core.Option.{none, some}
 use Prim.Native.Nat.{ℕ, _+_, _-_, _/_, _≤_, _<_}
 use native.Mathlib.Decide.{ℕ-discrete}
 use native.Mathlib.Omega.{arith}
 use lib.Dec.{eqb, ltb}
-use lib.ListN.{length, getD, set, take, replicate, length-set, length-replicate}
+use lib.ListN.{length, getD, set, take, replicate, length-set, length-replicate, length-take, drop-of-length-le}
 use lib.Seq.{getD-set-same, getD-set-other}
 use borrow.Author.Tests.{eq-eqb, ne-eqb, lt-ltb, ltb-true}
-use Rattle.spec.specs.Sheet.{classCount, total, group}
+use Rattle.spec.specs.Lists.{concat}
+use Rattle.spec.specs.Sheet.{groupsOf, classCount, total, group}
 use Rattle.spec.specs.Rules.{Verdict, verdictOf}
 use Rattle.spec.specs.Verdicts.{verdictAt, userVerdict, flatLines, flatRewritten, flat}
 use Rattle.spec.specs.Refusals.{Refusal, presentRefusal, addedSheet, addRefusal}
 use Rattle.spec.specs.Promises.{refused, accepted, cleared, bufferWith, State, Edit, edited, Makes, addition}
 use Rattle.theory.proofs.Answers.{first-some, skip-none, first-none}
 use Rattle.theory.proofs.Accept.{Sound, sound}
-use Rattle.theory.proofs.Cut.{IsGroup}
+use Rattle.theory.proofs.Cut.{IsGroup, sheet-grouped, sheet-groups}
 use Rattle.theory.proofs.New.{new-sheets, added-count}
 use Rattle.theory.proofs.FlatRow.{rewritten-same}
-use Rattle.view.specs.View.{spliced}
+use Rattle.view.specs.View.{Sits, spliced}
 use Rattle.view.proofs.Splice.{added}
 use Rattle.lanes.proofs.Filling.{getD-replicate}
 use Rattle.admit.specs.Admitting.{admitRefusal, Plain}
 use Rattle.admit.proofs.Turning.{Admitted}
 use Rattle.flat.specs.Row.{chosen}
-use Rattle.queries.proofs.Asking.{answer-refused, answer-fine}
+use Rattle.queries.proofs.Asking.{used-there, answer-refused, answer-fine}
 use Rattle.verifier.proofs.Verdicts.{kept-refused, new-fine}
 
 -- ---- any edit
@@ -89,6 +90,24 @@ module _ (library user : List ℕ) (used : ℕ) (verdicts scratch g : List ℕ) 
     now : Sound library (take used user)
     unfolding presentRefusal
     now = sound library (take used user) (first-none _ o .1 .0)
+
+    pub add-sits : Sits (record { from = used; to = used; used = used }) user
+    unfolding concat
+    add-sits =
+        let s : List ℕ = take used user in
+        record {
+          ordered = omega arith;
+          within = omega arith;
+          there = used-there library user used o;
+          around = record {
+            earlier = map concat (groupsOf s);
+            later = [];
+            before = sym (sheet-grouped s (now .userSheet .end) (now .userSheet .loose));
+            after = let h : length s ≤ used = simp length-take (omega arith) in drop-of-length-le s h;
+            earlier-whole = sheet-groups s (now .userSheet .end) (now .userSheet .loose);
+            later-whole = tt;
+          };
+        }
 
     pub added-is : spliced user g (record { from = used; to = used; used = used }) ≡ addedSheet (take used user) g
     unfolding addedSheet

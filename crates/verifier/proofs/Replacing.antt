@@ -5,7 +5,7 @@ use mathlib.Core.Logic.{_⊎_, inl, inr}
 use mathlib.Core.Bool.{Bool, true, false, _&&_}
 use mathlib.Core.List.{List, [], _++_, map}
 use mathlib.Core.Option.{none, some}
-use Prim.Native.Nat.{ℕ, _+_, _-_, _/_, _≤_, _<_}
+use Prim.Native.Nat.{ℕ, suc, _+_, _-_, _/_, _≤_, _<_}
 use native.Mathlib.Omega.{arith}
 use lib.Dec.{eqb, ltb}
 use lib.ListN.{length, getD, set, take, drop, length-take, List·getD-append}
@@ -23,7 +23,7 @@ use Rattle.theory.proofs.Answers.{first-some, skip-none}
 use Rattle.theory.proofs.Cut.{IsGroup}
 use Rattle.theory.proofs.New.{new-sheets, replaced-count}
 use Rattle.view.specs.declared.Cut.{Cut}
-use Rattle.view.specs.View.{Fits, spliced}
+use Rattle.view.specs.View.{Sits, spliced}
 use Rattle.groups.specs.Groups.{Indexed, startOf, endOf}
 use Rattle.groups.proofs.Classes.{Held, in-user, group-tiled}
 use Rattle.groups.proofs.Few.{classes-ordered}
@@ -33,7 +33,7 @@ use Rattle.admit.proofs.Turning.{Admitted}
 use Rattle.flat.specs.Row.{chosen, markedIn}
 use Rattle.queries.proofs.Asking.{used-there}
 use Rattle.verifier.proofs.Editing.{edit-refused, edit-made, changed-row}
-use Rattle.verifier.proofs.Exchange.{replaced-parts}
+use Rattle.verifier.proofs.Exchange.{earlier-is, later-is, earlier-whole, later-whole, replaced-parts}
 
 -- ---- the row of dependents chooses just the classes that depend on c
 
@@ -101,24 +101,43 @@ module _ (library user : List ℕ) (used c : ℕ) (verdicts scratch g : List ℕ
       end-within = omega (arith, group-tiled x hn .within, ap length (held .is), length-take used user)
 
       module _ (cut : Cut) (ef : cut .from ≡ startOf library (take used user) c) (et : cut .to ≡ endOf library (take used user) c) (eu : cut .used ≡ used) where
-        pub replaced-fits : Fits cut user
+        abbrev s : List ℕ
+        s = take used user
+
+        abbrev i : ℕ
+        i = c - nlib
+
+        -- the parts of the buffer that stay are those of the sheet before the class and after it
+        head-is : take (cut .from) user ≡ take (groupStart s i) s
         unfolding endOf
-        replaced-fits = record { ordered = omega (arith, ef, et); within = omega (arith, et, eu, end-within); there = omega (arith, eu, used-there library user used o) }
+        head-is = ap (λ (k : ℕ). take k user) (ef ∙ held .start) ∙ sym (take-take (groupStart s i) used user (omega (arith, end-within, held .start)))
+
+        tail-is : drop (cut .to) (take (cut .used) user) ≡ drop (groupStart s i + length (concat (getD (groupsOf s) i []))) s
+        unfolding endOf
+        tail-is = ap₂ (λ (k m : ℕ). drop k (take m user)) (et ∙ ap₂ (λ (k : ℕ) (r : List (List ℕ)). k + length (concat r)) (held .start) (held .its)) eu
+
+        pub replaced-sits : Sits cut user
+        unfolding endOf
+        replaced-sits = record {
+          ordered = omega (arith, ef, et);
+          within = omega (arith, et, eu, end-within);
+          there = omega (arith, eu, used-there library user used o);
+          around = record {
+            earlier = map concat (take i (groupsOf s));
+            later = map concat (drop (suc i) (groupsOf s));
+            before = head-is ∙ earlier-is (x .user-clear) i (held .there);
+            after = tail-is ∙ later-is (x .user-clear) i (held .there);
+            earlier-whole = earlier-whole (x .user-clear) i (held .there);
+            later-whole = later-whole (x .user-clear) i (held .there);
+          };
+        }
 
         pub replaced-is : spliced user g cut ≡ made
-        unfolding spliced replacedSheet endOf
+        unfolding spliced replacedSheet
         replaced-is =
-            let s : List ℕ = take used user in
-            let i : ℕ = c - nlib in
-            let a : cut .from ≡ groupStart s i = ef ∙ held .start in
-            let b : cut .to ≡ groupStart s i + length (concat (getD (groupsOf s) i [])) = et ∙ ap₂ (λ (k : ℕ) (r : List (List ℕ)). k + length (concat r)) (held .start) (held .its) in
-            let e : c - classCount library ≡ i = omega (arith, x .nlib-is) in
-            let l : groupStart s i ≤ used = omega (arith, end-within, held .start) in
-            ap₂ (λ (j k : ℕ). take j user ++ (g ++ drop k (take (cut .used) user))) a b
-            ∙ ap (λ (m : ℕ). take (groupStart s i) user ++ (g ++ drop (groupStart s i + length (concat (getD (groupsOf s) i []))) (take m user))) eu
-            ∙ ap (λ (t : List ℕ). t ++ (g ++ drop (groupStart s i + length (concat (getD (groupsOf s) i []))) s)) (sym (take-take (groupStart s i) used user l))
+            ap₂ (λ (a b : List ℕ). a ++ (g ++ b)) head-is tail-is
             ∙ sym (replaced-parts (x .user-clear) i (held .there) g)
-            ∙ ap (λ (k : ℕ). concat (set (map concat (groupsOf s)) k g)) (sym e)
+            ∙ ap (λ (k : ℕ). concat (set (map concat (groupsOf s)) k g)) (let e : i ≡ c - classCount library = omega (arith, x .nlib-is) in e)
 
       past : replaceRefusal library user used c g (flatLines verdicts) (length scratch) ≡ admitRefusal library user g made (length verdicts / 2) (length scratch)
       unfolding replaceRefusal admitRefusal flatLines

@@ -33,9 +33,9 @@ pub enum Judged {
 }
 
 // A verdict for each user class, two bytes each in the row: rule and record, 0 and 0 where it is clean.
-pub fn judge(
-    library: &[u8],
-    user: &[u8],
+pub fn judge<'a>(
+    library: &'a [u8],
+    user: &'a [u8],
     used: usize,
     verdicts: &mut [u8],
     scratch: &mut [u8],
@@ -86,11 +86,11 @@ pub enum Added {
 }
 
 // Puts a group after the user sheet's used bytes; the new class's verdict is written.
-pub fn add(
-    library: &[u8],
+pub fn add<'a>(
+    library: &'a [u8],
     user: &mut [u8],
     used: &mut usize,
-    group: &[u8],
+    group: &'a [u8],
     verdicts: &mut [u8],
     scratch: &mut [u8],
 ) -> Added
@@ -153,14 +153,14 @@ pub enum Replaced {
 }
 
 // Puts a group where the cut stands, which takes out the group of a user class.
-fn replace_at(
-    library: &[u8],
+fn replace_at<'a>(
+    library: &'a [u8],
     user: &mut [u8],
     used: &mut usize,
     nlib: usize,
     n: usize,
     class: usize,
-    group: &[u8],
+    group: &'a [u8],
     cut: Cut,
     starts: &mut [u16],
     verdicts: &mut [u8],
@@ -220,12 +220,12 @@ fn replace_at(
 }
 
 // Puts a group in the place of a user class's; the verdicts of the classes that depend on it are rewritten.
-pub fn replace(
-    library: &[u8],
+pub fn replace<'a>(
+    library: &'a [u8],
     user: &mut [u8],
     used: &mut usize,
     class: usize,
-    group: &[u8],
+    group: &'a [u8],
     verdicts: &mut [u8],
     scratch: &mut [u8],
 ) -> Replaced

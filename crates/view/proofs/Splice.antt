@@ -1,21 +1,22 @@
 -- What stands where in a spliced sheet, and the sheets that Judge, Add and Replace see.
 -- Assumes nothing.
 use mathlib.Core.Path.{_≡_, refl, sym, _∙_, ap}
-use Prim.Native.Nat.{ℕ, _+_, _-_, _*_, _≤_, _<_}
+use mathlib.Core.Logic.{inl, inr}
+use Prim.Native.Nat.{ℕ, _+_, _-_, _≤_, _<_}
 use native.Mathlib.Omega.{arith}
 use mathlib.Core.List.{List, [], _++_, append-nil}
-use lib.ListN.{length, take, drop, getD, length-append, length-take, length-drop, List·getD-append, List·getD-eq-default, drop-of-length-le}
-use lib.Seq.{getD-append-add, getD-take, getD-drop, take-length, length-take-le, ext-getD}
-use Rattle.spec.specs.Record.{u16}
+use lib.ListN.{length, take, drop, getD, length-append, length-take, length-drop, List·getD-append, drop-of-length-le}
+use lib.Seq.{getD-append-add, getD-take, getD-drop, length-take-le, ext-getD}
 use Rattle.view.specs.declared.Cut.{Cut}
-use Rattle.view.specs.View.{Fits, spliced}
+use Rattle.theory.proofs.Cut.{IsGroup}
+use Rattle.view.specs.View.{Sits, Seamed, Fits, spliced}
 
 getD-after : (xs ys : List ℕ) (i : ℕ) → length xs ≤ i → getD (xs ++ ys) i 0 ≡ getD ys (i - length xs) 0
 getD-after xs ys i h =
     let e : i ≡ length xs + (i - length xs) = omega arith in
     ap (λ (j : ℕ). getD (xs ++ ys) j 0) e ∙ getD-append-add xs ys (i - length xs) 0
 
-module _ (u g : List ℕ) (cut : Cut) (h : Fits cut u) where
+module _ (u g : List ℕ) (cut : Cut) (h : Fits cut u g) where
   head-length : length (take (cut .from) u) ≡ cut .from
   head-length = simp length-take (omega (arith, h .ordered, h .within, h .there))
 
@@ -23,10 +24,6 @@ module _ (u g : List ℕ) (cut : Cut) (h : Fits cut u) where
   unfolding spliced
   in-head i l =
       rw (List·getD-append (take (cut .from) u) (g ++ drop (cut .to) (take (cut .used) u)) 0 i (omega (arith, head-length)), getD-take (cut .from) u i 0 l)
-
-  pub word-in-head : (i : ℕ) → i + 1 < cut .from → {low high : ℕ} → low ≡ getD u i 0 → high ≡ getD u (i + 1) 0 → low + 256 * high ≡ u16 (spliced u g cut) i
-  unfolding u16
-  word-in-head i l a b = rw (a ∙ in-head i (omega arith), b ∙ in-head (i + 1) l)
 
   pub in-group : (i k : ℕ) → cut .from + k ≡ i → k < length g → getD g k 0 ≡ getD (spliced u g cut) i 0
   unfolding spliced
@@ -59,17 +56,18 @@ module _ (u g : List ℕ) (cut : Cut) (h : Fits cut u) where
       ∙ sym (getD-drop from (spliced u g cut) i 0)
       ∙ sym (getD-take n (drop from (spliced u g cut)) i 0 m))
 
-  pub past-end : (i : ℕ) → cut .from + length g + (cut .used - cut .to) ≤ i → 0 ≡ getD (spliced u g cut) i 0
-  past-end i l = sym (List·getD-eq-default (spliced u g cut) 0 (omega (arith, length-spliced)))
+-- the used bytes with nothing put in
+pub plain-fits : (u : List ℕ) (n : ℕ) → n ≤ length u → Fits (record { from = n; to = n; used = n }) u []
+plain-fits u n h = record { ordered = omega arith; within = omega arith; there = h; seams = unfold Seamed in inl (refl, refl) }
+
+-- a whole group put between whole groups
+pub sits-fits : {u g : List ℕ} {cut : Cut} → Sits cut u → IsGroup g → Fits cut u g
+sits-fits s w = record { ordered = s .ordered; within = s .within; there = s .there; seams = unfold Seamed in inr (s .around, w) }
 
 -- a whole part with no group: the used bytes
 pub plain : (u : List ℕ) (n : ℕ) → spliced u [] (record { from = n; to = n; used = n }) ≡ take n u
 unfolding spliced
 plain u n = let h : length (take n u) ≤ n = simp length-take (omega arith) in rw (drop-of-length-le (take n u) h) (append-nil (take n u))
-
--- a whole slice
-pub whole : (u : List ℕ) → spliced u [] (record { from = length u; to = length u; used = length u }) ≡ u
-whole u = plain u (length u) ∙ take-length u
 
 -- a group after the used bytes
 pub added : (u g : List ℕ) (n : ℕ) → spliced u g (record { from = n; to = n; used = n }) ≡ take n u ++ g

@@ -4,7 +4,7 @@ use mathlib.Core.List.{List}
 use Prim.Native.Nat.{ℕ}
 use native.Mathlib.Omega.{arith}
 use Rattle.view.specs.View.{spliced}
-use Rattle.admit.proofs.Turning.{not-whole, over-buffer, over-limit, sheet-refused, admit-ordered, few-lines, short-scratch, admitted}
+use Rattle.admit.proofs.Turning.{group-fits, not-whole, over-buffer, over-limit, sheet-refused, admit-ordered, few-lines, short-scratch, admitted}
 use borrow.Author.Needs.{needs}
 use Rattle.admit.proofs.admit.Statement.{statement}
 use Rattle.admit.proofs.admit.Tie as tie
@@ -20,7 +20,7 @@ returns : tie.Need-returns
 returns c = not-whole (c .before .before .before .before .before .before .before .args .library .now) (c .before .before .before .before .before .before .before .args .user .now) (c .before .before .before .before .before .before .before .args .group .now) (new (c .before .before .before .before .before .before .before)) (c .before .before .before .before .before .before .before .args .lines) (c .before .before .before .before .before .before .before .args .scratch) (c .before .whole-group .ensures) (c .if1 .taken)
 
 view-len-requires : tie.Need-view-len-requires
-view-len-requires c κs = search needs
+view-len-requires c κs = group-fits (c .before .before .before .before .before .before .before .pre .0) (c .before .whole-group .ensures) (c .if1 .left)
 
 returns-2 : tie.Need-returns-2
 returns-2 c = over-buffer (c .before .before .before .before .before .before .before .before .before .args .library .now) (c .before .before .before .before .before .before .before .before .before .args .user .now) (c .before .before .before .before .before .before .before .before .before .args .group .now) (new (c .before .before .before .before .before .before .before .before .before)) (c .before .before .before .before .before .before .before .before .before .args .lines) (c .before .before .before .before .before .before .before .before .before .args .scratch) (c .before .before .before .whole-group .ensures) (c .before .before .if1 .left) (c .before .view-len .ensures) (omega arith)
@@ -31,7 +31,7 @@ returns-3 c = over-limit (c .before .before .before .before .before .before .bef
 check-requires : tie.Need-check-requires
 check-requires c κs =
     let p = c .before .before .before .before .before .before .before .before .before .before .before .before .pre in
-    (p .0, ((p .1 .0, omega (arith, c .before .before .before .before .view-len .ensures)), p .1 .1 .0))
+    (group-fits (p .0) (c .before .before .before .before .before .before .whole-group .ensures) (c .before .before .before .before .before .if1 .left), ((p .1 .0, omega (arith, c .before .before .before .before .view-len .ensures)), p .1 .1 .0))
 
 enum-known-checked : tie.Need-enum-known-checked
 enum-known-checked c = search needs

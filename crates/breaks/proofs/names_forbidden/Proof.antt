@@ -12,7 +12,7 @@ forbidden-requires : tie.Need-forbidden-requires
 forbidden-requires c κs = search needs
 
 returns : tie.Need-returns
-returns c = names-first (c .before .before .before .before .before .before .before .pre .1 .0) _ (c .before .before .any-named .ensures) (c .before .forbidden .ensures) (c .if1 .taken)
+returns c = names-first (c .before .before .before .before .before .before .before .before .pre .1 .0) _ (c .before .before .any-named .ensures) (c .before .forbidden .ensures) (c .if1 .taken)
 
 second-named-requires : tie.Need-second-named-requires
 second-named-requires c κs = search needs
@@ -21,7 +21,7 @@ forbidden-requires-2 : tie.Need-forbidden-requires-2
 forbidden-requires-2 c κs = search needs
 
 returns-2 : tie.Need-returns-2
-returns-2 c = names-second (c .before .before .before .before .before .before .before .before .before .pre .1 .0) _ (c .before .before .before .before .any-named .ensures) (c .before .before .before .forbidden .ensures) (c .before .before .if1 .left) (c .before .second-named .ensures) (c .forbidden2 .ensures)
+returns-2 c = names-second (c .before .before .before .before .before .before .before .before .before .before .pre .1 .0) _ (c .before .before .before .before .any-named .ensures) (c .before .before .before .forbidden .ensures) (c .before .before .if1 .left) (c .before .second-named .ensures) (c .forbidden2 .ensures)
 
 pub names-forbidden-spec : {M : Type 1} → statement M
 names-forbidden-spec =

@@ -1,68 +1,70 @@
 -- `breaks::refers_forbidden`: the flag of the member that is named.
 -- Assumes nothing.
-use Rattle.breaks.proofs.Referring.{refers-other, class-there, member-low, member-is}
 use native.Mathlib.Omega.{arith}
+use Rattle.spec.specs.Record.{REFERS}
+use Rattle.second.proofs.Positions.{room, room-of}
+use Rattle.breaks.proofs.Referring.{refers-other, class-there, member-room, member-is}
 use borrow.Author.Needs.{needs}
 use Rattle.breaks.proofs.refers_forbidden.Statement.{statement}
 use Rattle.breaks.proofs.refers_forbidden.Tie as tie
 
-add-word-of : tie.Need-add-word-of
-add-word-of c = search needs
+add-word-in : tie.Need-add-word-in
+add-word-in c = omega (arith, room (c .before .before .before .before .before .pre .1 .1 .0))
 
-word-of-requires : tie.Need-word-of-requires
-word-of-requires c κs = search needs
+word-in-requires : tie.Need-word-in-requires
+word-in-requires c κs = omega (arith, room (c .before .before .before .before .before .pre .1 .1 .0))
 
 returns : tie.Need-returns
-returns c = refers-other (c .before .before .before .before .before .before .pre .1 .1 .0) (c .before .word-of .ensures) _ (c .if1 .taken)
+returns c = refers-other (c .before .before .before .before .before .before .before .pre .1 .1 .0) (c .before .word-in .ensures) _ (c .if1 .taken)
 
-add-word-of-2 : tie.Need-add-word-of-2
-add-word-of-2 c = search needs
+add-word-in-2 : tie.Need-add-word-in-2
+add-word-in-2 c = omega (arith, room (c .before .before .before .before .before .before .before .pre .1 .1 .0))
 
-word-of-requires-2 : tie.Need-word-of-requires-2
-word-of-requires-2 c κs = search needs
+word-in-requires-2 : tie.Need-word-in-requires-2
+word-in-requires-2 c κs = omega (arith, room (c .before .before .before .before .before .before .before .pre .1 .1 .0))
 
 wide-requires : tie.Need-wide-requires
 wide-requires c κs = search needs
 
-add-word-of-3 : tie.Need-add-word-of-3
-add-word-of-3 c = search needs
+add-word-in-3 : tie.Need-add-word-in-3
+add-word-in-3 c = omega (arith, room (c .before .before .before .before .before .before .before .before .before .pre .1 .1 .0))
 
-word-of-requires-3 : tie.Need-word-of-requires-3
-word-of-requires-3 c κs = search needs
+word-in-requires-3 : tie.Need-word-in-requires-3
+word-in-requires-3 c κs = omega (arith, room-of (c .before .before .before .before .before .before .before .before .before .pre .1 .1 .0) (c .before .before .before .word-in .ensures) REFERS (c .before .before .if1 .left))
 
 wide-requires-2 : tie.Need-wide-requires-2
 wide-requires-2 c κs = search needs
 
-nth-of-requires : tie.Need-nth-of-requires
-nth-of-requires c κs = let p = c .before .before .before .before .before .before .before .before .before .before .pre in (p .0, (p .1 .0, class-there (p .1 .0) (p .1 .1 .0) (c .before .before .before .before .before .word-of .ensures) (c .before .before .before .before .if1 .left) (p .1 .1 .1 .0) (c .before .before .wide .ensures .0) (c .before .before .before .word-of2 .ensures)))
+class-bytes-requires : tie.Need-class-bytes-requires
+class-bytes-requires c κs = let p = c .before .before .before .before .before .before .before .before .before .before .before .pre .1 in (c .before .before .before .before .before .before .before .before .before .before .before .pre .0, (p .0, class-there (p .1 .0) (c .before .before .before .before .before .word-in .ensures) (c .before .before .before .before .if1 .left) (p .1 .1 .0) (c .before .before .wide .ensures .0) (c .before .before .before .word-in2 .ensures)))
 
-sheet-of-requires : tie.Need-sheet-of-requires
-sheet-of-requires c κs = search needs
+nth-in-requires : tie.Need-nth-in-requires
+nth-in-requires c κs = search needs
 
-add-word-of-4 : tie.Need-add-word-of-4
-add-word-of-4 c = let p = c .before .before .before .before .before .before .before .before .before .before .before .before .pre in let h = member-low (p .1 .0) (p .1 .1 .0) (c .before .before .before .before .before .before .before .word-of .ensures) (c .before .before .before .before .before .before .if1 .left) (p .1 .1 .1 .0) (c .before .before .before .before .wide .ensures .0) (c .before .before .before .before .before .word-of2 .ensures) (c .before .before .wide2 .ensures .0) (c .before .before .before .word-of3 .ensures) (c .before .nth-of .ensures) in omega (arith, h)
+add-word-in-4 : tie.Need-add-word-in-4
+add-word-in-4 c = let p = c .before .before .before .before .before .before .before .before .before .before .before .before .before .pre .1 in omega (arith, c .before .class-bytes .ensures .place .small, member-room (p .1 .0) (c .before .before .before .before .before .before .before .word-in .ensures) (c .before .before .before .before .before .before .if1 .left) (p .1 .1 .0) (c .before .before .before .before .wide .ensures .0) (c .before .before .before .before .before .word-in2 .ensures) (c .before .class-bytes .ensures) (c .before .before .wide2 .ensures .0) (c .before .before .before .word-in3 .ensures) (c .nth-in .ensures))
 
-word-of-requires-4 : tie.Need-word-of-requires-4
-word-of-requires-4 c κs = let p = c .before .before .before .before .before .before .before .before .before .before .before .before .pre in let h = member-low (p .1 .0) (p .1 .1 .0) (c .before .before .before .before .before .before .before .word-of .ensures) (c .before .before .before .before .before .before .if1 .left) (p .1 .1 .1 .0) (c .before .before .before .before .wide .ensures .0) (c .before .before .before .before .before .word-of2 .ensures) (c .before .before .wide2 .ensures .0) (c .before .before .before .word-of3 .ensures) (c .before .nth-of .ensures) in (p .0, omega (arith, h))
+word-in-requires-4 : tie.Need-word-in-requires-4
+word-in-requires-4 c κs = let p = c .before .before .before .before .before .before .before .before .before .before .before .before .before .pre .1 in omega (arith, member-room (p .1 .0) (c .before .before .before .before .before .before .before .word-in .ensures) (c .before .before .before .before .before .before .if1 .left) (p .1 .1 .0) (c .before .before .before .before .wide .ensures .0) (c .before .before .before .before .before .word-in2 .ensures) (c .before .class-bytes .ensures) (c .before .before .wide2 .ensures .0) (c .before .before .before .word-in3 .ensures) (c .nth-in .ensures))
 
 returns-2 : tie.Need-returns-2
-returns-2 c = let p = c .before .before .before .before .before .before .before .before .before .before .before .before .before .pre in member-is (p .1 .0) (p .1 .1 .0) (c .before .before .before .before .before .before .before .before .word-of .ensures) (c .before .before .before .before .before .before .before .if1 .left) (p .1 .1 .1 .0) (c .before .before .before .before .before .wide .ensures .0) (c .before .before .before .before .before .before .word-of2 .ensures) (c .before .before .before .wide2 .ensures .0) (c .before .before .before .before .word-of3 .ensures) (c .before .before .nth-of .ensures) (c .before .sheet-of .ensures) (c .word-of4 .ensures)
+returns-2 c = let p = c .before .before .before .before .before .before .before .before .before .before .before .before .before .before .pre .1 in member-is (p .1 .0) (c .before .before .before .before .before .before .before .before .word-in .ensures) (c .before .before .before .before .before .before .before .if1 .left) (p .1 .1 .0) (c .before .before .before .before .before .wide .ensures .0) (c .before .before .before .before .before .before .word-in2 .ensures) (c .before .before .class-bytes .ensures) (c .before .before .before .wide2 .ensures .0) (c .before .before .before .before .word-in3 .ensures) (c .before .nth-in .ensures) (c .word-in4 .ensures)
 
 pub refers-forbidden-spec : {M : Type 1} → statement M
 refers-forbidden-spec =
     tie.close
     (tie.spec
-    add-word-of
-    word-of-requires
+    add-word-in
+    word-in-requires
     returns
-    add-word-of-2
-    word-of-requires-2
+    add-word-in-2
+    word-in-requires-2
     wide-requires
-    add-word-of-3
-    word-of-requires-3
+    add-word-in-3
+    word-in-requires-3
     wide-requires-2
-    nth-of-requires
-    sheet-of-requires
-    add-word-of-4
-    word-of-requires-4
+    class-bytes-requires
+    nth-in-requires
+    add-word-in-4
+    word-in-requires-4
     returns-2)

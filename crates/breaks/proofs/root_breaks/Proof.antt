@@ -7,10 +7,10 @@ use Rattle.breaks.proofs.root_breaks.Statement.{statement}
 use Rattle.breaks.proofs.root_breaks.Tie as tie
 
 returns : tie.Need-returns
-returns c = root-zero _ (c .before .before .before .before .before .args .d) (c .before .before .before .before .before .pre .1) (c .if1 .taken)
+returns c = λ g w. root-zero g (c .before .before .args .d) (c .before .before .pre) (c .if1 .taken)
 
 returns-2 : tie.Need-returns-2
-returns-2 c = root-nine _ (c .before .before .before .before .before .before .args .d) (c .if2 .taken)
+returns-2 c = λ g w. root-nine g (c .before .before .before .args .d) (c .if2 .taken)
 
 known-requires : tie.Need-known-requires
 known-requires c κs = search needs
@@ -22,7 +22,7 @@ has-requires : tie.Need-has-requires
 has-requires c κs = search needs
 
 returns-3 : tie.Need-returns-3
-returns-3 c = root-lacks _ (c .before .before .before .before .before .before .before .before .before .args .d) (c .before .before .before .before .before .before .before .before .before .pre .1) (c .before .before .before .before .if1 .left) (c .before .before .before .if2 .left) (marked (c .before .before .before .before .before .before .before .before .before .pre .0) _ (c .before .before .known .ensures) _ (c .before .rule-set .ensures .0) (c .has .ensures))
+returns-3 c = λ g w. root-lacks g (c .before .before .before .before .before .before .args .d) (c .before .before .before .before .before .before .pre) (c .before .before .before .before .if1 .left) (c .before .before .before .if2 .left) (marked w _ (c .before .before .known .ensures) _ (c .before .rule-set .ensures .0) (c .has .ensures))
 
 pub root-breaks-spec : {M : Type 1} → statement M
 root-breaks-spec =

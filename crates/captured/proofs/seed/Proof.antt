@@ -5,7 +5,7 @@ use native.Mathlib.Omega.{arith}
 use Rattle.spec.specs.Sheet.{group as groupOf}
 use Rattle.view.specs.View.{spliced}
 use Rattle.captured.specs.Seeds.{Lowering, ByClasses}
-use Rattle.captured.proofs.Seeding.{all-start, all-next, all-end}
+use Rattle.captured.proofs.Seeding.{all-start, library-few, all-next, all-end}
 use Rattle.captured.proofs.seed.Statement.{statement}
 use Rattle.captured.proofs.seed.Tie as tie
 
@@ -17,7 +17,7 @@ abbrev μ-loop : tie.MeasureT-loop
 μ-loop library user group cut starts nlib n markers row₀ m₀ row m = n - m
 
 loop-holds : tie.Need-loop-holds Inv-loop μ-loop
-loop-holds c = (omega arith, all-start _)
+loop-holds c = let x = c .before .before .before .before .before .before .pre .1 .0 in (library-few x, all-start x _)
 
 seed-class-requires : tie.Need-seed-class-requires Inv-loop μ-loop
 seed-class-requires c κs =

@@ -1,27 +1,27 @@
 -- `captured::variable_markers`: the type of the record that is found.
 -- Assumes nothing.
 use native.Mathlib.Omega.{arith}
-use Rattle.captured.proofs.Seeding.{variable-type, variable-markers}
+use Rattle.captured.proofs.Seeding.{variable-room, variable-markers}
 use borrow.Author.Needs.{needs}
 use Rattle.captured.proofs.variable_markers.Statement.{statement}
 use Rattle.captured.proofs.variable_markers.Tie as tie
 
-nth-of-requires : tie.Need-nth-of-requires
-nth-of-requires c κs = search needs
+class-bytes-requires : tie.Need-class-bytes-requires
+class-bytes-requires c κs = search needs
 
-sheet-of-requires : tie.Need-sheet-of-requires
-sheet-of-requires c κs = search needs
+nth-in-requires : tie.Need-nth-in-requires
+nth-in-requires c κs = search needs
 
 add-type-markers : tie.Need-add-type-markers
-add-type-markers c = let p = c .before .before .before .before .before .before .before .pre in omega (arith, variable-type (p .1 .0) (p .1 .1 .1 .0) (c .sheet-of .ensures) _ (p .1 .1 .1 .1) (c .before .nth-of .ensures) .1)
+add-type-markers c = let p = c .before .before .before .before .before .before .before .pre .1 .1 .1 in omega (arith, variable-room (c .before .class-bytes .ensures) _ (p .1) (c .nth-in .ensures))
 
 type-markers-requires : tie.Need-type-markers-requires
-type-markers-requires c κs = let p = c .before .before .before .before .before .before .before .pre in (p .0, (omega (arith, variable-type (p .1 .0) (p .1 .1 .1 .0) (c .sheet-of .ensures) _ (p .1 .1 .1 .1) (c .before .nth-of .ensures) .1), p .1 .1 .0))
+type-markers-requires c κs = let p = c .before .before .before .before .before .before .before .pre .1 .1 .1 in (omega (arith, variable-room (c .before .class-bytes .ensures) _ (p .1) (c .nth-in .ensures)), c .before .class-bytes .ensures .place .small)
 
 returns : tie.Need-returns
-returns c = let p = c .before .before .before .before .before .before .before .before .pre in variable-markers (p .1 .0) (p .1 .1 .1 .0) (c .before .sheet-of .ensures) _ (p .1 .1 .1 .1) (c .before .before .nth-of .ensures) (c .type-markers .ensures)
+returns c = let p = c .before .before .before .before .before .before .before .before .pre .1 .1 in variable-markers (c .before .before .class-bytes .ensures) _ (p .1 .1) (c .before .nth-in .ensures) (p .0) (c .type-markers .ensures)
 
 pub variable-markers-spec : {M : Type 1} → statement M
 variable-markers-spec =
     tie.close
-    (tie.spec nth-of-requires sheet-of-requires add-type-markers type-markers-requires returns)
+    (tie.spec class-bytes-requires nth-in-requires add-type-markers type-markers-requires returns)

@@ -1,6 +1,6 @@
 -- `flat::rejudge`.
 -- Assumes nothing.
-use mathlib.Core.Path.{refl}
+use mathlib.Core.Path.{refl, _∙_}
 use native.Mathlib.Omega.{arith}
 use Rattle.rules.proofs.Verdicts.{ground}
 use Rattle.flat.proofs.Clearing.{clear-is}
@@ -20,26 +20,53 @@ slice-aggregate-captures c = search needs
 captures-requires : tie.Need-captures-requires
 captures-requires c κs = let p = c .before .before .before .before .before .before .before .before .before .before .before .before .before .before .before .before .pre in (p .0, (p .1 .0, (p .1 .1 .0, (c .before .before .before .before .before .overlays .ensures .0, omega (arith, p .1 .1 .1 .1 .2)))))
 
+slice-aggregate-passes : tie.Need-slice-aggregate-passes
+slice-aggregate-passes c = search needs
+
+slice-aggregate-passes-2 : tie.Need-slice-aggregate-passes-2
+slice-aggregate-passes-2 c = search needs
+
+passes-requires : tie.Need-passes-requires
+passes-requires c κs = let p = c .before .before .before .before .before .before .before .before .before .before .before .before .before .before .before .before .before .before .before .before .before .before .pre in (p .0, (p .1 .0, (p .1 .1 .0, (c .before .before .before .before .before .before .before .before .before .before .before .overlays .ensures .0, (c .before .before .before .before .before .captures .ensures .shown, refl)))))
+
+slice-aggregate-refused : tie.Need-slice-aggregate-refused
+slice-aggregate-refused c = search needs
+
+slice-aggregate-refused-2 : tie.Need-slice-aggregate-refused-2
+slice-aggregate-refused-2 c = search needs
+
+refused-requires : tie.Need-refused-requires
+refused-requires c κs = let p = c .before .before .before .before .before .before .before .before .before .before .before .before .before .before .before .before .before .before .before .before .before .before .before .before .before .before .pre in (p .0, (p .1 .0, (refl, refl)))
+
 slice-aggregate-rewrite : tie.Need-slice-aggregate-rewrite
 slice-aggregate-rewrite c = search needs
 
+slice-aggregate-rewrite-2 : tie.Need-slice-aggregate-rewrite-2
+slice-aggregate-rewrite-2 c = search needs
+
+slice-aggregate-rewrite-3 : tie.Need-slice-aggregate-rewrite-3
+slice-aggregate-rewrite-3 c = search needs
+
+slice-aggregate-rewrite-4 : tie.Need-slice-aggregate-rewrite-4
+slice-aggregate-rewrite-4 c = search needs
+
 rewrite-requires : tie.Need-rewrite-requires
-rewrite-requires c κs = let p = c .before .before .before .before .before .before .before .before .before .before .before .before .before .before .before .before .before .before .before .before .before .before .pre in (p .0, (p .1 .0, (p .1 .1 .0, (c .before .before .before .before .before .before .before .before .before .before .before .overlays .ensures .0, (c .before .before .before .before .before .captures .ensures .shown, (p .1 .1 .1 .1 .0, p .1 .1 .1 .1 .1))))))
+rewrite-requires c κs = let p = c .before .before .before .before .before .before .before .before .before .before .before .before .before .before .before .before .before .before .before .before .before .before .before .before .before .before .before .before .before .before .before .before .before .before .before .pre in (p .0, (p .1 .0, (p .1 .1 .0, (c .before .before .before .before .before .before .before .before .before .before .before .before .before .before .before .before .before .before .before .before .before .before .before .before .overlays .ensures .0, (c .before .before .before .before .before .before .before .before .before .before .before .before .before .before .before .before .before .before .captures .ensures .shown, (c .before .before .before .before .before .before .before .before .before .before .before .before .passes .ensures, (c .before .before .before .before .before .before .before .before .refused .ensures, (p .1 .1 .1 .1 .0, p .1 .1 .1 .1 .1))))))))
 
 fill-requires : tie.Need-fill-requires
-fill-requires c κs = let p = c .before .before .before .before .before .before .before .before .before .before .before .before .before .before .before .before .before .before .before .before .before .before .before .before .before .before .pre in omega (arith, p .1 .1 .1 .1 .2, c .before .before .before .before .before .before .before .before .before .captures .ensures .long)
+fill-requires c κs = let p = c .before .before .before .before .before .before .before .before .before .before .before .before .before .before .before .before .before .before .before .before .before .before .before .before .before .before .before .before .before .before .before .before .before .before .before .before .before .before .before .pre in omega (arith, p .1 .1 .1 .1 .2, c .before .before .before .before .before .before .before .before .before .before .before .before .before .before .before .before .before .before .before .before .before .before .captures .ensures .long)
 
 same-length : tie.Need-same-length
-same-length c = search needs
+same-length c = c .before .before .before .before .before .before .before .before .before .before .before .before .before .before .before .before .before .before .before .before .before .before .before .before .before .before .before .before .before .before .before .overlays .kept .1 .1 .1 .1 .1 .1 .1 .0
 
 same-length-2 : tie.Need-same-length-2
 same-length-2 c = search needs
 
 same-length-3 : tie.Need-same-length-3
-same-length-3 c = search needs
+same-length-3 c = c .before .before .fill .kept .0 ∙ c .before .before .before .before .before .before .before .before .before .before .before .before .before .before .before .before .before .before .before .before .before .before .before .before .before .captures .kept .1 .1 .1 .1 .1 .1 .1 .1 .0
 
 returns : tie.Need-returns
-returns c = (c .before .before .before .before .before .before .before .before .before .before .before .before .before .before .before .before .before .before .overlays .ensures .1, (c .before .before .before .before .before .before .rewrite .ensures, clear-is (c .before .before .before .before .before .before .before .before .before .before .before .before .captures .ensures) (c .before .before .fill .ensures)))
+returns c = (c .before .before .before .before .before .before .before .before .before .before .before .before .before .before .before .before .before .before .before .before .before .before .before .before .before .before .before .before .before .before .before .overlays .ensures .1, (c .before .before .before .before .before .before .rewrite .ensures, clear-is (c .before .before .before .before .before .before .before .before .before .before .before .before .before .before .before .before .before .before .before .before .before .before .before .before .before .captures .ensures) (c .before .before .fill .ensures)))
 
 pub rejudge-spec : {M : Type 1} → statement M
 rejudge-spec =
@@ -49,7 +76,16 @@ rejudge-spec =
     overlays-requires
     slice-aggregate-captures
     captures-requires
+    slice-aggregate-passes
+    slice-aggregate-passes-2
+    passes-requires
+    slice-aggregate-refused
+    slice-aggregate-refused-2
+    refused-requires
     slice-aggregate-rewrite
+    slice-aggregate-rewrite-2
+    slice-aggregate-rewrite-3
+    slice-aggregate-rewrite-4
     rewrite-requires
     fill-requires
     same-length

@@ -1,11 +1,10 @@
 -- The lengths first, then the sheets.
 -- Assumes nothing.
 use borrow.Author.Needs.{needs}
-use native.Mathlib.Nat.{le-refl}
 use native.Mathlib.Omega.{arith}
 use mathlib.Core.Path.{ap}
 use lib.ListN.{length, length-take}
-use Rattle.view.proofs.Splice.{plain}
+use Rattle.view.proofs.Splice.{plain, plain-fits}
 use Rattle.form.proofs.Accepting.{library-long, used-long, used-past, present-is}
 use Rattle.form.proofs.present.Statement.{statement}
 use Rattle.form.proofs.present.Tie as tie
@@ -32,7 +31,7 @@ check-requires : tie.Need-check-requires
 check-requires c κs =
     let u = c .before .before .before .before .before .before .before .before .before .before .args .user .now in
     let p = c .before .before .before .before .before .before .before .before .before .before .pre in
-    (record { ordered = le-refl _; within = le-refl _; there = omega arith }, ((omega arith, omega (arith, ap length (plain u (c .before .before .before .before .before .before .before .before .before .before .args .used)), length-take (c .before .before .before .before .before .before .before .before .before .before .args .used) u)), (p .0, p .1)))
+    (plain-fits _ _ (omega arith), ((omega arith, omega (arith, ap length (plain u (c .before .before .before .before .before .before .before .before .before .before .args .used)), length-take (c .before .before .before .before .before .before .before .before .before .before .args .used) u)), (p .0, p .1)))
 
 same-length : tie.Need-same-length
 same-length c = search needs

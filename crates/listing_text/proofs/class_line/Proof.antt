@@ -3,10 +3,10 @@
 use mathlib.Core.Path.{_∙_}
 use Prim.Native.Nat.{_+_}
 use native.Mathlib.Omega.{arith}
-use Rattle.view.proofs.Splice.{plain}
+use Rattle.view.proofs.Splice.{plain, plain-fits}
 use Rattle.text.proofs.Digits.{decimal-length}
 use Rattle.listing_text.proofs.Texts.{one-byte, a-number, a-part, same-text, then}
-use Rattle.listing_text.proofs.NameBytes.{start-low, name-at}
+use Rattle.listing_text.proofs.NameBytes.{name-at}
 use Rattle.listing_text.proofs.ClassText.{line-is, row-room}
 use borrow.Author.Needs.{needs}
 use Rattle.listing_text.proofs.class_line.Statement.{statement}
@@ -28,13 +28,13 @@ group-start-requires : tie.Need-group-start-requires
 group-start-requires c κs =
     let a = c .before .before .before .before .before .before .args in
     let p = c .before .before .before .before .before .before .pre in
-    (record { ordered = omega arith; within = omega arith; there = p .0 }, (rw (plain (a .user .now) (a .used)) (p .1 .0), p .1 .1 .1 .0))
+    (plain-fits _ _ (p .0), (rw (plain (a .user .now) (a .used)) (p .1 .0), p .1 .1 .1 .0))
 
-word-of-requires : tie.Need-word-of-requires
-word-of-requires c κs =
+class-word-requires : tie.Need-class-word-requires
+class-word-requires c κs =
     let a = c .before .before .before .before .before .before .before .args in
     let p = c .before .before .before .before .before .before .before .pre in
-    (record { ordered = omega arith; within = omega arith; there = p .0 }, start-low (a .user .now) (a .used) (p .1 .0) {c = a .nlib + a .i} (omega arith) (p .1 .1 .1 .0) (c .group-start .ensures))
+    (plain-fits _ _ (p .0), (rw (plain (a .user .now) (a .used)) (p .1 .0), (p .1 .1 .1 .0, omega arith)))
 
 wide-word-requires : tie.Need-wide-word-requires
 wide-word-requires c κs = search needs
@@ -43,7 +43,7 @@ add-end : tie.Need-add-end
 add-end c =
     let a = c .before .before .before .before .before .before .before .before .before .args in
     let p = c .before .before .before .before .before .before .before .before .before .pre in
-    let q = name-at (a .user .now) (a .used) (p .1 .0) {c = a .nlib + a .i} (omega arith) (p .1 .1 .1 .0) (p .0) (c .before .before .group-start .ensures) (c .wide-word .ensures ∙ c .before .word-of .ensures) in
+    let q = name-at (a .user .now) (a .used) (p .1 .0) {c = a .nlib + a .i} (omega arith) (p .1 .1 .1 .0) (p .0) (c .before .before .group-start .ensures) (c .wide-word .ensures ∙ c .before .class-word .ensures) in
     omega (arith, q .low)
 
 mul-wide : tie.Need-mul-wide
@@ -95,28 +95,28 @@ add-put-part : tie.Need-add-put-part
 add-put-part c =
     let a = c .before .before .before .before .before .before .before .before .before .before .before .before .before .before .before .before .before .before .before .before .before .before .args in
     let p = c .before .before .before .before .before .before .before .before .before .before .before .before .before .before .before .before .before .before .before .before .before .before .pre in
-    let q = name-at (a .user .now) (a .used) (p .1 .0) {c = a .nlib + a .i} (omega arith) (p .1 .1 .1 .0) (p .0) (c .before .before .before .before .before .before .before .before .before .before .before .before .before .before .before .group-start .ensures) (c .before .before .before .before .before .before .before .before .before .before .before .before .before .wide-word .ensures ∙ c .before .before .before .before .before .before .before .before .before .before .before .before .before .before .word-of .ensures) in
+    let q = name-at (a .user .now) (a .used) (p .1 .0) {c = a .nlib + a .i} (omega arith) (p .1 .1 .1 .0) (p .0) (c .before .before .before .before .before .before .before .before .before .before .before .before .before .before .before .group-start .ensures) (c .before .before .before .before .before .before .before .before .before .before .before .before .before .wide-word .ensures ∙ c .before .before .before .before .before .before .before .before .before .before .before .before .before .before .class-word .ensures) in
     omega (arith, q .low)
 
 put-part-requires : tie.Need-put-part-requires
 put-part-requires c κs =
     let a = c .before .before .before .before .before .before .before .before .before .before .before .before .before .before .before .before .before .before .before .before .before .before .args in
     let p = c .before .before .before .before .before .before .before .before .before .before .before .before .before .before .before .before .before .before .before .before .before .before .pre in
-    let q = name-at (a .user .now) (a .used) (p .1 .0) {c = a .nlib + a .i} (omega arith) (p .1 .1 .1 .0) (p .0) (c .before .before .before .before .before .before .before .before .before .before .before .before .before .before .before .group-start .ensures) (c .before .before .before .before .before .before .before .before .before .before .before .before .before .wide-word .ensures ∙ c .before .before .before .before .before .before .before .before .before .before .before .before .before .before .word-of .ensures) in
+    let q = name-at (a .user .now) (a .used) (p .1 .0) {c = a .nlib + a .i} (omega arith) (p .1 .1 .1 .0) (p .0) (c .before .before .before .before .before .before .before .before .before .before .before .before .before .before .before .group-start .ensures) (c .before .before .before .before .before .before .before .before .before .before .before .before .before .wide-word .ensures ∙ c .before .before .before .before .before .before .before .before .before .before .before .before .before .before .class-word .ensures) in
     (omega (arith, decimal-length (a .nlib + a .i), c .before .before .before .before .before .before .before .put-number .ensures .0, c .before .before .before .put .ensures .0), omega (arith, q .long), q .within, omega (arith, q .low))
 
 put-requires-2 : tie.Need-put-requires-2
 put-requires-2 c κs =
     let a = c .before .before .before .before .before .before .before .before .before .before .before .before .before .before .before .before .before .before .before .before .before .before .before .before .before .before .args in
     let p = c .before .before .before .before .before .before .before .before .before .before .before .before .before .before .before .before .before .before .before .before .before .before .before .before .before .before .pre in
-    let q = name-at (a .user .now) (a .used) (p .1 .0) {c = a .nlib + a .i} (omega arith) (p .1 .1 .1 .0) (p .0) (c .before .before .before .before .before .before .before .before .before .before .before .before .before .before .before .before .before .before .before .group-start .ensures) (c .before .before .before .before .before .before .before .before .before .before .before .before .before .before .before .before .before .wide-word .ensures ∙ c .before .before .before .before .before .before .before .before .before .before .before .before .before .before .before .before .before .before .word-of .ensures) in
+    let q = name-at (a .user .now) (a .used) (p .1 .0) {c = a .nlib + a .i} (omega arith) (p .1 .1 .1 .0) (p .0) (c .before .before .before .before .before .before .before .before .before .before .before .before .before .before .before .before .before .before .before .group-start .ensures) (c .before .before .before .before .before .before .before .before .before .before .before .before .before .before .before .before .before .wide-word .ensures ∙ c .before .before .before .before .before .before .before .before .before .before .before .before .before .before .before .before .before .before .class-word .ensures) in
     omega (arith, decimal-length (a .nlib + a .i), c .before .before .before .before .before .before .before .before .before .before .before .put-number .ensures .0, c .before .before .before .before .before .before .before .put .ensures .0, c .before .before .before .put-part .ensures .0, q .short)
 
 put-verdict-requires : tie.Need-put-verdict-requires
 put-verdict-requires c κs =
     let a = c .before .before .before .before .before .before .before .before .before .before .before .before .before .before .before .before .before .before .before .before .before .before .before .before .before .before .before .before .before .before .args in
     let p = c .before .before .before .before .before .before .before .before .before .before .before .before .before .before .before .before .before .before .before .before .before .before .before .before .before .before .before .before .before .before .pre in
-    let q = name-at (a .user .now) (a .used) (p .1 .0) {c = a .nlib + a .i} (omega arith) (p .1 .1 .1 .0) (p .0) (c .before .before .before .before .before .before .before .before .before .before .before .before .before .before .before .before .before .before .before .before .before .before .before .group-start .ensures) (c .before .before .before .before .before .before .before .before .before .before .before .before .before .before .before .before .before .before .before .before .before .wide-word .ensures ∙ c .before .before .before .before .before .before .before .before .before .before .before .before .before .before .before .before .before .before .before .before .before .before .word-of .ensures) in
+    let q = name-at (a .user .now) (a .used) (p .1 .0) {c = a .nlib + a .i} (omega arith) (p .1 .1 .1 .0) (p .0) (c .before .before .before .before .before .before .before .before .before .before .before .before .before .before .before .before .before .before .before .before .before .before .before .group-start .ensures) (c .before .before .before .before .before .before .before .before .before .before .before .before .before .before .before .before .before .before .before .before .before .wide-word .ensures ∙ c .before .before .before .before .before .before .before .before .before .before .before .before .before .before .before .before .before .before .before .before .before .before .class-word .ensures) in
     omega (arith, decimal-length (a .nlib + a .i), c .before .before .before .before .before .before .before .before .before .before .before .before .before .before .before .put-number .ensures .0, c .before .before .before .before .before .before .before .before .before .before .before .put .ensures .0, c .before .before .before .before .before .before .before .put-part .ensures .0, q .short, c .before .before .before .put2 .ensures .0)
 
 same-length : tie.Need-same-length
@@ -126,7 +126,7 @@ returns : tie.Need-returns
 returns c =
     let a = c .before .before .before .before .before .before .before .before .before .before .before .before .before .before .before .before .before .before .before .before .before .before .before .before .before .before .before .before .before .before .before .before .before .args in
     let p = c .before .before .before .before .before .before .before .before .before .before .before .before .before .before .before .before .before .before .before .before .before .before .before .before .before .before .before .before .before .before .before .before .before .pre in
-    let q = name-at (a .user .now) (a .used) (p .1 .0) {c = a .nlib + a .i} (omega arith) (p .1 .1 .1 .0) (p .0) (c .before .before .before .before .before .before .before .before .before .before .before .before .before .before .before .before .before .before .before .before .before .before .before .before .before .before .group-start .ensures) (c .before .before .before .before .before .before .before .before .before .before .before .before .before .before .before .before .before .before .before .before .before .before .before .before .wide-word .ensures ∙ c .before .before .before .before .before .before .before .before .before .before .before .before .before .before .before .before .before .before .before .before .before .before .before .before .before .word-of .ensures) in
+    let q = name-at (a .user .now) (a .used) (p .1 .0) {c = a .nlib + a .i} (omega arith) (p .1 .1 .1 .0) (p .0) (c .before .before .before .before .before .before .before .before .before .before .before .before .before .before .before .before .before .before .before .before .before .before .before .before .before .before .group-start .ensures) (c .before .before .before .before .before .before .before .before .before .before .before .before .before .before .before .before .before .before .before .before .before .before .before .before .wide-word .ensures ∙ c .before .before .before .before .before .before .before .before .before .before .before .before .before .before .before .before .before .before .before .before .before .before .before .before .before .class-word .ensures) in
     same-text (line-is (p .1 .0) (a .i) (p .1 .1 .1 .0) (p .1 .1 .0) (q .is) (c .before .before .before .before .before .before .before .before .before .before .before .before .before .before .before .before .before .before .before .before .before .before .wide .ensures) (c .before .before .before .before .before .before .before .before .before .before .before .before .before .before .before .before .before .before .before .before .wide2 .ensures))
     (then (a-number (a .nlib + a .i) (c .before .before .before .before .before .before .before .before .before .before .before .before .before .before .before .before .before .before .put-number .ensures)) (then (one-byte (c .before .before .before .before .before .before .before .before .before .before .before .before .before .before .put .ensures)) (then (a-part (a .user .now) _ _ (omega (arith, q .long)) (q .within) (c .before .before .before .before .before .before .before .before .before .before .put-part .ensures)) (then (one-byte (c .before .before .before .before .before .before .put2 .ensures)) (c .before .before .put-verdict .ensures)))))
 
@@ -139,7 +139,7 @@ class-line-spec =
     part-none-end
     add-class
     group-start-requires
-    word-of-requires
+    class-word-requires
     wide-word-requires
     add-end
     mul-wide

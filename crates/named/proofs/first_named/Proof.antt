@@ -1,4 +1,4 @@
--- Along BUILDS, or of any kind.
+-- `named::first_named`: along BUILDS alone, or along every record.
 -- Assumes nothing.
 use borrow.Author.Needs.{needs}
 use Rattle.named.proofs.first_named.Statement.{statement}
@@ -17,4 +17,10 @@ returns-2 : tie.Need-returns-2
 returns-2 c = rw (c .before .if1 .left) (c .any-named .ensures)
 
 pub first-named-spec : {M : Type 1} → statement M
-first-named-spec = tie.close (tie.spec built-requires returns any-named-requires returns-2)
+first-named-spec =
+    tie.close
+    (tie.spec
+    built-requires
+    returns
+    any-named-requires
+    returns-2)

@@ -1,42 +1,50 @@
--- A name before the cut is one of the buffer; else the walk along the spliced bytes.
+-- Few bytes one by one; else eight at a time, and in the loop those before i may stand in a name.
 -- Assumes nothing.
-use mathlib.Core.Path.{ap, _∙_}
-use Prim.Native.Nat.{_-_}
-use borrow.Author.Needs.{needs}
-use borrow.Author.Tests.{le-leb, lt-leb}
+use Prim.Native.Nat.{_+_, _-_}
+use mathlib.Core.Path.{_∙_}
 use native.Mathlib.Omega.{arith}
-use Rattle.spec.specs.Record.{nameFits}
-use Rattle.view.specs.View.{spliced}
-use Rattle.view.proofs.Splice.{part-in-head}
-use Rattle.pass.proofs.Names.{Along, begins, ends, stops, goes-on}
+use Rattle.pass.proofs.Names.{Scanned, scan, scans, eight-stops, two-fours, last-eight}
 use Rattle.pass.proofs.name_fits.Statement.{statement}
 use Rattle.pass.proofs.name_fits.Tie as tie
 
 abbrev Inv-loop : tie.InvT-loop
-Inv-loop user group cut from to i₀ i = Along (spliced user group cut) from to i
+Inv-loop bytes from to last i₀ i = Scanned bytes from to i
 
 abbrev μ-loop : tie.MeasureT-loop
-μ-loop user group cut from to i₀ i = to - i
+μ-loop bytes from to last i₀ i = to - i
 
-bytes-fit-requires : tie.Need-bytes-fit-requires Inv-loop μ-loop
-bytes-fit-requires c κs = omega (arith, c .before .before .before .before .pre .0 .ordered, c .before .before .before .before .pre .0 .within, c .before .before .before .before .pre .0 .there)
+sub-if1 : tie.Need-sub-if1 Inv-loop μ-loop
+sub-if1 c = omega arith
+
+few-fit-requires : tie.Need-few-fit-requires Inv-loop μ-loop
+few-fit-requires c κs = omega arith
 
 returns : tie.Need-returns Inv-loop μ-loop
-returns c =
-    let a = c .before .before .before .before .before .args in
-    c .bytes-fit .ensures ∙ ap nameFits (part-in-head _ _ _ (c .before .before .before .before .before .pre .0) (a .from) (a .to) (omega arith) (omega arith))
+returns c = c .few-fit .ensures
 
-loop-holds : tie.Need-loop-holds Inv-loop μ-loop
-loop-holds c = begins _ _ _ (omega arith)
+sub-if2 : tie.Need-sub-if2 Inv-loop μ-loop
+sub-if2 c = omega arith
 
-byte-at-requires : tie.Need-byte-at-requires Inv-loop μ-loop
-byte-at-requires c κs = search needs
+sub-eight-fit : tie.Need-sub-eight-fit Inv-loop μ-loop
+sub-eight-fit c = omega arith
+
+eight-fit-requires : tie.Need-eight-fit-requires Inv-loop μ-loop
+eight-fit-requires c κs = omega arith
 
 returns-2 : tie.Need-returns-2 Inv-loop μ-loop
-returns-2 c = stops (c .before .before .before .loop .inv) (omega arith) (omega arith) (c .before .byte-at .ensures) (rw (lt-leb _ _ (c .if2 .taken)))
+returns-2 c = c .eight-fit .ensures ∙ two-fours _ _ _ (c .before .before .before .before .pre .0) (c .before .before .before .before .pre .1) (omega arith) (omega arith)
 
-returns-3 : tie.Need-returns-3 Inv-loop μ-loop
-returns-3 c = stops (c .before .before .before .before .loop .inv) (omega arith) (omega arith) (c .before .before .byte-at .ensures) (rw (le-leb _ _ (c .before .if2 .left), lt-leb _ _ (c .if3 .taken)))
+sub-last : tie.Need-sub-last Inv-loop μ-loop
+sub-last c = omega arith
+
+loop-holds : tie.Need-loop-holds Inv-loop μ-loop
+loop-holds c = scan _ _ _ (omega arith)
+
+add-eight-fit : tie.Need-add-eight-fit Inv-loop μ-loop
+add-eight-fit c = omega arith
+
+eight-fit-requires-2 : tie.Need-eight-fit-requires-2 Inv-loop μ-loop
+eight-fit-requires-2 c κs = omega arith
 
 add-i : tie.Need-add-i Inv-loop μ-loop
 add-i c = omega arith
@@ -45,10 +53,19 @@ loop-less : tie.Need-loop-less Inv-loop μ-loop
 loop-less c = omega arith
 
 loop-again : tie.Need-loop-again Inv-loop μ-loop
-loop-again c = goes-on (c .before .before .before .before .loop .inv) (omega arith) (omega arith) (c .before .before .byte-at .ensures) (rw (le-leb _ _ (c .before .if2 .left), le-leb _ _ (c .if3 .left)))
+loop-again c = scans _ _ _ (c .before .before .before .before .before .before .before .pre .0) (c .before .before .before .before .before .before .before .pre .1) (c .before .before .before .loop .inv) (c .before .eight-fit2 .ensures) (c .if3 .taken) (omega arith)
+
+returns-3 : tie.Need-returns-3 Inv-loop μ-loop
+returns-3 c = let i = c .before .before .before .loop .i in eight-stops _ _ _ (c .before .before .before .before .before .before .before .pre .0) (c .before .before .before .before .before .before .before .pre .1) i (i + 4) (omega arith) (omega arith) (omega arith) (omega arith) (c .before .eight-fit2 .ensures) (c .if3 .left)
+
+add-eight-fit-2 : tie.Need-add-eight-fit-2 Inv-loop μ-loop
+add-eight-fit-2 c = omega arith
+
+eight-fit-requires-3 : tie.Need-eight-fit-requires-3 Inv-loop μ-loop
+eight-fit-requires-3 c κs = omega arith
 
 returns-4 : tie.Need-returns-4 Inv-loop μ-loop
-returns-4 c = ends (c .before .loop .inv) (omega arith)
+returns-4 c = c .eight-fit3 .ensures ∙ last-eight _ _ _ (c .before .before .before .before .before .before .pre .0) (c .before .before .before .before .before .before .pre .1) (c .before .before .loop .inv) (omega arith)
 
 pub name-fits-spec : {M : Type 1} → statement M
 name-fits-spec =
@@ -56,13 +73,21 @@ name-fits-spec =
     (tie.spec
     Inv-loop
     μ-loop
-    bytes-fit-requires
+    sub-if1
+    few-fit-requires
     returns
-    loop-holds
-    byte-at-requires
+    sub-if2
+    sub-eight-fit
+    eight-fit-requires
     returns-2
-    returns-3
+    sub-last
+    loop-holds
+    add-eight-fit
+    eight-fit-requires-2
     add-i
     loop-less
     loop-again
+    returns-3
+    add-eight-fit-2
+    eight-fit-requires-3
     returns-4)

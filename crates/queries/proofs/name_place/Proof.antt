@@ -4,9 +4,9 @@ use mathlib.Core.Path.{ap, _∙_}
 use native.Mathlib.Omega.{arith}
 use Rattle.spec.specs.Promises.{accepted, namePart}
 use Rattle.view.proofs.Splice.{plain}
-use Rattle.groups.proofs.Classes.{class-low, class-long}
+use Rattle.groups.proofs.Classes.{class-low, class-long, size-read}
 use Rattle.queries.proofs.Asking.{answer-refused, answer-fine, sheets-refused, class-unused, class-used, fits, indexed}
-use Rattle.queries.proofs.Parts.{part-read, size-read}
+use Rattle.queries.proofs.Parts.{part-read}
 use borrow.Author.Needs.{needs}
 use Rattle.queries.proofs.name_place.Statement.{statement}
 use Rattle.queries.proofs.name_place.Tie as tie
@@ -47,32 +47,35 @@ slice-aggregate-group-start c = search needs
 group-start-requires : tie.Need-group-start-requires
 group-start-requires c κs = (fits (c .before .before .before .before .before .before .before .before .before .before .before .before .before .before .args .library .now) (c .before .before .before .before .before .before .before .before .before .before .before .before .before .before .args .user .now) (c .before .before .before .before .before .before .before .before .before .before .before .before .before .before .args .used) (c .before .before .before .before .before .before .before .before .before .present .ensures) (c .before .before .before .before .before .checked2 .given .1), (indexed (c .before .before .before .before .before .before .before .before .before .before .before .before .before .before .args .library .now) (c .before .before .before .before .before .before .before .before .before .before .before .before .before .before .args .user .now) (c .before .before .before .before .before .before .before .before .before .before .before .before .before .before .args .used) (c .before .before .before .before .before .before .before .before .before .present .ensures) (c .before .before .before .before .before .checked2 .given .1) (plain (c .before .before .before .before .before .before .before .before .before .before .before .before .before .before .args .user .now) (c .before .before .before .before .before .before .before .before .before .before .before .before .before .before .args .used)), omega (arith, c .before .before .before .if1 .left)))
 
-word-of-requires : tie.Need-word-of-requires
-word-of-requires c κs =
-    let x = indexed (c .before .before .before .before .before .before .before .before .before .before .before .before .before .before .before .args .library .now) (c .before .before .before .before .before .before .before .before .before .before .before .before .before .before .before .args .user .now) (c .before .before .before .before .before .before .before .before .before .before .before .before .before .before .before .args .used) (c .before .before .before .before .before .before .before .before .before .before .present .ensures) (c .before .before .before .before .before .before .checked2 .given .1) (plain (c .before .before .before .before .before .before .before .before .before .before .before .before .before .before .before .args .user .now) (c .before .before .before .before .before .before .before .before .before .before .before .before .before .before .before .args .used)) in
-    (fits (c .before .before .before .before .before .before .before .before .before .before .before .before .before .before .before .args .library .now) (c .before .before .before .before .before .before .before .before .before .before .before .before .before .before .before .args .user .now) (c .before .before .before .before .before .before .before .before .before .before .before .before .before .before .before .args .used) (c .before .before .before .before .before .before .before .before .before .before .present .ensures) (c .before .before .before .before .before .before .checked2 .given .1), omega (arith, c .group-start .ensures, class-low x {c = c .before .before .before .before .before .before .before .before .before .before .before .before .before .before .before .args .class} (omega (arith, c .before .before .before .before .if1 .left))))
+slice-aggregate-class-word : tie.Need-slice-aggregate-class-word
+slice-aggregate-class-word c = search needs
+
+class-word-requires : tie.Need-class-word-requires
+class-word-requires c κs =
+    let x = indexed (c .before .before .before .before .before .before .before .before .before .before .before .before .before .before .before .before .args .library .now) (c .before .before .before .before .before .before .before .before .before .before .before .before .before .before .before .before .args .user .now) (c .before .before .before .before .before .before .before .before .before .before .before .before .before .before .before .before .args .used) (c .before .before .before .before .before .before .before .before .before .before .before .present .ensures) (c .before .before .before .before .before .before .before .checked2 .given .1) (plain (c .before .before .before .before .before .before .before .before .before .before .before .before .before .before .before .before .args .user .now) (c .before .before .before .before .before .before .before .before .before .before .before .before .before .before .before .before .args .used)) in
+    (fits (c .before .before .before .before .before .before .before .before .before .before .before .before .before .before .before .before .args .library .now) (c .before .before .before .before .before .before .before .before .before .before .before .before .before .before .before .before .args .user .now) (c .before .before .before .before .before .before .before .before .before .before .before .before .before .before .before .before .args .used) (c .before .before .before .before .before .before .before .before .before .before .before .present .ensures) (c .before .before .before .before .before .before .before .checked2 .given .1), (x, (omega (arith, c .before .before .before .before .before .if1 .left), omega arith)))
 
 add-t25 : tie.Need-add-t25
 add-t25 c =
-    let x = indexed (c .before .before .before .before .before .before .before .before .before .before .before .before .before .before .before .before .args .library .now) (c .before .before .before .before .before .before .before .before .before .before .before .before .before .before .before .before .args .user .now) (c .before .before .before .before .before .before .before .before .before .before .before .before .before .before .before .before .args .used) (c .before .before .before .before .before .before .before .before .before .before .before .present .ensures) (c .before .before .before .before .before .before .before .checked2 .given .1) (plain (c .before .before .before .before .before .before .before .before .before .before .before .before .before .before .before .before .args .user .now) (c .before .before .before .before .before .before .before .before .before .before .before .before .before .before .before .before .args .used)) in
-    omega (arith, c .before .group-start .ensures, class-low x {c = c .before .before .before .before .before .before .before .before .before .before .before .before .before .before .before .before .args .class} (omega (arith, c .before .before .before .before .before .if1 .left)))
+    let x = indexed (c .before .before .before .before .before .before .before .before .before .before .before .before .before .before .before .before .before .args .library .now) (c .before .before .before .before .before .before .before .before .before .before .before .before .before .before .before .before .before .args .user .now) (c .before .before .before .before .before .before .before .before .before .before .before .before .before .before .before .before .before .args .used) (c .before .before .before .before .before .before .before .before .before .before .before .before .present .ensures) (c .before .before .before .before .before .before .before .before .checked2 .given .1) (plain (c .before .before .before .before .before .before .before .before .before .before .before .before .before .before .before .before .before .args .user .now) (c .before .before .before .before .before .before .before .before .before .before .before .before .before .before .before .before .before .args .used)) in
+    omega (arith, c .before .before .group-start .ensures, class-low x {c = c .before .before .before .before .before .before .before .before .before .before .before .before .before .before .before .before .before .args .class} (omega (arith, c .before .before .before .before .before .before .if1 .left)))
 
-cast-t29 : tie.Need-cast-t29
-cast-t29 c = search needs
+cast-t31 : tie.Need-cast-t31
+cast-t31 c = search needs
 
-sub-t30 : tie.Need-sub-t30
-sub-t30 c =
-    let x = indexed (c .before .before .before .before .before .before .before .before .before .before .before .before .before .before .before .before .args .library .now) (c .before .before .before .before .before .before .before .before .before .before .before .before .before .before .before .before .args .user .now) (c .before .before .before .before .before .before .before .before .before .before .before .before .before .before .before .before .args .used) (c .before .before .before .before .before .before .before .before .before .before .before .present .ensures) (c .before .before .before .before .before .before .before .checked2 .given .1) (plain (c .before .before .before .before .before .before .before .before .before .before .before .before .before .before .before .before .args .user .now) (c .before .before .before .before .before .before .before .before .before .before .before .before .before .before .before .before .args .used)) in
-    omega (arith, size-read x {c = c .before .before .before .before .before .before .before .before .before .before .before .before .before .before .before .before .args .class} (omega (arith, c .before .before .before .before .before .if1 .left)) (c .before .before .before .sheet-of .ensures) (c .before .group-start .ensures) (c .word-of .ensures), class-long x {c = c .before .before .before .before .before .before .before .before .before .before .before .before .before .before .before .before .args .class} (omega (arith, c .before .before .before .before .before .if1 .left)))
+sub-t32 : tie.Need-sub-t32
+sub-t32 c =
+    let x = indexed (c .before .before .before .before .before .before .before .before .before .before .before .before .before .before .before .before .before .args .library .now) (c .before .before .before .before .before .before .before .before .before .before .before .before .before .before .before .before .before .args .user .now) (c .before .before .before .before .before .before .before .before .before .before .before .before .before .before .before .before .before .args .used) (c .before .before .before .before .before .before .before .before .before .before .before .before .present .ensures) (c .before .before .before .before .before .before .before .before .checked2 .given .1) (plain (c .before .before .before .before .before .before .before .before .before .before .before .before .before .before .before .before .before .args .user .now) (c .before .before .before .before .before .before .before .before .before .before .before .before .before .before .before .before .before .args .used)) in
+    omega (arith, size-read x {c = c .before .before .before .before .before .before .before .before .before .before .before .before .before .before .before .before .before .args .class} (omega (arith, c .before .before .before .before .before .before .if1 .left)) (c .class-word .ensures), class-long x {c = c .before .before .before .before .before .before .before .before .before .before .before .before .before .before .before .before .before .args .class} (omega (arith, c .before .before .before .before .before .before .if1 .left)))
 
 returns-2 : tie.Need-returns-2
 returns-2 c = record { answered = answer-refused _ (sheets-refused (c .before .before .before .before .before .before .before .before .before .before .args .library .now) (c .before .before .before .before .before .before .before .before .before .before .args .user .now) (c .before .before .before .before .before .before .before .before .before .before .args .used) (c .before .before .before .before .before .before .before .before .before .before .args .class) (c .before .before .before .before .before .present .ensures) (c .before .checked .given .1)) }
 
 returns-3 : tie.Need-returns-3
 returns-3 c = record {
-  answered = ap accepted (part-read (indexed (c .before .before .before .before .before .before .before .before .before .before .before .before .before .before .before .before .args .library .now) (c .before .before .before .before .before .before .before .before .before .before .before .before .before .before .before .before .args .user .now) (c .before .before .before .before .before .before .before .before .before .before .before .before .before .before .before .before .args .used) (c .before .before .before .before .before .before .before .before .before .before .before .present .ensures) (c .before .before .before .before .before .before .before .checked2 .given .1) (plain (c .before .before .before .before .before .before .before .before .before .before .before .before .before .before .before .before .args .user .now) (c .before .before .before .before .before .before .before .before .before .before .before .before .before .before .before .before .args .used))) {c = c .before .before .before .before .before .before .before .before .before .before .before .before .before .before .before .before .args .class} (omega (arith, c .before .before .before .before .before .if1 .left)) (c .before .before .before .sheet-of .ensures) (c .before .group-start .ensures) (c .word-of .ensures))
-      ∙ ap (λ s. accepted (namePart (c .before .before .before .before .before .before .before .before .before .before .before .before .before .before .before .before .args .library .now) s (c .before .before .before .before .before .before .before .before .before .before .before .before .before .before .before .before .args .class))) (plain (c .before .before .before .before .before .before .before .before .before .before .before .before .before .before .before .before .args .user .now) (c .before .before .before .before .before .before .before .before .before .before .before .before .before .before .before .before .args .used))
-      ∙ answer-fine _ (class-used (c .before .before .before .before .before .before .before .before .before .before .before .before .before .before .before .before .args .library .now) (c .before .before .before .before .before .before .before .before .before .before .before .before .before .before .before .before .args .user .now) (c .before .before .before .before .before .before .before .before .before .before .before .before .before .before .before .before .args .used) (c .before .before .before .before .before .before .before .before .before .before .before .before .before .before .before .before .args .class) (c .before .before .before .before .before .before .before .before .before .before .before .present .ensures) (c .before .before .before .before .before .before .before .checked2 .given .1) (omega (arith, c .before .before .before .before .before .if1 .left)));
+  answered = ap accepted (part-read (indexed (c .before .before .before .before .before .before .before .before .before .before .before .before .before .before .before .before .before .args .library .now) (c .before .before .before .before .before .before .before .before .before .before .before .before .before .before .before .before .before .args .user .now) (c .before .before .before .before .before .before .before .before .before .before .before .before .before .before .before .before .before .args .used) (c .before .before .before .before .before .before .before .before .before .before .before .before .present .ensures) (c .before .before .before .before .before .before .before .before .checked2 .given .1) (plain (c .before .before .before .before .before .before .before .before .before .before .before .before .before .before .before .before .before .args .user .now) (c .before .before .before .before .before .before .before .before .before .before .before .before .before .before .before .before .before .args .used))) {c = c .before .before .before .before .before .before .before .before .before .before .before .before .before .before .before .before .before .args .class} (omega (arith, c .before .before .before .before .before .before .if1 .left)) (c .before .before .before .before .sheet-of .ensures) (c .before .before .group-start .ensures) (c .class-word .ensures))
+      ∙ ap (λ s. accepted (namePart (c .before .before .before .before .before .before .before .before .before .before .before .before .before .before .before .before .before .args .library .now) s (c .before .before .before .before .before .before .before .before .before .before .before .before .before .before .before .before .before .args .class))) (plain (c .before .before .before .before .before .before .before .before .before .before .before .before .before .before .before .before .before .args .user .now) (c .before .before .before .before .before .before .before .before .before .before .before .before .before .before .before .before .before .args .used))
+      ∙ answer-fine _ (class-used (c .before .before .before .before .before .before .before .before .before .before .before .before .before .before .before .before .before .args .library .now) (c .before .before .before .before .before .before .before .before .before .before .before .before .before .before .before .before .before .args .user .now) (c .before .before .before .before .before .before .before .before .before .before .before .before .before .before .before .before .before .args .used) (c .before .before .before .before .before .before .before .before .before .before .before .before .before .before .before .before .before .args .class) (c .before .before .before .before .before .before .before .before .before .before .before .before .present .ensures) (c .before .before .before .before .before .before .before .before .checked2 .given .1) (omega (arith, c .before .before .before .before .before .before .if1 .left)));
 }
 
 pub name-place-spec : {M : Type 1} → statement M
@@ -91,9 +94,10 @@ name-place-spec =
     sheet-of-requires
     slice-aggregate-group-start
     group-start-requires
-    word-of-requires
+    slice-aggregate-class-word
+    class-word-requires
     add-t25
-    cast-t29
-    sub-t30
+    cast-t31
+    sub-t32
     returns-2
     returns-3)

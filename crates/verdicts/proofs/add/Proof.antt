@@ -63,7 +63,7 @@ Draft 𝓤 H A mem run = Met 𝓤 H A draft.ended (draft.clauses 𝓤 H A mem ru
 abbrev answered : {M : Type 1} (𝓤 : URA M) (H : Heap 𝓤) (A : Atoms 𝓤) → Given 𝓤 H A → Answer 𝓤 H A
 answered 𝓤 H A W = enum-answer 𝓤 H A W R.the-type R′.the-laws R′.the-plain tt (λ r. linesLeft (addedAnswer r))
 
-module _ {M : Type 1} (𝓤 : URA M) (H : Heap 𝓤) (A : Atoms 𝓤) (W : Given 𝓤 H A) (mem : Memory → SProp 𝓤) (run : Routine → Fun 𝓤) (κs : Lfts 6) (qs : Shares 6) (bounds : AllOutlive 6 (f.signature .outlives) κs)
+module _ {M : Type 1} (𝓤 : URA M) (H : Heap 𝓤) (A : Atoms 𝓤) (W : Given 𝓤 H A) (mem : Memory → SProp 𝓤) (run : Routine → Fun 𝓤) (κs : Lfts 5) (qs : Shares 5) (bounds : AllOutlive 5 (f.signature .outlives) κs)
     (library user : RefT (List ℕ)) (used : RefT ℕ) (group : RefT (List ℕ)) (row : RefT (List Verdict)) (scratch : RefT (List ℕ))
     (room₀ : Room u8 (length (library .now))) (room₁ : Room u8 (length (user .now))) (room₃ : Room u8 (length (group .now))) (roomᵥ : Room T.the-row (length (row .now))) (roomₛ : Room u8 (length (scratch .now))) where
   -- the contract at these arguments
@@ -71,17 +71,17 @@ module _ {M : Type 1} (𝓤 : URA M) (H : Heap 𝓤) (A : Atoms 𝓤) (W : Given
   y = ((κs, qs, bounds, (library, (user, (used, (group, (row, (scratch, tt)))))), (slice-vals library, (slice-vals user, (ptr-vals used, (slice-vals group, (slice-vals row, (slice-vals scratch, tt))))))), tt)
 
   abbrev the-row : Slice T.the-row
-  the-row = record { written-as = named 4; lft = κs .1 .1 .1 .1 .0; share = qs .1 .1 .1 .1 .0; ref = row; room = roomᵥ }
+  the-row = record { written-as = named 3; lft = κs .1 .1 .1 .0; share = qs .1 .1 .1 .0; ref = row; room = roomᵥ }
 
   abbrev the-scratch : Slice u8
-  the-scratch = record { written-as = named 5; lft = κs .1 .1 .1 .1 .1 .0; share = qs .1 .1 .1 .1 .1 .0; ref = scratch; room = roomₛ }
+  the-scratch = record { written-as = named 4; lft = κs .1 .1 .1 .1 .0; share = qs .1 .1 .1 .1 .0; ref = scratch; room = roomₛ }
 
   -- the operation on drafts, with the scratch at the lifetime ν, under the name δ
   abbrev to : ℕ → GName → Draft 𝓤 H A mem run .Ghost
   to ν δ = (
     (
-      (κs .0, (κs .1 .0, (κs .1 .1 .0, (κs .1 .1 .1 .0, (ν ∷ [], tt))))),
-      (qs .0, (qs .1 .0, (qs .1 .1 .0, (qs .1 .1 .1 .0, (fullShare, tt))))),
+      (κs .0, (κs .1 .0, (κs .1 .1 .0, (ν ∷ [], tt)))),
+      (qs .0, (qs .1 .0, (qs .1 .1 .0, (fullShare, tt)))),
       tt,
       (library, (user, (used, (group, (length (row .now), (known-as the-scratch δ (scratch .now), tt)))))),
       (slice-vals library, (slice-vals user, (ptr-vals used, (slice-vals group, (vint w64 (length (row .now)) ∷ [], (slice-vals scratch, tt)))))),
@@ -103,7 +103,7 @@ module _ {M : Type 1} (𝓤 : URA M) (H : Heap 𝓤) (A : Atoms 𝓤) (W : Given
   abbrev laid : Blocks (code.function .locals) → Locals
   laid bs = record {
     blocks = blocks (code.function .locals) bs;
-    before = a-slice (tyRef (named 0) imm (tyInt w8)) library ∷ a-slice (tyRef (named 1) mut (tyInt w8)) user ∷ a-pointer (tyRef (named 2) mut (tyInt w64)) used ∷ a-slice (tyRef (named 3) imm (tyInt w8)) group ∷ [];
+    before = a-slice (tyRef (named 0) imm (tyInt w8)) library ∷ a-slice (tyRef (named 1) mut (tyInt w8)) user ∷ a-pointer (tyRef (named 2) mut (tyInt w64)) used ∷ a-slice (tyRef (named 0) imm (tyInt w8)) group ∷ [];
     between = a-pointer (tyRef erased mut (tyInt w8)) user ∷ a-slice (tyRef erased mut (tyInt w8)) user ∷ a-pointer (tyRef erased mut (tyInt w64)) used ∷ a-pointer (tyRef erased mut (tyInt w8)) scratch ∷ a-slice (tyRef erased mut (tyInt w8)) scratch ∷ [];
   }
 
@@ -116,8 +116,8 @@ module _ {M : Type 1} (𝓤 : URA M) (H : Heap 𝓤) (A : Atoms 𝓤) (W : Given
         measures ! 28 24 (roomᵥ .0) refl refl refl refl $ reborrows ! 34 18 16 (room₁ .0) refl refl refl refl refl refl refl refl $ assigns ! (addr ! (from ! (hop ! (look ! 32 refl) (stop !)))) (from ! (stop !)) (init ! 14 refl (tt, tt)) $
         reborrows ! 26 12 10 (roomₛ .0) refl refl refl refl refl refl refl refl $ move ! (40 ∷ 41 ∷ []) $
         operates 𝓤 H A W mem run the-row the-scratch (answered 𝓤 H A W) (laid bs) C Λ fm #drafts·added-lines known-count known-settle (refl, refl, refl, refl, refl, refl, refl, refl, refl, refl) _
-        (‵ (flft (κs .0) (qs .0)) ∷ ‵ (flft (κs .1 .0) (qs .1 .0)) ∷ ‵ (flft (κs .1 .1 .0) (qs .1 .1 .0)) ∷ ‵ (flft (κs .1 .1 .1 .0) (qs .1 .1 .1 .0)) ∷ [])
-        (‵ (ShrSlice (named 0) (κs .0) u8 .own library (slice-vals library)) ∷ ‵ (MutSlice (named 1) (κs .1 .0) u8 .own user (slice-vals user)) ∷ ‵ (MutRef (named 2) (κs .1 .1 .0) usize .own used (ptr-vals used)) ∷ ‵ (ShrSlice (named 3) (κs .1 .1 .1 .0) u8 .own group (slice-vals group)) ∷ [])
+        (‵ (flft (κs .0) (qs .0)) ∷ ‵ (flft (κs .1 .0) (qs .1 .0)) ∷ ‵ (flft (κs .1 .1 .0) (qs .1 .1 .0)) ∷ [])
+        (‵ (ShrSlice (named 0) (κs .0) u8 .own library (slice-vals library)) ∷ ‵ (MutSlice (named 1) (κs .1 .0) u8 .own user (slice-vals user)) ∷ ‵ (MutRef (named 2) (κs .1 .1 .0) usize .own used (ptr-vals used)) ∷ ‵ (ShrSlice (named 0) (κs .0) u8 .own group (slice-vals group)) ∷ [])
         L (λ ws. ‵ ftrue ∷ ‵ (fsep (finally u8 (user .name) (ws .1 .0)) (feq ℕ (length (ws .1 .0)) (length (user .now)))) ∷ ‵ (fres (used .name) (usize .coded .code (ws .1 .1 .0))) ∷ ‵ ftrue ∷ []) (λ ws. ws .1 .1 .1 .1 .1 .0) Said
         #drafts·add (Draft 𝓤 H A mem run) known to (copy (place 1 []) ∷ copy (place 11 []) ∷ copy (place 12 []) ∷ copy (place 4 []) ∷ copy (place 7 []) ∷ copy (place 14 []) ∷ []) (λ ν δ. id⊢ 𝓤 _) (λ ν δ w. id⊢ 𝓤 _)
         (λ ν δ. and-then ! (local-is ! 40 refl refl) (and-then ! (local-is ! 20 refl refl) (and-then ! (local-is ! 18 refl refl) (and-then ! (local-is ! 34 refl refl) (and-then ! (local-is ! 28 refl refl) (and-then ! (local-is ! 14 refl refl) (no-more !)))))))
@@ -129,7 +129,7 @@ add-meets : {M : Type 1} (𝓤 : URA M) (H : Heap 𝓤) (A : Atoms 𝓤) (W : Gi
     → Meets 𝓤 H A f.signature (WpFn 𝓤 H (𝓣 .C) (𝓣 .Λ) code.function) (f.spec 𝓤 H A mem run)
 add-meets 𝓤 H A W mem run 𝓣 known known-count known-settle =
     meets 𝓤 H A f.ended (f.clauses 𝓤 H A mem run) (WpFn 𝓤 H (𝓣 .C) (𝓣 .Λ) code.function) (λ κs. (slice-vals, (slice-vals, (ptr-vals, (slice-vals, (slice-vals, (slice-vals, tt)))))))
-    (λ κs. (shr-slice-tells (named 0) (κs .0) u8, (mut-slice-tells (named 1) (κs .1 .0) u8, (mut-tells (named 2) (κs .1 .1 .0) usize, (shr-slice-tells (named 3) (κs .1 .1 .1 .0) u8, (mut-slice-tells (named 4) (κs .1 .1 .1 .1 .0) T.the-row, (mut-slice-tells (named 5) (κs .1 .1 .1 .1 .1 .0) u8, tt)))))))
+    (λ κs. (shr-slice-tells (named 0) (κs .0) u8, (mut-slice-tells (named 1) (κs .1 .0) u8, (mut-tells (named 2) (κs .1 .1 .0) usize, (shr-slice-tells (named 0) (κs .0) u8, (mut-slice-tells (named 3) (κs .1 .1 .1 .0) T.the-row, (mut-slice-tells (named 4) (κs .1 .1 .1 .1 .0) u8, tt)))))))
     (λ κs qs bounds a g are. walk 𝓤 H A W mem run κs qs bounds (a .0) (a .1 .0) (a .1 .1 .0) (a .1 .1 .1 .0) (a .1 .1 .1 .1 .0) (a .1 .1 .1 .1 .1 .0)
     (are .0 .0 .1) (are .1 .0 .0 .1) (are .1 .1 .1 .0 .0 .1) (are .1 .1 .1 .1 .0 .0 .1) (are .1 .1 .1 .1 .1 .0 .0 .1) (𝓣 .C) (𝓣 .Λ) (fmOf 𝓤 H (W .laws) 𝓣) known known-count known-settle)
 

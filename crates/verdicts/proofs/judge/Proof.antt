@@ -63,21 +63,21 @@ Draft 𝓤 H A mem run = Met 𝓤 H A draft.ended (draft.clauses 𝓤 H A mem ru
 abbrev answered : {M : Type 1} (𝓤 : URA M) (H : Heap 𝓤) (A : Atoms 𝓤) → Given 𝓤 H A → Answer 𝓤 H A
 answered 𝓤 H A W = enum-answer 𝓤 H A W R.the-type R′.the-laws R′.the-plain tt (λ r. linesLeft (judgedAnswer r))
 
-module _ {M : Type 1} (𝓤 : URA M) (H : Heap 𝓤) (A : Atoms 𝓤) (W : Given 𝓤 H A) (mem : Memory → SProp 𝓤) (run : Routine → Fun 𝓤) (κs : Lfts 4) (qs : Shares 4) (bounds : AllOutlive 4 (f.signature .outlives) κs)
+module _ {M : Type 1} (𝓤 : URA M) (H : Heap 𝓤) (A : Atoms 𝓤) (W : Given 𝓤 H A) (mem : Memory → SProp 𝓤) (run : Routine → Fun 𝓤) (κs : Lfts 3) (qs : Shares 3) (bounds : AllOutlive 3 (f.signature .outlives) κs)
     (library user : RefT (List ℕ)) (used : ℕ) (row : RefT (List Verdict)) (scratch : RefT (List ℕ)) (room₀ : Room u8 (length (library .now))) (room₁ : Room u8 (length (user .now))) (small : used < 2 ^ 64) (roomᵥ : Room T.the-row (length (row .now))) (roomₛ : Room u8 (length (scratch .now))) where
   -- the contract at these arguments
   abbrev y : Met 𝓤 H A f.ended (f.clauses 𝓤 H A mem run) .Ghost
   y = ((κs, qs, bounds, (library, (user, (used, (row, (scratch, tt))))), (slice-vals library, (slice-vals user, (vint w64 used ∷ [], (slice-vals row, (slice-vals scratch, tt)))))), tt)
 
   abbrev the-row : Slice T.the-row
-  the-row = record { written-as = named 2; lft = κs .1 .1 .0; share = qs .1 .1 .0; ref = row; room = roomᵥ }
+  the-row = record { written-as = named 1; lft = κs .1 .0; share = qs .1 .0; ref = row; room = roomᵥ }
 
   abbrev the-scratch : Slice u8
-  the-scratch = record { written-as = named 3; lft = κs .1 .1 .1 .0; share = qs .1 .1 .1 .0; ref = scratch; room = roomₛ }
+  the-scratch = record { written-as = named 2; lft = κs .1 .1 .0; share = qs .1 .1 .0; ref = scratch; room = roomₛ }
 
   -- the operation on drafts, with the scratch at the lifetime ν, under the name δ
   abbrev to : ℕ → GName → Draft 𝓤 H A mem run .Ghost
-  to ν δ = (((κs .0, (κs .1 .0, (ν ∷ [], tt))), (qs .0, (qs .1 .0, (fullShare, tt))), tt, (library, (user, (used, (length (row .now), (known-as the-scratch δ (scratch .now), tt))))), (slice-vals library, (slice-vals user, (vint w64 used ∷ [], (vint w64 (length (row .now)) ∷ [], (slice-vals scratch, tt)))))), tt)
+  to ν δ = (((κs .0, (ν ∷ [], tt)), (qs .0, (fullShare, tt)), tt, (library, (user, (used, (length (row .now), (known-as the-scratch δ (scratch .now), tt))))), (slice-vals library, (slice-vals user, (vint w64 used ∷ [], (vint w64 (length (row .now)) ∷ [], (slice-vals scratch, tt)))))), tt)
 
   -- the last values that it leaves: of the scratch
   abbrev L : Type 0
@@ -90,7 +90,7 @@ module _ {M : Type 1} (𝓤 : URA M) (H : Heap 𝓤) (A : Atoms 𝓤) (W : Given
   abbrev laid : Blocks (code.function .locals) → Locals
   laid bs = record {
     blocks = blocks (code.function .locals) bs;
-    before = a-slice (tyRef (named 0) imm (tyInt w8)) library ∷ a-slice (tyRef (named 1) imm (tyInt w8)) user ∷ (tyInt w64, vint w64 used) ∷ [];
+    before = a-slice (tyRef (named 0) imm (tyInt w8)) library ∷ a-slice (tyRef (named 0) imm (tyInt w8)) user ∷ (tyInt w64, vint w64 used) ∷ [];
     between = a-pointer (tyRef erased mut (tyInt w8)) scratch ∷ a-slice (tyRef erased mut (tyInt w8)) scratch ∷ [];
   }
 
@@ -102,7 +102,7 @@ module _ {M : Type 1} (𝓤 : URA M) (H : Heap 𝓤) (A : Atoms 𝓤) (W : Given
         -- [_15; ..; _14; ..; down to _0; ..; the tokens; what the parameters own]
         measures ! 22 18 (roomᵥ .0) refl refl refl refl $ reborrows ! 20 12 10 (roomₛ .0) refl refl refl refl refl refl refl refl $ move ! (32 ∷ 33 ∷ []) $
         operates 𝓤 H A W mem run the-row the-scratch (answered 𝓤 H A W) (laid bs) C Λ fm #drafts·judged-lines known-count known-settle (refl, refl, refl, refl, refl, refl, refl, refl, refl, refl) _
-        (‵ (flft (κs .0) (qs .0)) ∷ ‵ (flft (κs .1 .0) (qs .1 .0)) ∷ []) (‵ (ShrSlice (named 0) (κs .0) u8 .own library (slice-vals library)) ∷ ‵ (ShrSlice (named 1) (κs .1 .0) u8 .own user (slice-vals user)) ∷ ‵ (usize .own used (vint w64 used ∷ [])) ∷ [])
+        (‵ (flft (κs .0) (qs .0)) ∷ []) (‵ (ShrSlice (named 0) (κs .0) u8 .own library (slice-vals library)) ∷ ‵ (ShrSlice (named 0) (κs .0) u8 .own user (slice-vals user)) ∷ ‵ (usize .own used (vint w64 used ∷ [])) ∷ [])
         L (λ ws. ‵ ftrue ∷ ‵ ftrue ∷ ‵ ftrue ∷ []) (λ ws. ws .1 .1 .1 .1 .0) Said
         #drafts·judge (Draft 𝓤 H A mem run) known to (copy (place 1 []) ∷ copy (place 2 []) ∷ copy (place 3 []) ∷ copy (place 6 []) ∷ copy (place 10 []) ∷ []) (λ ν δ. id⊢ 𝓤 _) (λ ν δ w. id⊢ 𝓤 _)
         (λ ν δ. and-then ! (local-is ! 32 refl refl) (and-then ! (local-is ! 30 refl refl) (and-then ! (local-is ! 28 refl refl) (and-then ! (local-is ! 22 refl refl) (and-then ! (local-is ! 14 refl refl) (no-more !))))))
@@ -114,7 +114,7 @@ judge-meets : {M : Type 1} (𝓤 : URA M) (H : Heap 𝓤) (A : Atoms 𝓤) (W : 
     → Meets 𝓤 H A f.signature (WpFn 𝓤 H (𝓣 .C) (𝓣 .Λ) code.function) (f.spec 𝓤 H A mem run)
 judge-meets 𝓤 H A W mem run 𝓣 known known-count known-settle =
     meets 𝓤 H A f.ended (f.clauses 𝓤 H A mem run) (WpFn 𝓤 H (𝓣 .C) (𝓣 .Λ) code.function) (λ κs. (slice-vals, (slice-vals, (uint-vals w64, (slice-vals, (slice-vals, tt))))))
-    (λ κs. (shr-slice-tells (named 0) (κs .0) u8, (shr-slice-tells (named 1) (κs .1 .0) u8, (uint-tells w64, (mut-slice-tells (named 2) (κs .1 .1 .0) T.the-row, (mut-slice-tells (named 3) (κs .1 .1 .1 .0) u8, tt))))))
+    (λ κs. (shr-slice-tells (named 0) (κs .0) u8, (shr-slice-tells (named 0) (κs .0) u8, (uint-tells w64, (mut-slice-tells (named 1) (κs .1 .0) T.the-row, (mut-slice-tells (named 2) (κs .1 .1 .0) u8, tt))))))
     (λ κs qs bounds a g are. walk 𝓤 H A W mem run κs qs bounds (a .0) (a .1 .0) (a .1 .1 .0) (a .1 .1 .1 .0) (a .1 .1 .1 .1 .0)
     (are .0 .0 .1) (are .1 .0 .0 .1) (are .1 .1 .0 .1) (are .1 .1 .1 .0 .0 .1) (are .1 .1 .1 .1 .0 .0 .1) (𝓣 .C) (𝓣 .Λ) (fmOf 𝓤 H (W .laws) 𝓣) known known-count known-settle)
 

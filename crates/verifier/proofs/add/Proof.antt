@@ -7,9 +7,9 @@ use native.Mathlib.Omega.{arith}
 use lib.ListN.{length}
 use Rattle.view.specs.View.{spliced}
 use Rattle.view.proofs.Splice.{plain, length-spliced}
-use Rattle.admit.proofs.Turning.{admit-turned, admit-facts}
-use Rattle.queries.proofs.Asking.{present-refused, told, fits, indexed}
-use Rattle.verifier.proofs.Editing.{add-present, added-is, add-plain, add-turned, last-class, add-made, lines-room, marks-long}
+use Rattle.admit.proofs.Turning.{admit-turned, admit-facts, admitted-fits}
+use Rattle.queries.proofs.Asking.{present-refused, told, indexed}
+use Rattle.verifier.proofs.Editing.{add-present, added-is, add-plain, add-turned, last-class, add-made, lines-room, marks-long, add-sits}
 use borrow.Author.Needs.{needs}
 use Rattle.verifier.proofs.add.Statement.{statement}
 use Rattle.verifier.proofs.add.Tie as tie
@@ -54,7 +54,7 @@ admit-requires c κs =
     let f = c .before .before .before .enum-told .given .1 in
     let o = told (a .library .now) (a .user .now) (a .used .now) e f .0 in
     let q = added-is (a .library .now) (a .user .now) (a .used .now) (a .verdicts .now) (a .scratch .now) (a .group .now) o in
-    (fits (a .library .now) (a .user .now) (a .used .now) e f, (indexed (a .library .now) (a .user .now) (a .used .now) e f (plain (a .user .now) (a .used .now)) .library-size, ((e .1 o .long, refl), add-plain (a .library .now) (a .user .now) (a .used .now) (a .verdicts .now) (a .scratch .now) (a .group .now) o q)))
+    (add-sits (a .library .now) (a .user .now) (a .used .now) (a .verdicts .now) (a .scratch .now) (a .group .now) o, (indexed (a .library .now) (a .user .now) (a .used .now) e f (plain (a .user .now) (a .used .now)) .library-size, ((e .1 o .long, refl), add-plain (a .library .now) (a .user .now) (a .used .now) (a .verdicts .now) (a .scratch .now) (a .group .now) o q)))
 
 enum-known-admitted : tie.Need-enum-known-admitted
 enum-known-admitted c = search needs
@@ -99,7 +99,7 @@ rejudge-requires c κs =
     let o = told (a .library .now) (a .user .now) (a .used .now) e f .0 in
     let q = added-is (a .library .now) (a .user .now) (a .used .now) (a .verdicts .now) (a .scratch .now) (a .group .now) o in
     let w = admit-facts (a .library .now) (a .user .now) (a .group .now) (new (c .before .before .before .before .before .before .before .before .before .before .before .before .before .before .before .before .before .before .before .before .before .before .before .before .before .before .before .before .before)) (length (a .verdicts .now) / 2) (length (a .scratch .now)) (add-plain (a .library .now) (a .user .now) (a .used .now) (a .verdicts .now) (a .scratch .now) (a .group .now) o q) (c .before .before .before .before .before .before .before .before .before .before .before .admit .ensures) (c .before .before .before .before .before .before .before .admitted2 .given .1) in
-    (fits (a .library .now) (a .user .now) (a .used .now) e f, (w .indexed, (w .form, (w .right, (marks-long (c .before .before .before .before .before .before .before .admitted2 .given .0 .1 .0 - 1), lines-room _ (w .room), w .enough)))))
+    (admitted-fits (add-sits (a .library .now) (a .user .now) (a .used .now) (a .verdicts .now) (a .scratch .now) (a .group .now) o) w, (w .indexed, (w .form, (w .right, (marks-long (c .before .before .before .before .before .before .before .admitted2 .given .0 .1 .0 - 1), lines-room _ (w .room), w .enough)))))
 
 write-requires : tie.Need-write-requires
 write-requires c κs =
@@ -109,7 +109,7 @@ write-requires c κs =
     let o = told (a .library .now) (a .user .now) (a .used .now) e f .0 in
     let q = added-is (a .library .now) (a .user .now) (a .used .now) (a .verdicts .now) (a .scratch .now) (a .group .now) o in
     let w = admit-facts (a .library .now) (a .user .now) (a .group .now) (new (c .before .before .before .before .before .before .before .before .before .before .before .before .before .before .before .before .before .before .before .before .before .before .before .before .before .before .before .before .before .before .before .before .before .before .before .before)) (length (a .verdicts .now) / 2) (length (a .scratch .now)) (add-plain (a .library .now) (a .user .now) (a .used .now) (a .verdicts .now) (a .scratch .now) (a .group .now) o q) (c .before .before .before .before .before .before .before .before .before .before .before .before .before .before .before .before .before .before .admit .ensures) (c .before .before .before .before .before .before .before .before .before .before .before .before .before .before .admitted2 .given .1) in
-    (fits (a .library .now) (a .user .now) (a .used .now) e f, w .within)
+    (admitted-fits (add-sits (a .library .now) (a .user .now) (a .used .now) (a .verdicts .now) (a .scratch .now) (a .group .now) o) w, w .within)
 
 add-used : tie.Need-add-used
 add-used c =
@@ -119,7 +119,7 @@ add-used c =
     let o = told (a .library .now) (a .user .now) (a .used .now) e f .0 in
     let q = added-is (a .library .now) (a .user .now) (a .used .now) (a .verdicts .now) (a .scratch .now) (a .group .now) o in
     let w = admit-facts (a .library .now) (a .user .now) (a .group .now) (new (c .before .before .before .before .before .before .before .before .before .before .before .before .before .before .before .before .before .before .before .before .before .before .before .before .before .before .before .before .before .before .before .before .before .before .before .before .before .before .before)) (length (a .verdicts .now) / 2) (length (a .scratch .now)) (add-plain (a .library .now) (a .user .now) (a .used .now) (a .verdicts .now) (a .scratch .now) (a .group .now) o q) (c .before .before .before .before .before .before .before .before .before .before .before .before .before .before .before .before .before .before .before .before .before .admit .ensures) (c .before .before .before .before .before .before .before .before .before .before .before .before .before .before .before .before .before .admitted2 .given .1) in
-    omega (arith, w .within, length-spliced (a .user .now) (a .group .now) _ (fits (a .library .now) (a .user .now) (a .used .now) e f))
+    omega (arith, w .within, length-spliced (a .user .now) (a .group .now) _ (admitted-fits (add-sits (a .library .now) (a .user .now) (a .used .now) (a .verdicts .now) (a .scratch .now) (a .group .now) o) w))
 
 same-length-2 : tie.Need-same-length-2
 same-length-2 c = search needs
@@ -150,7 +150,7 @@ returns-3 c =
     let o = told (a .library .now) (a .user .now) (a .used .now) e f .0 in
     let q = added-is (a .library .now) (a .user .now) (a .used .now) (a .verdicts .now) (a .scratch .now) (a .group .now) o in
     let w = admit-facts (a .library .now) (a .user .now) (a .group .now) (new (c .before .before .before .before .before .before .before .before .before .before .before .before .before .before .before .before .before .before .before .before .before .before .before .before .before .before .before .before .before .before .before .before .before .before .before .before .before .before .before)) (length (a .verdicts .now) / 2) (length (a .scratch .now)) (add-plain (a .library .now) (a .user .now) (a .used .now) (a .verdicts .now) (a .scratch .now) (a .group .now) o q) (c .before .before .before .before .before .before .before .before .before .before .before .before .before .before .before .before .before .before .before .before .before .admit .ensures) (c .before .before .before .before .before .before .before .before .before .before .before .before .before .before .before .before .before .admitted2 .given .1) in
-    add-made (a .library .now) (a .user .now) (a .used .now) (a .verdicts .now) (a .scratch .now) (a .group .now) o q w refl (c .before .before .write .ensures) (omega (arith, length-spliced (a .user .now) (a .group .now) _ (fits (a .library .now) (a .user .now) (a .used .now) e f))) (c .before .before .before .before .before .before .before .before .before .rejudge .ensures .1 .0) (c .before .before .before .before .before .before .before .before .before .rejudge .ensures .1 .1)
+    add-made (a .library .now) (a .user .now) (a .used .now) (a .verdicts .now) (a .scratch .now) (a .group .now) o q w refl (c .before .before .write .ensures) (omega (arith, length-spliced (a .user .now) (a .group .now) _ (admitted-fits (add-sits (a .library .now) (a .user .now) (a .used .now) (a .verdicts .now) (a .scratch .now) (a .group .now) o) w))) (c .before .before .before .before .before .before .before .before .before .rejudge .ensures .1 .0) (c .before .before .before .before .before .before .before .before .before .rejudge .ensures .1 .1)
 
 pub add-spec : {M : Type 1} → statement M
 add-spec =

@@ -6,9 +6,9 @@ use native.Mathlib.Omega.{arith}
 use lib.ListN.{length}
 use Rattle.spec.specs.Promises.{bufferWith}
 use Rattle.view.specs.View.{spliced}
-use Rattle.admit.proofs.Turning.{admit-turned, admit-facts}
+use Rattle.admit.proofs.Turning.{admit-turned, admit-facts, admitted-fits}
 use Rattle.verifier.proofs.Editing.{lines-room}
-use Rattle.verifier.proofs.Replacing.{replaced-fits, replaced-is, replace-plain, replace-turned, same-classes, replace-made}
+use Rattle.verifier.proofs.Replacing.{replaced-sits, replaced-is, replace-plain, replace-turned, same-classes, replace-made}
 use borrow.Author.Needs.{needs}
 use Rattle.verifier.proofs.replace_at.Statement.{statement}
 use Rattle.verifier.proofs.replace_at.Tie as tie
@@ -20,9 +20,9 @@ admit-requires : tie.Need-admit-requires
 admit-requires c κs =
     let a = c .before .before .before .before .before .before .before .before .before .args in
     let p = c .before .before .before .before .before .before .before .before .before .pre in
-    let fit = replaced-fits (a .library .now) (a .user .now) (a .used .now) (a .class) (a .verdicts .now) (a .scratch .now) (a .group .now) (p .0) (p .1 .0) (p .1 .1 .0) (p .1 .1 .1) (a .cut) (p .1 .1 .2) (p .1 .1 .3) (p .1 .1 .4) in
+    let sits = replaced-sits (a .library .now) (a .user .now) (a .used .now) (a .class) (a .verdicts .now) (a .scratch .now) (a .group .now) (p .0) (p .1 .0) (p .1 .1 .0) (p .1 .1 .1) (a .cut) (p .1 .1 .2) (p .1 .1 .3) (p .1 .1 .4) in
     let q = replaced-is (a .library .now) (a .user .now) (a .used .now) (a .class) (a .verdicts .now) (a .scratch .now) (a .group .now) (p .0) (p .1 .0) (p .1 .1 .0) (p .1 .1 .1) (a .cut) (p .1 .1 .2) (p .1 .1 .3) (p .1 .1 .4) in
-    (fit, (p .1 .0 .library-size, ((p .1 .0 .long, refl), replace-plain (a .library .now) (a .user .now) (a .used .now) (a .class) (a .verdicts .now) (a .scratch .now) (a .group .now) (p .0) (p .1 .0) (p .1 .1 .0) (p .1 .1 .1) q)))
+    (sits, (p .1 .0 .library-size, ((p .1 .0 .long, refl), replace-plain (a .library .now) (a .user .now) (a .used .now) (a .class) (a .verdicts .now) (a .scratch .now) (a .group .now) (p .0) (p .1 .0) (p .1 .1 .0) (p .1 .1 .1) q)))
 
 enum-known-admitted : tie.Need-enum-known-admitted
 enum-known-admitted c = search needs
@@ -37,18 +37,19 @@ dependents-requires : tie.Need-dependents-requires
 dependents-requires c κs =
     let a = c .before .before .before .before .before .before .before .before .before .before .before .before .before .before .before .before .before .before .before .args in
     let p = c .before .before .before .before .before .before .before .before .before .before .before .before .before .before .before .before .before .before .before .pre in
-    let fit = replaced-fits (a .library .now) (a .user .now) (a .used .now) (a .class) (a .verdicts .now) (a .scratch .now) (a .group .now) (p .0) (p .1 .0) (p .1 .1 .0) (p .1 .1 .1) (a .cut) (p .1 .1 .2) (p .1 .1 .3) (p .1 .1 .4) in
+    let sits = replaced-sits (a .library .now) (a .user .now) (a .used .now) (a .class) (a .verdicts .now) (a .scratch .now) (a .group .now) (p .0) (p .1 .0) (p .1 .1 .0) (p .1 .1 .1) (a .cut) (p .1 .1 .2) (p .1 .1 .3) (p .1 .1 .4) in
     let q = replaced-is (a .library .now) (a .user .now) (a .used .now) (a .class) (a .verdicts .now) (a .scratch .now) (a .group .now) (p .0) (p .1 .0) (p .1 .1 .0) (p .1 .1 .1) (a .cut) (p .1 .1 .2) (p .1 .1 .3) (p .1 .1 .4) in
     let w = admit-facts (a .library .now) (a .user .now) (a .group .now) (spliced (a .user .now) (a .group .now) (a .cut)) (length (a .verdicts .now) / 2) (length (a .scratch .now)) (replace-plain (a .library .now) (a .user .now) (a .used .now) (a .class) (a .verdicts .now) (a .scratch .now) (a .group .now) (p .0) (p .1 .0) (p .1 .1 .0) (p .1 .1 .1) q) (c .before .before .before .before .before .before .before .before .before .admit .ensures) (c .before .before .before .before .admitted2 .given .1) in
-    (fit, (w .indexed, (w .form, (omega (arith, same-classes (a .library .now) (a .user .now) (a .used .now) (a .class) (a .verdicts .now) (a .scratch .now) (a .group .now) (p .0) (p .1 .0) (p .1 .1 .0) (p .1 .1 .1) q w, p .1 .1 .1), omega arith))))
+    (admitted-fits sits w, (w .indexed, (w .form, (omega (arith, same-classes (a .library .now) (a .user .now) (a .used .now) (a .class) (a .verdicts .now) (a .scratch .now) (a .group .now) (p .0) (p .1 .0) (p .1 .1 .0) (p .1 .1 .1) q w, p .1 .1 .1), omega arith))))
 
 view-len-requires : tie.Need-view-len-requires
 view-len-requires c κs =
     let a = c .before .before .before .before .before .before .before .before .before .before .before .before .before .before .before .before .before .before .before .before .before .before .args in
     let p = c .before .before .before .before .before .before .before .before .before .before .before .before .before .before .before .before .before .before .before .before .before .before .pre in
-    let fit = replaced-fits (a .library .now) (a .user .now) (a .used .now) (a .class) (a .verdicts .now) (a .scratch .now) (a .group .now) (p .0) (p .1 .0) (p .1 .1 .0) (p .1 .1 .1) (a .cut) (p .1 .1 .2) (p .1 .1 .3) (p .1 .1 .4) in
+    let sits = replaced-sits (a .library .now) (a .user .now) (a .used .now) (a .class) (a .verdicts .now) (a .scratch .now) (a .group .now) (p .0) (p .1 .0) (p .1 .1 .0) (p .1 .1 .1) (a .cut) (p .1 .1 .2) (p .1 .1 .3) (p .1 .1 .4) in
     let q = replaced-is (a .library .now) (a .user .now) (a .used .now) (a .class) (a .verdicts .now) (a .scratch .now) (a .group .now) (p .0) (p .1 .0) (p .1 .1 .0) (p .1 .1 .1) (a .cut) (p .1 .1 .2) (p .1 .1 .3) (p .1 .1 .4) in
-    fit
+    let w = admit-facts (a .library .now) (a .user .now) (a .group .now) (spliced (a .user .now) (a .group .now) (a .cut)) (length (a .verdicts .now) / 2) (length (a .scratch .now)) (replace-plain (a .library .now) (a .user .now) (a .used .now) (a .class) (a .verdicts .now) (a .scratch .now) (a .group .now) (p .0) (p .1 .0) (p .1 .1 .0) (p .1 .1 .1) q) (c .before .before .before .before .before .before .before .before .before .before .before .before .admit .ensures) (c .before .before .before .before .before .before .before .admitted2 .given .1) in
+    admitted-fits sits w
 
 slice-aggregate-rejudge : tie.Need-slice-aggregate-rejudge
 slice-aggregate-rejudge c = search needs
@@ -60,19 +61,19 @@ rejudge-requires : tie.Need-rejudge-requires
 rejudge-requires c κs =
     let a = c .before .before .before .before .before .before .before .before .before .before .before .before .before .before .before .before .before .before .before .before .before .before .before .before .before .before .before .before .before .args in
     let p = c .before .before .before .before .before .before .before .before .before .before .before .before .before .before .before .before .before .before .before .before .before .before .before .before .before .before .before .before .before .pre in
-    let fit = replaced-fits (a .library .now) (a .user .now) (a .used .now) (a .class) (a .verdicts .now) (a .scratch .now) (a .group .now) (p .0) (p .1 .0) (p .1 .1 .0) (p .1 .1 .1) (a .cut) (p .1 .1 .2) (p .1 .1 .3) (p .1 .1 .4) in
+    let sits = replaced-sits (a .library .now) (a .user .now) (a .used .now) (a .class) (a .verdicts .now) (a .scratch .now) (a .group .now) (p .0) (p .1 .0) (p .1 .1 .0) (p .1 .1 .1) (a .cut) (p .1 .1 .2) (p .1 .1 .3) (p .1 .1 .4) in
     let q = replaced-is (a .library .now) (a .user .now) (a .used .now) (a .class) (a .verdicts .now) (a .scratch .now) (a .group .now) (p .0) (p .1 .0) (p .1 .1 .0) (p .1 .1 .1) (a .cut) (p .1 .1 .2) (p .1 .1 .3) (p .1 .1 .4) in
     let w = admit-facts (a .library .now) (a .user .now) (a .group .now) (spliced (a .user .now) (a .group .now) (a .cut)) (length (a .verdicts .now) / 2) (length (a .scratch .now)) (replace-plain (a .library .now) (a .user .now) (a .used .now) (a .class) (a .verdicts .now) (a .scratch .now) (a .group .now) (p .0) (p .1 .0) (p .1 .1 .0) (p .1 .1 .1) q) (c .before .before .before .before .before .before .before .before .before .before .before .before .before .before .before .before .before .before .before .admit .ensures) (c .before .before .before .before .before .before .before .before .before .before .before .before .before .before .admitted2 .given .1) in
-    (fit, (w .indexed, (w .form, (w .right, (omega (arith, c .before .before .before .before .before .before .before .before .before .dependents .kept .1 .1 .1 .1 .1 .1 .1 .1 .0), lines-room _ (w .room), w .enough)))))
+    (admitted-fits sits w, (w .indexed, (w .form, (w .right, (omega (arith, c .before .before .before .before .before .before .before .before .before .dependents .kept .1 .1 .1 .1 .1 .1 .1 .1 .0), lines-room _ (w .room), w .enough)))))
 
 write-requires : tie.Need-write-requires
 write-requires c κs =
     let a = c .before .before .before .before .before .before .before .before .before .before .before .before .before .before .before .before .before .before .before .before .before .before .before .before .before .before .before .before .before .before .before .before .before .before .before .before .args in
     let p = c .before .before .before .before .before .before .before .before .before .before .before .before .before .before .before .before .before .before .before .before .before .before .before .before .before .before .before .before .before .before .before .before .before .before .before .before .pre in
-    let fit = replaced-fits (a .library .now) (a .user .now) (a .used .now) (a .class) (a .verdicts .now) (a .scratch .now) (a .group .now) (p .0) (p .1 .0) (p .1 .1 .0) (p .1 .1 .1) (a .cut) (p .1 .1 .2) (p .1 .1 .3) (p .1 .1 .4) in
+    let sits = replaced-sits (a .library .now) (a .user .now) (a .used .now) (a .class) (a .verdicts .now) (a .scratch .now) (a .group .now) (p .0) (p .1 .0) (p .1 .1 .0) (p .1 .1 .1) (a .cut) (p .1 .1 .2) (p .1 .1 .3) (p .1 .1 .4) in
     let q = replaced-is (a .library .now) (a .user .now) (a .used .now) (a .class) (a .verdicts .now) (a .scratch .now) (a .group .now) (p .0) (p .1 .0) (p .1 .1 .0) (p .1 .1 .1) (a .cut) (p .1 .1 .2) (p .1 .1 .3) (p .1 .1 .4) in
     let w = admit-facts (a .library .now) (a .user .now) (a .group .now) (spliced (a .user .now) (a .group .now) (a .cut)) (length (a .verdicts .now) / 2) (length (a .scratch .now)) (replace-plain (a .library .now) (a .user .now) (a .used .now) (a .class) (a .verdicts .now) (a .scratch .now) (a .group .now) (p .0) (p .1 .0) (p .1 .1 .0) (p .1 .1 .1) q) (c .before .before .before .before .before .before .before .before .before .before .before .before .before .before .before .before .before .before .before .before .before .before .before .before .before .before .admit .ensures) (c .before .before .before .before .before .before .before .before .before .before .before .before .before .before .before .before .before .before .before .before .before .admitted2 .given .1) in
-    (fit, w .within)
+    (admitted-fits sits w, w .within)
 
 slice-aggregate-marked : tie.Need-slice-aggregate-marked
 slice-aggregate-marked c = search needs
@@ -81,7 +82,7 @@ marked-requires : tie.Need-marked-requires
 marked-requires c κs =
     let a = c .before .before .before .before .before .before .before .before .before .before .before .before .before .before .before .before .before .before .before .before .before .before .before .before .before .before .before .before .before .before .before .before .before .before .before .before .before .before .before .before .args in
     let p = c .before .before .before .before .before .before .before .before .before .before .before .before .before .before .before .before .before .before .before .before .before .before .before .before .before .before .before .before .before .before .before .before .before .before .before .before .before .before .before .before .pre in
-    let fit = replaced-fits (a .library .now) (a .user .now) (a .used .now) (a .class) (a .verdicts .now) (a .scratch .now) (a .group .now) (p .0) (p .1 .0) (p .1 .1 .0) (p .1 .1 .1) (a .cut) (p .1 .1 .2) (p .1 .1 .3) (p .1 .1 .4) in
+    let sits = replaced-sits (a .library .now) (a .user .now) (a .used .now) (a .class) (a .verdicts .now) (a .scratch .now) (a .group .now) (p .0) (p .1 .0) (p .1 .1 .0) (p .1 .1 .1) (a .cut) (p .1 .1 .2) (p .1 .1 .3) (p .1 .1 .4) in
     let q = replaced-is (a .library .now) (a .user .now) (a .used .now) (a .class) (a .verdicts .now) (a .scratch .now) (a .group .now) (p .0) (p .1 .0) (p .1 .1 .0) (p .1 .1 .1) (a .cut) (p .1 .1 .2) (p .1 .1 .3) (p .1 .1 .4) in
     let w = admit-facts (a .library .now) (a .user .now) (a .group .now) (spliced (a .user .now) (a .group .now) (a .cut)) (length (a .verdicts .now) / 2) (length (a .scratch .now)) (replace-plain (a .library .now) (a .user .now) (a .used .now) (a .class) (a .verdicts .now) (a .scratch .now) (a .group .now) (p .0) (p .1 .0) (p .1 .1 .0) (p .1 .1 .1) q) (c .before .before .before .before .before .before .before .before .before .before .before .before .before .before .before .before .before .before .before .before .before .before .before .before .before .before .before .before .before .before .admit .ensures) (c .before .before .before .before .before .before .before .before .before .before .before .before .before .before .before .before .before .before .before .before .before .before .before .before .before .admitted2 .given .1) in
     omega (arith, w .indexed .few, c .before .before .before .before .before .before .before .before .before .before .before .before .before .before .before .before .before .before .before .before .dependents .kept .1 .1 .1 .1 .1 .1 .1 .1 .0)
@@ -96,7 +97,7 @@ returns : tie.Need-returns
 returns c =
     let a = c .before .before .before .before .before .before .before .before .before .before .before .before .before .before .before .before .args in
     let p = c .before .before .before .before .before .before .before .before .before .before .before .before .before .before .before .before .pre in
-    let fit = replaced-fits (a .library .now) (a .user .now) (a .used .now) (a .class) (a .verdicts .now) (a .scratch .now) (a .group .now) (p .0) (p .1 .0) (p .1 .1 .0) (p .1 .1 .1) (a .cut) (p .1 .1 .2) (p .1 .1 .3) (p .1 .1 .4) in
+    let sits = replaced-sits (a .library .now) (a .user .now) (a .used .now) (a .class) (a .verdicts .now) (a .scratch .now) (a .group .now) (p .0) (p .1 .0) (p .1 .1 .0) (p .1 .1 .1) (a .cut) (p .1 .1 .2) (p .1 .1 .3) (p .1 .1 .4) in
     let q = replaced-is (a .library .now) (a .user .now) (a .used .now) (a .class) (a .verdicts .now) (a .scratch .now) (a .group .now) (p .0) (p .1 .0) (p .1 .1 .0) (p .1 .1 .1) (a .cut) (p .1 .1 .2) (p .1 .1 .3) (p .1 .1 .4) in
     replace-turned (a .library .now) (a .user .now) (a .used .now) (a .class) (a .verdicts .now) (a .scratch .now) (a .group .now) (p .0) (p .1 .0) (p .1 .1 .0) (p .1 .1 .1) q (admit-turned (a .library .now) (a .user .now) (a .group .now) (spliced (a .user .now) (a .group .now) (a .cut)) (length (a .verdicts .now) / 2) (length (a .scratch .now)) (replace-plain (a .library .now) (a .user .now) (a .used .now) (a .class) (a .verdicts .now) (a .scratch .now) (a .group .now) (p .0) (p .1 .0) (p .1 .1 .0) (p .1 .1 .1) q) (c .before .before .before .before .before .before .admit .ensures) (c .before .admitted .given .1))
 
@@ -116,7 +117,7 @@ returns-2 : tie.Need-returns-2
 returns-2 c =
     let a = c .before .before .before .before .before .before .before .before .before .before .before .before .before .before .before .before .before .before .before .before .before .before .before .before .before .before .before .before .before .before .before .before .before .before .before .before .before .before .before .before .before .args in
     let p = c .before .before .before .before .before .before .before .before .before .before .before .before .before .before .before .before .before .before .before .before .before .before .before .before .before .before .before .before .before .before .before .before .before .before .before .before .before .before .before .before .before .pre in
-    let fit = replaced-fits (a .library .now) (a .user .now) (a .used .now) (a .class) (a .verdicts .now) (a .scratch .now) (a .group .now) (p .0) (p .1 .0) (p .1 .1 .0) (p .1 .1 .1) (a .cut) (p .1 .1 .2) (p .1 .1 .3) (p .1 .1 .4) in
+    let sits = replaced-sits (a .library .now) (a .user .now) (a .used .now) (a .class) (a .verdicts .now) (a .scratch .now) (a .group .now) (p .0) (p .1 .0) (p .1 .1 .0) (p .1 .1 .1) (a .cut) (p .1 .1 .2) (p .1 .1 .3) (p .1 .1 .4) in
     let q = replaced-is (a .library .now) (a .user .now) (a .used .now) (a .class) (a .verdicts .now) (a .scratch .now) (a .group .now) (p .0) (p .1 .0) (p .1 .1 .0) (p .1 .1 .1) (a .cut) (p .1 .1 .2) (p .1 .1 .3) (p .1 .1 .4) in
     let w = admit-facts (a .library .now) (a .user .now) (a .group .now) (spliced (a .user .now) (a .group .now) (a .cut)) (length (a .verdicts .now) / 2) (length (a .scratch .now)) (replace-plain (a .library .now) (a .user .now) (a .used .now) (a .class) (a .verdicts .now) (a .scratch .now) (a .group .now) (p .0) (p .1 .0) (p .1 .1 .0) (p .1 .1 .1) q) (c .before .before .before .before .before .before .before .before .before .before .before .before .before .before .before .before .before .before .before .before .before .before .before .before .before .before .before .before .before .before .before .admit .ensures) (c .before .before .before .before .before .before .before .before .before .before .before .before .before .before .before .before .before .before .before .before .before .before .before .before .before .before .admitted2 .given .1) in
     replace-made (a .library .now) (a .user .now) (a .used .now) (a .class) (a .verdicts .now) (a .scratch .now) (a .group .now) (p .0) (p .1 .0) (p .1 .1 .0) (p .1 .1 .1) q w (c .marked .ensures) (c .before .before .before .before .write .ensures ∙ ap (λ (k : ℕ). bufferWith (spliced (a .user .now) (a .group .now) (a .cut)) (a .user .now) k) (p .1 .1 .4)) (c .before .before .before .before .before .before .before .before .before .before .before .before .before .before .before .before .before .before .view-len .ensures) (c .before .before .before .before .before .before .before .before .before .before .before .rejudge .ensures .1 .0) (c .before .before .before .before .before .before .before .before .before .before .before .rejudge .ensures .1 .1) _ (c .before .before .before .before .before .before .before .before .before .before .before .before .before .before .before .before .before .before .before .before .before .dependents .ensures)

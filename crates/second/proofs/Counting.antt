@@ -1,0 +1,66 @@
+-- The row of counts: what a class has, and the row filled class by class.
+-- Assumes nothing.
+use mathlib.Core.Path.{_≡_, refl, ap, _∙_}
+use mathlib.Core.Bool.{Bool, true, false}
+use mathlib.Core.List.{List, [], _∷_}
+use Prim.Native.Nat.{ℕ, _+_, _≤_, _<_}
+use native.Mathlib.Omega.{arith}
+use lib.ListN.{length, getD, set, length-set}
+use lib.Seq.{getD-set-same, getD-set-other}
+use borrow.Author.Count.{below-none, below-more}
+use borrow.Author.Tests.{lt-ltb, le-ltb}
+use Rattle.spec.specs.Lists.{keep}
+use Rattle.spec.specs.Record.{isKind, LOCAL, MEMBER}
+use Rattle.spec.specs.Sheet.{Group, group, ofKind}
+use Rattle.theory.proofs.All.{keep-yes, keep-no}
+use Rattle.groups.specs.Groups.{between, Carries, Indexed}
+use Rattle.groups.proofs.Few.{group-few}
+use Rattle.second.specs.Second.{Counts, countOf}
+
+-- ---- one class
+
+module _ (nlib : ℕ) (g : ℕ → Group) {c : ℕ} where
+  pub count-library : c < nlib → countOf nlib g c ≡ length (ofKind MEMBER (g c))
+  unfolding countOf
+  count-library h = rw (lt-ltb c nlib h, countOf)
+
+  pub count-user : nlib ≤ c → countOf nlib g c ≡ length (ofKind LOCAL (g c))
+  unfolding countOf
+  count-user h = rw (le-ltb c nlib h, countOf)
+
+pub counted-in : {bytes : List ℕ} {h : Group} → Carries bytes h → (k : ℕ) {m : ℕ} → m ≡ length (ofKind k (between bytes 0 (length bytes))) → m ≡ length (ofKind k h)
+counted-in w k e = e ∙ ap (λ (rs : Group). length (ofKind k rs)) (w .records)
+
+-- no more than its records, which are few
+kept-few : (k : ℕ) (h : Group) → length (ofKind k h) ≤ length h
+unfolding ofKind keep
+kept-few k [] = omega arith
+kept-few k (r ∷ rs) = go (isKind k r) refl (kept-few k rs)
+  where
+    go : (b : Bool) → isKind k r ≡ b → length (ofKind k rs) ≤ length rs → length (ofKind k (r ∷ rs)) ≤ length (r ∷ rs)
+    go true e h = omega (arith, ap length (keep-yes (isKind k) r rs e))
+    go false e h = omega (arith, ap length (keep-no (isKind k) r rs e))
+
+pub count-low : {library user : List ℕ} {nlib n : ℕ} {row : List ℕ} → Indexed library user nlib n row → (c : ℕ) {bytes : List ℕ} → Carries bytes (group library user c)
+    → (k : ℕ) {m : ℕ} → m ≡ length (ofKind k (between bytes 0 (length bytes))) → m < 256
+count-low {library} {user} x c w k e = omega (arith, counted-in w k e, kept-few k (group library user c), group-few x c)
+
+-- ---- the row
+
+-- the entries below c are there
+pub record Filling (g : ℕ → Group) (nlib size : ℕ) (row : List ℕ) (c : ℕ) : Type 0 where
+  pub long : length row ≡ size
+  pub counts : (d : ℕ) → d < c → getD row d 0 ≡ countOf nlib g d
+
+pub fill-start : {g : ℕ → Group} {nlib size : ℕ} {row : List ℕ} → length row ≡ size → Filling g nlib size row 0
+fill-start l = record { long = l; counts = below-none _ }
+
+module _ {g : ℕ → Group} {nlib size : ℕ} {row : List ℕ} {c : ℕ} (f : Filling g nlib size row c) where
+  pub fill-next : c < size → {m : ℕ} → m ≡ countOf nlib g c → Filling g nlib size (set row c m) (c + 1)
+  fill-next h {m} e = record {
+    long = length-set row c m ∙ f .long;
+    counts = below-more _ c (λ d l. getD-set-other row c d m 0 (λ q. omega arith) ∙ f .counts d l) (getD-set-same row c m 0 (omega (arith, f .long)) ∙ e);
+  }
+
+  pub fill-end : {n : ℕ} → n ≤ c → n ≤ size → Counts g nlib n row
+  fill-end h l = record { long = omega (arith, f .long); counts = λ d k. f .counts d (omega arith) }

@@ -1,0 +1,57 @@
+-- `second::counts`: in the loop the entries below c are there.
+-- Assumes nothing.
+use borrow.Author.Needs.{needs}
+use mathlib.Core.Path.{refl}
+use Prim.Native.Nat.{_-_}
+use lib.ListN.{length}
+use Rattle.spec.specs.Sheet.{group as groupOf}
+use Rattle.view.specs.View.{spliced}
+use Rattle.second.proofs.Counting.{Filling, fill-start, fill-next, fill-end}
+use native.Mathlib.Omega.{arith}
+use Rattle.second.proofs.counts.Statement.{statement}
+use Rattle.second.proofs.counts.Tie as tie
+
+abbrev Inv-loop : tie.InvT-loop
+Inv-loop library user group cut starts nlib n row₀ c₀ row c = Filling (groupOf library (spliced user group cut)) nlib (length row₀) row c
+
+abbrev μ-loop : tie.MeasureT-loop
+μ-loop library user group cut starts nlib n row₀ c₀ row c = n - c
+
+loop-holds : tie.Need-loop-holds Inv-loop μ-loop
+loop-holds c = fill-start refl
+
+own-count-requires : tie.Need-own-count-requires Inv-loop μ-loop
+own-count-requires c κs = search needs
+
+slice-write-row : tie.Need-slice-write-row Inv-loop μ-loop
+slice-write-row c = omega arith
+
+add-c : tie.Need-add-c Inv-loop μ-loop
+add-c c = omega arith
+
+loop-less : tie.Need-loop-less Inv-loop μ-loop
+loop-less c = omega arith
+
+loop-again : tie.Need-loop-again Inv-loop μ-loop
+loop-again c = fill-next (c .before .before .loop .inv) (omega arith) (c .own-count .ensures)
+
+same-length : tie.Need-same-length Inv-loop μ-loop
+same-length c = c .before .loop .inv .long
+
+returns : tie.Need-returns Inv-loop μ-loop
+returns c = fill-end (c .before .loop .inv) (c .loop-test .left) (c .before .before .before .before .before .before .before .pre .1 .1)
+
+pub counts-spec : {M : Type 1} → statement M
+counts-spec =
+    tie.close
+    (tie.spec
+    Inv-loop
+    μ-loop
+    loop-holds
+    own-count-requires
+    slice-write-row
+    add-c
+    loop-less
+    loop-again
+    same-length
+    returns)

@@ -1,0 +1,12 @@
+pub mod Nothing
+pub mod Above
+pub mod First
+pub mod Walking
+pub mod Sets
+pub mod Fields
+pub mod Own
+pub mod Telling
+pub mod Looking
+pub mod Base
+pub mod Steps
+pub mod Refusals
