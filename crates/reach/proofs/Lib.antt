@@ -1,3 +1,4 @@
 pub mod Depending
 pub mod Scanning
+pub mod Wanting
 pub mod Library

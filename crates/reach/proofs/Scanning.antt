@@ -55,11 +55,11 @@ settled-zero step outer n {m = m} s e l z k t hk w ht b f =
 
 -- ---- the records of a group
 
-named-cons : (builds : Bool) (r : List ℕ) (rs : Group) → namedIn builds (r ∷ rs) ≡ firstNamed builds r ∷ secondNamed builds r ∷ namedIn builds rs
+pub named-cons : (builds : Bool) (r : List ℕ) (rs : Group) → namedIn builds (r ∷ rs) ≡ firstNamed builds r ∷ secondNamed builds r ∷ namedIn builds rs
 unfolding namedIn gather
 named-cons builds r rs = refl
 
-named-nil : (builds : Bool) → namedIn builds [] ≡ []
+pub named-nil : (builds : Bool) → namedIn builds [] ≡ []
 unfolding namedIn gather
 named-nil builds = refl
 

@@ -2,7 +2,7 @@
 -- Assumes nothing.
 use mathlib.Core.Path.{_≡_}
 use mathlib.Core.Bool.{Bool, true, false}
-use mathlib.Core.List.{List, [], _∷_, _++_, map}
+use mathlib.Core.List.{List, [], _∷_, _++_, map, List·Memᴰ}
 use Prim.Native.Nat.{ℕ, _≤_, _<_}
 use lib.ListN.{length, getD, drop}
 use Rattle.spec.specs.Lists.{gather, span}
@@ -11,7 +11,7 @@ use Rattle.spec.specs.Sheet.{Group, classRecord}
 use Rattle.spec.specs.Verdicts.{dependsOn}
 use Rattle.groups.specs.Groups.{between}
 use Rattle.named.specs.Named.{firstNamed, secondNamed}
-use Rattle.lanes.specs.Lanes.{Run, SettledAt, Enclosers}
+use Rattle.lanes.specs.Lanes.{entryAt, Run, SettledAt, Enclosers}
 
 -- the classes that a group names, 65535 where a record names fewer than two: along BUILDS or along every record
 unfoldable pub namedIn : Bool → Group → List ℕ
@@ -28,6 +28,10 @@ outerOf g m = encloser (classRecord (g m))
 pub record Scanned (bytes marks : List ℕ) (builds : Bool) (n lanes m : ℕ) (s₀ s : List ℕ) (r : ℕ) : Type 0 where
   pub run : (step : ℕ → List ℕ) (outer : ℕ → ℕ) → step m ≡ namedIn builds (between bytes 0 (length bytes)) → Enclosers outer m marks
       → Run step outer n lanes (SettledAt step outer n lanes m) s₀ s r
+
+-- told false: none of these classes has in any lane a lower owner than m
+pub record Content (row : List ℕ) (n lanes m : ℕ) (ts : List ℕ) (told : Bool) : Type 0 where
+  pub is : told ≡ false → (t : ℕ) → List·Memᴰ t ts → t < n → (k : ℕ) → k < lanes → entryAt row k m ≤ entryAt row k t
 
 -- the first k entries of a row are none, the others are kept
 pub record Emptied (k : ℕ) (before after : List ℕ) : Type 0 where

@@ -12,14 +12,15 @@ use view::Cut;
 use view::word_in;
 ghost use mathlib.Core.Path.{_≡_};
 ghost use mathlib.Core.Option.{none};
+ghost use mathlib.Core.List.{[], _∷_};
 ghost use Prim.Native.Nat.{ℕ, _*_, _≤_, _<_};
 ghost use lib.ListN.{length, getD};
 ghost use Rattle.spec.specs.Sheet.{group as groupOf};
 ghost use Rattle.spec.specs.Refusals.{formRefusal};
 ghost use Rattle.view.specs.View.{Fits, spliced};
-ghost use Rattle.groups.specs.Groups.{AtRecord, Indexed};
+ghost use Rattle.groups.specs.Groups.{between, AtRecord, Indexed};
 ghost use Rattle.lanes.specs.Lanes.{Enclosers, Run, SettledAt, AllSettled, SeedsFit, Least};
-ghost use Rattle.reach.specs.Reach.{stepsOf, outerOf, Scanned, dependentRow};
+ghost use Rattle.reach.specs.Reach.{namedIn, stepsOf, outerOf, Scanned, Content, dependentRow};
 
 fn wide(x: u16) -> usize
     ensures { λ r. ⌜ (r ≡ x) × (r < 65536) ⌝ }
@@ -86,8 +87,45 @@ fn scan(
     added
 }
 
-// Class m draws along all that its records name, unless there is nothing to draw: in a single lane nothing is lower than 0, and along BUILDS
-// a class that builds nothing has no step. No library class builds.
+// Whether class t has in some lane a lower owner than m. A class that is not there has none.
+fn lower(row: &[u8], n: usize, lanes: usize, m: usize, t: usize) -> bool
+    requires { ⌜ (n ≤ 256) × (lanes ≤ 256) × (lanes * 256 ≤ length (now row)) × (m < n) ⌝ }
+    ensures { λ r. ⌜ Content (now (row .entry)) n lanes m (t ∷ []) r ⌝ }
+{
+    if n <= t {
+        return false;
+    }
+    let mut k = 0;
+    while k < lanes {
+        if row[k * 256 + t] < row[k * 256 + m] {
+            return true;
+        }
+        k += 1;
+    }
+    false
+}
+
+// Whether class m, whose bytes these are, names a class that has in some lane a lower owner.
+fn wants(bytes: &[u8], n: usize, builds: bool, lanes: usize, m: usize, row: &[u8]) -> bool
+    requires { ⌜ AtRecord (now bytes) (length (now bytes)) 0 ⌝ }
+    requires { ⌜ (n ≤ 256) × (lanes ≤ 256) × (lanes * 256 ≤ length (now row)) × (m < n) ⌝ }
+    ensures { λ r. ⌜ Content (now (row .entry)) n lanes m (namedIn builds (between (now (bytes .entry)) 0 (length (now (bytes .entry))))) r ⌝ }
+{
+    let mut at = 0;
+    while at < bytes.len() {
+        if lower(row, n, lanes, m, first_named(bytes, at, builds)) {
+            return true;
+        }
+        if lower(row, n, lanes, m, second_named(bytes, at, builds)) {
+            return true;
+        }
+        at += wide(word_in(bytes, at));
+    }
+    false
+}
+
+// Class m draws along all that its records name, unless there is nothing to draw: in a single lane nothing is lower than 0; along BUILDS
+// a class that builds nothing has no step, and no library class builds; or nothing named has a lower owner. Only then its enclosers are looked up.
 fn visit<'a>(
     library: &'a [u8],
     user: &'a [u8],
@@ -121,6 +159,9 @@ fn visit<'a>(
         if nth_in(bytes, 6, 0) == bytes.len() {
             return 0;
         }
+    }
+    if !wants(bytes, n, builds, lanes, m, row) {
+        return 0;
     }
     let mut marks = [0u8; 256];
     enclosers(library, user, group, cut, starts, nlib, n, m, &mut marks);

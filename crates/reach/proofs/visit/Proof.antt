@@ -1,10 +1,11 @@
--- `reach::visit`: each way out is a law: the class has 0 already, it builds nothing, or it has drawn.
+-- `reach::visit`: each way out is a law: the class has 0 already, it builds nothing, it wants nothing, or it has drawn.
 -- Assumes nothing.
 use native.Mathlib.Omega.{arith}
 use Rattle.spec.specs.Record.{BUILDS}
 use Rattle.lanes.proofs.Rows.{zeros}
 use Rattle.reach.proofs.Library.{library-builds-none}
 use Rattle.reach.proofs.Scanning.{none-there, scanned, visit-marked, visit-none}
+use Rattle.reach.proofs.Wanting.{visit-content}
 use borrow.Author.Needs.{needs}
 use Rattle.reach.proofs.visit.Statement.{statement}
 use Rattle.reach.proofs.visit.Tie as tie
@@ -27,23 +28,32 @@ nth-in-requires c κs = search needs
 returns-3 : tie.Need-returns-3
 returns-3 c = rw (c .before .before .if5 .taken) (visit-none _ _ (omega (arith, c .before .before .before .before .before .before .before .before .before .before .before .pre .1 .0 .few)) (none-there (c .before .before .before .class-bytes .ensures) BUILDS (c .before .nth-in .ensures) (c .if6 .taken)) _)
 
-slice-aggregate-enclosers : tie.Need-slice-aggregate-enclosers
-slice-aggregate-enclosers c = search needs
-
-enclosers-requires : tie.Need-enclosers-requires
-enclosers-requires c κs = let p = c .before .before .before .before .before .before .before .before .before .before .pre in (p .0, (p .1 .0, (p .1 .1 .0, omega (arith, p .1 .1 .0, p .1 .0 .few), zeros 256)))
-
-slice-aggregate-scan : tie.Need-slice-aggregate-scan
-slice-aggregate-scan c = search needs
-
-scan-requires : tie.Need-scan-requires
-scan-requires c κs = search needs
+wants-requires : tie.Need-wants-requires
+wants-requires c κs = search needs
 
 same-length : tie.Need-same-length
 same-length c = search needs
 
 returns-4 : tie.Need-returns-4
-returns-4 c = scanned _ (c .before .before .scan .ensures) (c .before .before .before .before .before .before .before .before .before .class-bytes .ensures) (c .before .before .before .before .before .before .enclosers .ensures)
+returns-4 c = visit-content _ _ _ (c .before .before .before .before .class-bytes .ensures) (c .before .wants .ensures) (c .if7 .taken)
+
+slice-aggregate-enclosers : tie.Need-slice-aggregate-enclosers
+slice-aggregate-enclosers c = search needs
+
+enclosers-requires : tie.Need-enclosers-requires
+enclosers-requires c κs = let p = c .before .before .before .before .before .before .before .before .before .before .before .before .before .pre in (p .0, (p .1 .0, (p .1 .1 .0, omega (arith, p .1 .1 .0, p .1 .0 .few), zeros 256)))
+
+slice-aggregate-scan : tie.Need-slice-aggregate-scan
+slice-aggregate-scan c = search needs
+
+scan-requires : tie.Need-scan-requires
+scan-requires c κs = let p = c .before .before .before .before .before .before .before .before .before .before .before .before .before .before .before .before .before .pre in (c .before .before .before .before .before .before .before .before .before .class-bytes .ensures .place, omega (arith, p .1 .0 .few, p .1 .1, c .before .before .before .enclosers .kept .1 .1 .1 .1 .1 .1 .1 .1 .0))
+
+same-length-2 : tie.Need-same-length-2
+same-length-2 c = search needs
+
+returns-5 : tie.Need-returns-5
+returns-5 c = scanned _ (c .before .before .scan .ensures) (c .before .before .before .before .before .before .before .before .before .before .before .before .class-bytes .ensures) (c .before .before .before .before .before .before .enclosers .ensures)
 
 pub visit-spec : {M : Type 1} → statement M
 visit-spec =
@@ -55,9 +65,12 @@ visit-spec =
     class-bytes-requires
     nth-in-requires
     returns-3
+    wants-requires
+    same-length
+    returns-4
     slice-aggregate-enclosers
     enclosers-requires
     slice-aggregate-scan
     scan-requires
-    same-length
-    returns-4)
+    same-length-2
+    returns-5)
