@@ -40,9 +40,9 @@ fn wide(x: u16) -> usize
     x as usize
 }
 
-// ---- rules 7 to 10: sets of the markers whose rules a slot passes
+// ---- rules 7 to 10: sets of the markers whose rules a slot passes: 1 Immutable, 2 Powerless, 4 Selfless, 128 DeepSelfless
 
-// The rules that a slot passes, by the flags of its field and the markers of its type.
+// The rules that a slot passes, by the flags of its field and the markers of its type. One that is not final passes neither rule 7 nor rule 9, a transient one not rule 9.
 fn slot_set(flags: u16, m: u8) -> u8
     ensures { λ r. ⌜ Trusted (λ rule. passesBy flags m rule ≡ true) r ⌝ }
 {
@@ -112,7 +112,7 @@ fn all_or(lacks: bool, mask: u8) -> u8
     if lacks { mask } else { 255 }
 }
 
-// Those that the captured variables of class t pass.
+// Those that the captured variables of class t pass: each lane is one marker's.
 fn captured_set(row: &[u8], t: usize) -> u8
     requires { ⌜ t < 256 ⌝ }
     ensures { λ r. ⌜ Trusted (CapturedHas (now (row .entry)) t) r ⌝ }
