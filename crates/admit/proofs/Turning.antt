@@ -8,7 +8,7 @@ use Prim.Native.Nat.{ℕ, _-_, _≤_, _<_}
 use native.Mathlib.Omega.{arith}
 use lib.Dec.{T, ltb, nltb→le}
 use lib.ListN.{length}
-use borrow.Author.Tests.{lt-ltb, le-ltb}
+use borrow.Author.Tests.{lt-ltb, le-ltb, not-false}
 use Rattle.spec.specs.Lists.{firstOf}
 use Rattle.spec.specs.Sheet.{classCount, total, group}
 use Rattle.spec.specs.Refusals.{Refusal, refuseIf, refusePlain, formRefusal, sheetRefusal, newRefusal, wholeGroup, groupRefusal, roomRefusal, shortRefusal}
@@ -26,14 +26,10 @@ use Rattle.form.specs.declared.Checked.the-variants.{Fine, Refused}
 use Rattle.form.proofs.Accepting.{fine-none, refused-is}
 use Rattle.admit.specs.Admitting.{admitRefusal, Plain}
 
-was-true : (b : Bool) → not b ≡ false → b ≡ true
-was-true true e = refl
-was-true false e = sym e
-
 -- a whole group between whole groups can be read through the view
 pub group-fits : {cut : Cut} {user g : List ℕ} → Sits cut user → {b : Bool} → b ≡ wholeGroup g → not b ≡ false → Fits cut user g
 unfolding IsGroup
-group-fits s {b} e t = sits-fits s (true-t (sym e ∙ was-true b t))
+group-fits s {b} e t = sits-fits s (true-t (sym e ∙ not-false b t))
 
 module _ (library user g new : List ℕ) (lines scratch : ℕ) where
   -- what a call promises
@@ -67,7 +63,7 @@ module _ (library user g new : List ℕ) (lines scratch : ℕ) where
 
     module _ {size : ℕ} (es : size ≡ length new) (l : size ≤ length user) (h : size ≤ 32768) (plain : Plain library g new) where
       whole : T (wholeGroup g)
-      whole = true-t (sym eb ∙ was-true b tb)
+      whole = true-t (sym eb ∙ not-false b tb)
 
       past-room : admitRefusal library user g new lines scratch ≡ firstOf (sheetRefusal library new ∷ shortRefusal (classCount new) lines scratch ∷ [])
       unfolding roomRefusal refusePlain refuseIf

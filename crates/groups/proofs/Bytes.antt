@@ -17,7 +17,7 @@ use Rattle.spec.specs.Record.{u16, lengthFits}
 use Rattle.spec.specs.Sheet.{Group, recordsOf, groupStart, group, classRecord, ofKind}
 use Rattle.theory.proofs.All.{All, all-append, all-take}
 use Rattle.theory.proofs.Parts.{part-length, part-byte, part-word}
-use Rattle.theory.proofs.Cut.{Whole, IsGroup, records-of-whole, concat-append, concat-concat, groups-of-join, regroup, join-records}
+use Rattle.theory.proofs.Cut.{Whole, IsGroup, records-of-whole, front-low, concat-append, concat-concat, groups-of-join, regroup, join-records}
 use Rattle.theory.proofs.New.{concat-last}
 use Rattle.theory.specs.Claims.{sheetOf}
 use Rattle.view.specs.declared.Cut.{Cut}
@@ -45,15 +45,7 @@ start-joined bs w i =
     ∙ ap (λ (l : List (List ℕ)). length (concat l)) (regroup (take i bs) (all-take IsGroup i bs w))
 
 front-grows : (bs : List (List ℕ)) (i j : ℕ) → i ≤ j → length (concat (take i bs)) ≤ length (concat (take j bs))
-front-grows bs i j h =
-    let l = take j bs in
-    omega (
-      arith,
-      ap (λ (k : List (List ℕ)). length (concat k)) (take-take i j bs h),
-      ap (λ (k : List (List ℕ)). length (concat k)) (take-append-drop i l),
-      ap length (concat-append (take i l) (drop i l)),
-      length-append (concat (take i l)) (concat (drop i l)),
-    )
+front-grows bs i j h = subst (λ (l : List (List ℕ)). length (concat l) ≤ length (concat (take j bs))) (take-take i j bs h) (front-low i (take j bs))
 
 -- ---- a user class lies before the cut, in the group, or after the cut
 

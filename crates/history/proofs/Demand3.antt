@@ -22,7 +22,7 @@ use Rattle.spec.specs.Verdicts.{VerdictRow, flat, verdictAt, userVerdict, depen
 use Rattle.spec.specs.Promises.{Answer, accepted, Counts, countsOf, judgedRow, Judges, State}
 use Rattle.theory.proofs.Bools.{decide, and-l, not-or-l, eq→eqb}
 use Rattle.theory.proofs.All.{All, all-append, all-gather, all-set}
-use Rattle.theory.proofs.Cut.{IsGroup, sheet-grouped, sheet-groups}
+use Rattle.theory.proofs.Cut.{IsGroup, count-of-join, sheet-grouped, sheet-groups}
 use Rattle.theory.proofs.Answers.{first-none, none-first, plain-none}
 use Rattle.theory.proofs.Local.{verdict-same, locality}
 use Rattle.theory.proofs.New.{new-sheets}
@@ -33,7 +33,7 @@ use Rattle.history.specs.Demand3.{RowLaws, Dependent, Value, MayChange, 
 use Rattle.history.proofs.Flat.{flat-laws}
 use Rattle.history.proofs.Counting.{counted-by}
 use Rattle.history.proofs.Unrefused.{Present, present-facts, facts-present, short-none, none-short, Passes, edit-passes}
-use Rattle.history.proofs.Model.{class-count, total-count, added-group, set-group, front-is}
+use Rattle.history.proofs.Model.{total-count, added-group, set-group, front-is}
 use Rattle.history.proofs.Steps.{is-accepted, anew, as-before, library-stays, writes, made, made-is, why, next, Modelled, Holds, modelled, user-after, used-after, state-stays, model-stays, model-changes, row-changes}
 
 -- a user sheet that judging accepts beside the library, with a verdict for each class
@@ -123,8 +123,8 @@ module _ (m : Model) (w : All IsGroup (m .groups)) (s : Sound (m .library) (shee
   unfolding newSheet newGroups sheet userVerdict verdictAt
   -- no present class can reach the new one
   stays (add g) u i h n =
-      let old : i < length (m .groups) = omega (arith, class-count (newGroups m (add g)) (new-whole m (add g) w u), length-append (m .groups) (g ∷ [])) in (
-        omega (arith, class-count (m .groups) w),
+      let old : i < length (m .groups) = omega (arith, count-of-join (newGroups m (add g)) (new-whole m (add g) w u), length-append (m .groups) (g ∷ [])) in (
+        omega (arith, count-of-join (m .groups) w),
         verdict-same (classCount (m .library)) (group (m .library) (sheet m)) (group (m .library) (newSheet m (add g))) (λ d. d < total (m .library) (sheet m))
             (λ d k. references-below (m .library) (sheet m) s d) (λ d k. added-group (m .library) (m .groups) g w u d k)
             (classCount (m .library) + i) (omega (arith, total-count (m .library) (m .groups) w)),
@@ -133,7 +133,7 @@ module _ (m : Model) (w : All IsGroup (m .groups)) (s : Sound (m .library) (shee
   stays (replace c g) u i h n =
       let new : ℕ → Group = group (m .library) (newSheet m (replace c g)) in
       let k : ℕ = c - classCount (m .library) in (
-        omega (arith, class-count (m .groups) w, class-count (newGroups m (replace c g)) (new-whole m (replace c g) w u), length-set (m .groups) k g),
+        omega (arith, count-of-join (m .groups) w, count-of-join (newGroups m (replace c g)) (new-whole m (replace c g) w u), length-set (m .groups) k g),
         sym (locality (classCount (m .library)) new (group (m .library) (sheet m)) (classCount (m .library) + i)
             (λ d p. set-group (m .library) (m .groups) g w (u .0) k d
             (λ e. n (subst (Depends new (classCount (m .library) + i)) (let q : d ≡ c = omega (arith, u .1) in q) p)))),

@@ -12,7 +12,7 @@ use lib.Seq.{take-append-seam, drop-append-seam, getD-set-other}
 use Rattle.spec.specs.Lists.{concat}
 use Rattle.spec.specs.Sheet.{Group, recordsOf, groupsOf, classCount, total, group}
 use Rattle.theory.proofs.All.{All, all-append, all-set}
-use Rattle.theory.proofs.Cut.{IsGroup, groups-of-join}
+use Rattle.theory.proofs.Cut.{IsGroup, groups-of-join, count-of-join}
 use Rattle.history.specs.Model.{Model, sheet, used, buffer}
 
 -- ---- lists
@@ -30,13 +30,9 @@ getD-second (x ∷ xs) ys k a z (suc d) ne = getD-second xs ys k a z d (λ e. ne
 
 -- ---- the classes of a sheet of whole groups
 
-pub class-count : (gs : List (List ℕ)) → All IsGroup gs → classCount (concat gs) ≡ length gs
-unfolding classCount
-class-count gs w = ap length (groups-of-join gs w) ∙ length-map gs recordsOf
-
 pub total-count : (library : List ℕ) (gs : List (List ℕ)) → All IsGroup gs → total library (concat gs) ≡ classCount library + length gs
 unfolding total
-total-count library gs w = ap (λ (n : ℕ). classCount library + n) (class-count gs w)
+total-count library gs w = ap (λ (n : ℕ). classCount library + n) (count-of-join gs w)
 
 module _ (library : List ℕ) (gs : List (List ℕ)) (g : List ℕ) (w : All IsGroup gs) (wg : IsGroup g) where
   added-groups : groupsOf (concat (gs ++ (g ∷ []))) ≡ groupsOf (concat gs) ++ (recordsOf g ∷ [])

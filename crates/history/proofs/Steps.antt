@@ -14,10 +14,10 @@ use Rattle.spec.specs.Refusals.{Refusal, addedSheet, replacedSheet, addRefusal,
 use Rattle.spec.specs.Verdicts.{VerdictRow, userVerdict, dependsOn, dependentCount}
 use Rattle.spec.specs.Promises.{Answer, refused, accepted, answerOf, afterwards, bufferWith, State, Edit, edited, Makes, addition, replacement}
 use Rattle.theory.proofs.All.{All}
-use Rattle.theory.proofs.Cut.{IsGroup, groups-of-join, regroup, concat-append}
+use Rattle.theory.proofs.Cut.{IsGroup, groups-of-join, count-of-join, regroup, concat-append}
 use Rattle.history.specs.Model.{Call, add, replace, Model, sheet, used, buffer, modelRefusal, newGroups, newSheet, modelValue, newPast, changed, modelStep}
 use Rattle.history.specs.Demand3.{Done, PromisedBy, Promised}
-use Rattle.history.proofs.Model.{class-count, total-count, front-is, rest-is}
+use Rattle.history.proofs.Model.{total-count, front-is, rest-is}
 
 -- ---- answers, and what is left afterwards
 
@@ -118,7 +118,7 @@ module _ (row : VerdictRow) where
       refusal = addRefusal (m .library) (h .user-is j) (h .used-is j) g (h .lines-are j) scratch;
       sheet = (ap (λ (u : List ℕ). addedSheet u g) sheet-is ∙ made-is m (h .whole) (add g)) j;
       answer = (ap (total (m .library)) sheet-is ∙ total-count (m .library) (m .groups) (h .whole)) j;
-      changed = λ i. eqb i ((ap classCount sheet-is ∙ class-count (m .groups) (h .whole)) j);
+      changed = λ i. eqb i ((ap classCount sheet-is ∙ count-of-join (m .groups) (h .whole)) j);
     }
     edit-is (replace c g) scratch =
         let new : replacedSheet (m .library) (take (s .used) (s .user)) c g ≡ newSheet m (replace c g) =

@@ -17,7 +17,7 @@ use Rattle.spec.specs.Promises.{Answer, refused, accepted, answerOf, Counts, co
 use Rattle.theory.specs.Claims.{sheetOf, Blames, size, torn, at, noClass, plain, BlamesEdit, present, made}
 use Rattle.theory.proofs.Bools.{not-or-l, not-or-r}
 use Rattle.theory.proofs.All.{All}
-use Rattle.theory.proofs.Cut.{concat-append}
+use Rattle.theory.proofs.Cut.{concat-append, front-low}
 use Rattle.theory.proofs.Counts.{step, count-none, count-more}
 use Rattle.theory.proofs.Answers.{first-none, first-some, first-append, skip-none, Gives, gives-first, if-none, plain-none}
 use Rattle.theory.proofs.Accept.{sound}
@@ -42,10 +42,6 @@ cut-low (suc n) s = go (wholeFirst s) (cut-low n (drop (u16 s 0) s))
 end-low : (s : List ℕ) → wholeEnd s ≤ length s
 unfolding wholeEnd recordsOf
 end-low s = cut-low (length s) s
-
-front-low : (k : ℕ) (rs : List (List ℕ)) → length (concat (take k rs)) ≤ length (concat rs)
-front-low k rs =
-    omega (arith, ap (λ (l : List (List ℕ)). length (concat l)) (take-append-drop k rs), ap length (concat-append (take k rs) (drop k rs)), length-append (concat (take k rs)) (concat (drop k rs)))
 
 module _ (library user : List ℕ) (hl : length library ≤ 32768) (hu : length user ≤ 32768) where
   sheet-low : (s : ℕ) → length (sheetOf library user s) ≤ 32768

@@ -1,7 +1,7 @@
 -- One class is offered what one other has: in one lane, then lane after lane.
 -- Assumes nothing.
 use mathlib.Core.Path.{_≡_, refl}
-use mathlib.Core.Bool.{Bool, true, false, _||_}
+use mathlib.Core.Bool.{Bool, true, false, _||_, or-true}
 use mathlib.Core.List.{List}
 use mathlib.Core.Logic.{inl, inr, ⊎-elim}
 use Prim.Native.Nat.{ℕ, _+_, _*_, _≤_, _<_}
@@ -15,10 +15,6 @@ use Rattle.lanes.specs.Lanes.{Fits, entryAt, Settled, Enclosers, fitsRow
 use Rattle.lanes.proofs.Runs.{run-none, run-then, run-only, run-lower}
 
 -- ---- the row of marks says what fits
-
-or-true : (b : Bool) → (b || true) ≡ true
-or-true true = refl
-or-true false = refl
 
 false-true : {A : Type 0} {b : Bool} → b ≡ false → b ≡ true → A
 false-true p q = absurd (let z : _≡_ {A = Bool} true false = cc in let y : _≡_ {A = ℕ} 0 1 = cc in omega arith)

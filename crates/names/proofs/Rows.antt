@@ -9,12 +9,13 @@ use native.Mathlib.Numerals.{add-one}
 use native.Mathlib.Omega.{arith}
 use lib.Dec.{eqb}
 use lib.ListN.{length, getD, take, drop, set, length-set}
-use lib.Seq.{drop-cons, getD-set-same, getD-set-other}
-use borrow.Author.Count.{below-none, below-more}
+use lib.Seq.{drop-cons}
+use borrow.Author.Count.{below-none}
 use borrow.Author.Tests.{eq-eqb, ne-eqb}
 use Rattle.spec.specs.Lists.{any, elem}
 use Rattle.spec.specs.Record.{className}
 use Rattle.spec.specs.Sheet.{Group, classRecord}
+use Rattle.theory.proofs.Rows.{set-below}
 use Rattle.names.specs.Names.{printOf, Printed}
 
 -- ---- filled
@@ -31,7 +32,7 @@ module _ {g : ℕ → Group} {size : ℕ} {row : List ℕ} {c : ℕ} (f : Fillin
   pub fill-next : c < size → {p : ℕ} → p ≡ printOf (className (classRecord (g c))) → Filling g size (set row c p) (c + 1)
   fill-next h {p} e = record {
     long = length-set row c p ∙ f .long;
-    prints = below-more _ c (λ d l. getD-set-other row c d p 0 (λ q. omega arith) ∙ f .prints d l) (getD-set-same row c p 0 (omega (arith, f .long)) ∙ e);
+    prints = set-below (λ d x. x ≡ printOf (className (classRecord (g d)))) row c p (omega (arith, f .long)) (f .prints) e;
   }
 
   pub fill-end : {n : ℕ} → n ≤ c → n ≤ size → Printed g n row

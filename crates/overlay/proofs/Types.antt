@@ -2,7 +2,7 @@
 -- Assumes nothing.
 use mathlib.Core.Path.{_≡_, refl, sym, ap, _∙_, subst}
 use mathlib.Core.Logic.{_⊎_, inl, inr}
-use mathlib.Core.Bool.{Bool, true, false, not, _&&_}
+use mathlib.Core.Bool.{Bool, true, false, not, _&&_, and-true}
 use mathlib.Core.List.{List, [], _∷_, map}
 use Prim.Native.Nat.{ℕ, _+_, _≤_, _<_}
 use native.Mathlib.Nat.{zero-add}
@@ -10,7 +10,6 @@ use native.Mathlib.Decide.{ℕ-discrete}
 use native.Mathlib.Omega.{arith}
 use lib.Dec.{T, eqb, ltb, ltb→lt, nltb→le}
 use lib.ListN.{length, getD, set, length-set, List·getD-eq-default}
-use lib.Seq.{getD-set-same, getD-set-other}
 use borrow.Author.Tests.{eq-eqb, ne-eqb}
 use Rattle.spec.specs.Lists.{all, keep, gather, span}
 use Rattle.spec.specs.Record.{u8, u16, bit, ownMarkers, Ty, tyAt, tyReferences}
@@ -20,6 +19,7 @@ use Rattle.spec.specs.Classes.{superclasses, targets, supertypes, gathered, ove
 use Rattle.theory.proofs.Bools.{decide, t-true, t-false}
 use Rattle.theory.proofs.All.{all-span}
 use Rattle.theory.proofs.Closure.{bit-zero}
+use Rattle.theory.proofs.Rows.{set-below}
 use Rattle.groups.specs.Groups.{Indexed}
 use Rattle.groups.proofs.Few.{group-past}
 use Rattle.overlay.specs.Memo.{Right}
@@ -48,11 +48,8 @@ pub fill-start : {g : ℕ → Group} {memo row : List ℕ} → Right g memo → 
 fill-start r l = record { long = l; is = λ i h. absurd (omega arith); right = r }
 
 pub fill-next : {g : ℕ → Group} {memo row : List ℕ} {c : ℕ} → Filling g memo row c → c < 256 → {v : ℕ} → v ≡ overlay g c → {memo′ : List ℕ} → Right g memo′ → Filling g memo′ (set row c v) (c + 1)
-fill-next {g} {row = row} {c} f h {v} e r = record { long = length-set row c v ∙ f .long; is = λ i k. go i k (ℕ-discrete i c); right = r }
-  where
-    go : (i : ℕ) → i < c + 1 → Dec (i ≡ c) → getD (set row c v) i 0 ≡ overlay g i
-    go i k (yes q) = subst (λ (j : ℕ). getD (set row c v) j 0 ≡ overlay g j) (sym q) (getD-set-same row c v 0 (omega (arith, f .long)) ∙ e)
-    go i k (no n) = getD-set-other row c i v 0 n ∙ f .is i (omega arith)
+fill-next {g} {row = row} {c} f h {v} e r =
+    record { long = length-set row c v ∙ f .long; is = set-below (λ d x. x ≡ overlay g d) row c v (omega (arith, f .long)) (f .is) e; right = r }
 
 -- past the row there is no class
 pub fill-end : {library user : List ℕ} {nlib n : ℕ} {starts : List ℕ} → Indexed library user nlib n starts → {memo row : List ℕ} {c : ℕ} → Filling (group library user) memo row c → 256 ≤ c
@@ -90,10 +87,6 @@ row-markers k t = ap (λ (f : ℕ → ℕ). markersBy f t) (λ i c. k .is c i)
 bit-all : (k : ℕ) → k < 8 → bit k 255 ≡ true
 unfolding all span bit
 bit-all k h = subst (λ (i : ℕ). bit i 255 ≡ true) (zero-add k) (t-true (bit (0 + k) 255) (all-span (λ i. bit i 255) 0 8 tt k h))
-
-and-true : (b : Bool) → (b && true) ≡ b
-and-true true = refl
-and-true false = refl
 
 pub satisfies-bit : (g : ℕ → Group) (k : ℕ) (t : Ty) → k < 8 → satisfies g k t ≡ bit k (typeMarkers g t)
 unfolding satisfies typeMarkers markersBy tyReferences all hasMarker

@@ -15,7 +15,7 @@ use Rattle.spec.specs.Record.{kind, isClass}
 use Rattle.spec.specs.Sheet.{recordsIn, recordsOf, wholeEnd, Split, splitGroups, groupsOf, classCount, Located, locate, locatedIn}
 use Rattle.spec.specs.Refusals.{Refusal, refuseIf, refuseRecord, recordTests, recordRefusal, tornRefusal, oneClass}
 use Rattle.theory.proofs.All.{All, all-append, all-map}
-use Rattle.theory.proofs.Cut.{concat-append, split-class, split-other, split-join, IsGroup, group-one, records-of-groups, groups-of-join, whole-join}
+use Rattle.theory.proofs.Cut.{concat-append, split-class, split-other, split-join, IsGroup, group-one, records-of-groups, count-of-join, whole-join}
 use Rattle.theory.proofs.Answers.{first-append, first-only, keep-head}
 use Rattle.pass.specs.Pass.{place, passRefusal, shifted, fill, filled}
 use Rattle.pass.proofs.Places.{answer, classPlace, otherPlace, place-class, place-other, classesAfter, recordsAfter, locate-class, locate-other, locate-cons}
@@ -59,10 +59,10 @@ along-shifted d sheet at n k b (r ∷ rs) =
 -- ---- records end to end
 
 -- a CLASS record comes first, or none
-abbrev Opens : List (List ℕ) → Type 0
+abbrev pub Opens : List (List ℕ) → Type 0
 Opens rs = splitGroups rs .loose ≡ []
 
-open-anywhere : (sheet at n k b : ℕ) (rs : List (List ℕ)) → Opens rs → locate sheet at n k b rs ≡ locate sheet at n 0 0 rs
+pub open-anywhere : (sheet at n k b : ℕ) (rs : List (List ℕ)) → Opens rs → locate sheet at n k b rs ≡ locate sheet at n 0 0 rs
 open-anywhere sheet at n k b [] o = unfold locate in refl
 open-anywhere sheet at n k b (r ∷ rs) o = go (isClass r) refl
   where
@@ -150,10 +150,6 @@ whole-pass : (sheet n : ℕ) (s : List ℕ) → wholeEnd s ≡ length s → pass
 unfolding passRefusal tornRefusal recordRefusal locatedIn answer refuseIf
 whole-pass sheet n s e = rw (eq-eqb (wholeEnd s) (length s) e) (before-none (recordRefusal sheet n s))
 
-classes-of : (gs : List (List ℕ)) → All IsGroup gs → classCount (concat gs) ≡ length gs
-unfolding classCount
-classes-of gs w = ap length (groups-of-join gs w) ∙ length-map gs recordsOf
-
 -- whole groups stand before and after
 module _ (xs ys : List (List ℕ)) (wx : All IsGroup xs) (wy : All IsGroup ys) where
   both : All IsGroup (xs ++ ys)
@@ -182,7 +178,7 @@ module _ (xs ys : List (List ℕ)) (wx : All IsGroup xs) (wy : All IsGroup ys) w
       (along-append sheet n (recordsOf (concat xs)) (recordsOf (concat ys)) opens-second)
 
   classes-both : classCount (concat xs ++ concat ys) ≡ classCount (concat xs) + classCount (concat ys)
-  classes-both = ap classCount (sym (concat-append xs ys)) ∙ classes-of (xs ++ ys) both ∙ omega (arith, length-append xs ys, classes-of xs wx, classes-of ys wy)
+  classes-both = ap classCount (sym (concat-append xs ys)) ∙ count-of-join (xs ++ ys) both ∙ omega (arith, length-append xs ys, count-of-join xs wx, count-of-join ys wy)
 
   row-both : (row : List ℕ) (n at : ℕ) → filled row n at (concat xs ++ concat ys) ≡ filled (filled row n at (concat xs)) (n + classCount (concat xs)) (at + length (concat xs)) (concat ys)
   unfolding filled classCount groupsOf wholeEnd

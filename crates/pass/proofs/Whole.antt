@@ -12,7 +12,7 @@ use Rattle.spec.specs.Record.{u16, kind, isClass}
 use Rattle.spec.specs.Sheet.{wholeFirst, recordsIn, recordsOf}
 use Rattle.theory.proofs.Bools.{true-t}
 use Rattle.theory.proofs.Parts.{u16-here, part-length, part-kind}
-use Rattle.theory.proofs.Cut.{first-is, is-first, records-first}
+use Rattle.theory.proofs.Cut.{first-is, is-first, records-step}
 use Rattle.pass.specs.Pass.{recordAt}
 
 -- four bytes are left, and the length that stands there is 4 at least and does not pass the end
@@ -52,38 +52,6 @@ pub end-stop : (s : List ℕ) (at : ℕ) → length s ≤ at → wholeFirst (dro
 end-stop s at h = not-whole s at (λ w. omega (arith, w))
 
 -- ---- the records from a byte on
-
-stop-in : (n : ℕ) (s : List ℕ) → wholeFirst s ≡ false → recordsIn n s ≡ []
-unfolding recordsIn
-stop-in zero s e = refl
-stop-in (suc n) s e = rw (e, recordsIn)
-
-nil-in : (n : ℕ) (s : List ℕ) → length s ≤ 0 → recordsIn n s ≡ []
-nil-in n s h = stop-in n s (end-stop s 0 h)
-
--- fuel past the length changes nothing
-enough : (n m : ℕ) (s : List ℕ) → length s ≤ n → length s ≤ m → recordsIn n s ≡ recordsIn m s
-enough zero m s h k = nil-in zero s h ∙ sym (nil-in m s h)
-enough (suc n) zero s h k = nil-in (suc n) s k ∙ sym (nil-in zero s k)
-enough (suc n) (suc m) s h k = go (wholeFirst s) refl (enough n m)
-  where
-    go : (b : Bool) → wholeFirst s ≡ b → ((t : List ℕ) → length t ≤ n → length t ≤ m → recordsIn n t ≡ recordsIn m t) → recordsIn (suc n) s ≡ recordsIn (suc m) s
-    go true e ih =
-        let w = whole-at s 0 e in
-        let d = length-drop (u16 s 0) s in
-        rw (records-first n s e, records-first m s e, ih (drop (u16 s 0) s) (omega arith) (omega arith))
-    go false e ih = stop-in (suc n) s e ∙ sym (stop-in (suc m) s e)
-
-records-step : (s : List ℕ) → wholeFirst s ≡ true → recordsOf s ≡ take (u16 s 0) s ∷ recordsOf (drop (u16 s 0) s)
-unfolding recordsOf
-records-step s e =
-    let t : List ℕ = drop (u16 s 0) s in
-    let d = length-drop (u16 s 0) s in
-    enough (length s) (suc (length s)) s (omega arith) (omega arith) ∙ rw (records-first (length s) s e, enough (length s) (length t) t (omega arith) (omega arith))
-
-pub records-stop : (s : List ℕ) → wholeFirst s ≡ false → recordsOf s ≡ []
-unfolding recordsOf
-records-stop s e = stop-in (length s) s e
 
 module _ {s : List ℕ} {at : ℕ} (w : Whole s at) where
   pub records-here : recordsOf (drop at s) ≡ recordAt s at ∷ recordsOf (drop (at + u16 s at) s)

@@ -8,6 +8,7 @@ use Prim.Native.Nat.{ℕ, _+_, _*_, _≤_, _<_}
 use native.Mathlib.Decide.{ℕ-discrete}
 use native.Mathlib.Omega.{arith}
 use lib.ListN.{length, getD}
+use borrow.Author.Tests.{not-true}
 use Rattle.spec.specs.Record.{u16}
 use Rattle.spec.specs.Sheet.{Group}
 use Rattle.theory.proofs.Bools.{true-t}
@@ -100,13 +101,9 @@ module _ {bytes : List ℕ} {builds : Bool} {n lanes m : ℕ} {row : List ℕ} {
 
 -- ---- a class that wants nothing
 
-was-false : (b : Bool) → not b ≡ true → b ≡ false
-was-false true e = sym e
-was-false false e = refl
-
 pub visit-content : (g : ℕ → Group) (builds : Bool) {outer : ℕ → ℕ} {n lanes m : ℕ} {bytes : List ℕ} (row : List ℕ) {told : Bool} → Carries bytes (g m)
     → Content row n lanes m (namedIn builds (between bytes 0 (length bytes))) told → not told ≡ true
     → Run (stepsOf g builds) outer n lanes (SettledAt (stepsOf g builds) outer n lanes m) row row 0
 unfolding SettledAt Settled
 visit-content g builds row {told} w c e =
-    run-none row (λ k t hk x ht b f. c .is (was-false told e) t (subst (λ (h : Group). List·Memᴰ t (namedIn builds h)) (sym (w .records)) x) ht k hk)
+    run-none row (λ k t hk x ht b f. c .is (not-true told e) t (subst (λ (h : Group). List·Memᴰ t (namedIn builds h)) (sym (w .records)) x) ht k hk)

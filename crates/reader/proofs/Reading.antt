@@ -16,9 +16,9 @@ use Rattle.spec.specs.Lists.{concat}
 use Rattle.spec.specs.Sheet.{recordsOf, wholeEnd}
 use Rattle.theory.proofs.Bools.{and-l, un-not, not-and-r}
 use Rattle.theory.proofs.Parts.{part-length}
-use Rattle.theory.proofs.Cut.{concat-append}
+use Rattle.theory.proofs.Cut.{concat-append, records-stop}
 use Rattle.whole.specs.Lengths.{wholeLength}
-use Rattle.whole.proofs.Walking.{Stands, length-some, length-zero, records-none, records-here}
+use Rattle.whole.proofs.Walking.{Stands, length-some, length-zero, records-here}
 use Rattle.reader.specs.Reading.{foundAt, afterAt, movesAt, nthAt}
 use Rattle.reader.specs.declared.Found.the-variants.{Record, Broken, End}
 
@@ -106,7 +106,7 @@ module _ {s : List ℕ} {n : ℕ} (p : Passed s n) where
     others = p .left ∙ drop-cons (recordsOf s) n [] h
 
     stands : Stands s at len
-    stands = length-some s at refl (λ z. let e = sym (records-none (drop at s) (length-zero s at refl z)) ∙ others in let f : _≡_ {A = ℕ} 0 1 = cc in omega arith)
+    stands = length-some s at refl (λ z. let e = sym (records-stop (drop at s) (length-zero s at refl z)) ∙ others in let f : _≡_ {A = ℕ} 0 1 = cc in omega arith)
 
     the-first : take len (drop at s) ∷ recordsOf (drop (at + len) s) ≡ getD (recordsOf s) n [] ∷ drop (suc n) (recordsOf s)
     the-first = sym (records-here stands) ∙ others

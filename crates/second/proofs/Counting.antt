@@ -6,14 +6,15 @@ use mathlib.Core.List.{List, [], _∷_}
 use Prim.Native.Nat.{ℕ, _+_, _≤_, _<_}
 use native.Mathlib.Omega.{arith}
 use lib.ListN.{length, getD, set, length-set}
-use lib.Seq.{getD-set-same, getD-set-other}
-use borrow.Author.Count.{below-none, below-more}
+use borrow.Author.Count.{below-none}
 use borrow.Author.Tests.{lt-ltb, le-ltb}
 use Rattle.spec.specs.Lists.{keep}
 use Rattle.spec.specs.Record.{isKind, LOCAL, MEMBER}
 use Rattle.spec.specs.Sheet.{Group, group, ofKind}
 use Rattle.theory.proofs.All.{keep-yes, keep-no}
+use Rattle.theory.proofs.Rows.{set-below}
 use Rattle.groups.specs.Groups.{between, Carries, Indexed}
+use Rattle.groups.proofs.Bytes.{counted-in}
 use Rattle.groups.proofs.Few.{group-few}
 use Rattle.second.specs.Second.{Counts, countOf}
 
@@ -27,9 +28,6 @@ module _ (nlib : ℕ) (g : ℕ → Group) {c : ℕ} where
   pub count-user : nlib ≤ c → countOf nlib g c ≡ length (ofKind LOCAL (g c))
   unfolding countOf
   count-user h = rw (le-ltb c nlib h, countOf)
-
-pub counted-in : {bytes : List ℕ} {h : Group} → Carries bytes h → (k : ℕ) {m : ℕ} → m ≡ length (ofKind k (between bytes 0 (length bytes))) → m ≡ length (ofKind k h)
-counted-in w k e = e ∙ ap (λ (rs : Group). length (ofKind k rs)) (w .records)
 
 -- no more than its records, which are few
 kept-few : (k : ℕ) (h : Group) → length (ofKind k h) ≤ length h
@@ -59,7 +57,7 @@ module _ {g : ℕ → Group} {nlib size : ℕ} {row : List ℕ} {c : ℕ} (f : F
   pub fill-next : c < size → {m : ℕ} → m ≡ countOf nlib g c → Filling g nlib size (set row c m) (c + 1)
   fill-next h {m} e = record {
     long = length-set row c m ∙ f .long;
-    counts = below-more _ c (λ d l. getD-set-other row c d m 0 (λ q. omega arith) ∙ f .counts d l) (getD-set-same row c m 0 (omega (arith, f .long)) ∙ e);
+    counts = set-below (λ d x. x ≡ countOf nlib g d) row c m (omega (arith, f .long)) (f .counts) e;
   }
 
   pub fill-end : {n : ℕ} → n ≤ c → n ≤ size → Counts g nlib n row

@@ -21,12 +21,13 @@ use Rattle.theory.specs.Claims.{sheetOf}
 use Rattle.theory.proofs.Bools.{t-true, and-l, and-r}
 use Rattle.theory.proofs.All.{All, all-at, all-drop}
 use Rattle.theory.proofs.Answers.{skip-none, first-some}
-use Rattle.theory.proofs.Cut.{split-parts}
+use Rattle.theory.proofs.Cut.{split-parts, split-join}
 use Rattle.theory.proofs.Accept.{Clear}
 use Rattle.pass.specs.Pass.{passOf}
 use Rattle.pass.specs.declared.Pass.{Pass}
 use Rattle.pass.specs.declared.Pass.the-variants.{Fine, Refused}
 use Rattle.pass.proofs.Places.{answer, classPlace, otherPlace, locate-class, locate-other, number-refuses}
+use Rattle.pass.proofs.Joining.{Opens, open-anywhere}
 use Rattle.groups.specs.Groups.{startOf, Indexed}
 use Rattle.groups.proofs.Classes.{in-library, in-user, library-sheet, user-sheet, group-next}
 use Rattle.second.specs.Second.{formNumber, formOf, formIn, firstClass, classesEnd}
@@ -74,24 +75,12 @@ module _ (g : ℕ → Group) (nlib n sheet : ℕ) where
 
   -- ---- one class
 
-  -- nothing stands before the first CLASS record
-  Free : List (List ℕ) → Type 0
-  Free rs = (at c k b : ℕ) → locate sheet at c k b rs ≡ locate sheet at c 0 0 rs
-
-  joined-free : (hs : List Group) → All (λ h. T (oneClass h)) hs → Free (concat hs)
-  unfolding Free concat oneClass
-  joined-free [] w at c k b = unfold locate in refl
-  joined-free ([] ∷ hs) w at c k b = absurd (w .0)
-  joined-free ((r ∷ rs) ∷ hs) w at c k b =
-      let e = t-true (isClass r) (and-l (isClass r) (not (any isClass rs)) (w .0)) in
-      locate-class sheet at c k b r (rs ++ concat hs) e ∙ sym (locate-class sheet at c 0 0 r (rs ++ concat hs) e)
-
-  module _ (c : ℕ) (rest : List (List ℕ)) (free : Free rest) where
+  module _ (c : ℕ) (rest : List (List ℕ)) (free : Opens rest) where
     others-follow : (rs : Group) → All (λ r. isClass r ≡ false) rs → (at k b : ℕ)
         → Follows (formOf g nlib n c at rs) (along (locate sheet at (suc c) k b (rs ++ rest))) (along (locate sheet (at + length (concat rs)) (suc c) 0 0 rest))
     others-follow [] h at k b = record {
       refused = λ q. absurd (let p : formOf g nlib n c at [] ≡ Fine c = (unfold formOf in refl) in let y : _≡_ {A = ℕ} 0 1 = cc in omega arith);
-      fine = λ q. unfold Free concat in ap along (free at (suc c) k b ∙ ap (λ (i : ℕ). locate sheet i (suc c) 0 0 rest) (sym (add-zero at)));
+      fine = λ q. unfold concat in ap along (open-anywhere sheet at (suc c) k b rest free ∙ ap (λ (i : ℕ). locate sheet i (suc c) 0 0 rest) (sym (add-zero at)));
     }
     others-follow (r ∷ rs) h at k b =
         let ih = others-follow rs (h .1) (at + length r) (suc k) (kind r) in
@@ -219,7 +208,7 @@ module _ {library user : List ℕ} {nlib n sheet c : ℕ} (w : Passing library u
     unfolding classCount
     follows =
         let rest : List Group = drop (suc (w .place)) (groupsOf s) in
-        let free = joined-free g nlib n sheet rest (all-drop (λ h. T (oneClass h)) (suc (w .place)) (groupsOf s) groups-one) in
+        let free = split-join rest (all-drop (λ h. T (oneClass h)) (suc (w .place)) (groupsOf s) groups-one) .0 in
         let one : T (oneClass (g c)) = subst (λ (h : Group). T (oneClass h)) its-is (all-at (λ h. T (oneClass h)) [] (groupsOf s) groups-one (w .place) there) in
         let m : groupStart s (w .place + 1) ≡ groupStart s (w .place) + length (concat (g c)) = group-next (w .among .clear) (w .place) there ∙ ap (λ (h : Group). groupStart s (w .place) + length (concat h)) its-is in
         rw (m, start-is, ← (w .rest), split) (class-follows g nlib n sheet c (concat rest) free (g c) one (groupStart s (w .place)))

@@ -3,20 +3,20 @@
 use mathlib.Core.Path.{_≡_, refl, sym, ap, ap₂, _∙_, subst}
 use mathlib.Core.Bool.{Bool, true, false, not, _&&_, _||_}
 use mathlib.Core.List.{List, [], _∷_, _++_, map, append-assoc, append-nil}
-use Prim.Native.Nat.{ℕ, zero, suc, _+_, _*_, _≤_}
+use Prim.Native.Nat.{ℕ, zero, suc, _+_, _*_, _≤_, _<_}
 use native.Mathlib.Nat.{le-of-suc-le-suc, not-suc-le-zero, le-refl}
 use native.Mathlib.Omega.{arith}
 use lib.Dec.{T, eqb, leb, eqb→eq, leb→le, eqb-refl}
-use lib.ListN.{length, take, drop, length-append, take-append-drop, List·getD-append}
+use lib.ListN.{length, take, drop, length-append, length-drop, length-map, take-append-drop, List·getD-append}
 use lib.Seq.{take-append-seam, drop-append-seam, length-take-le}
 use borrow.Author.Tests.{le-leb}
 use Rattle.spec.specs.Lists.{any, concat}
 use Rattle.spec.specs.Record.{u16, isClass}
-use Rattle.spec.specs.Sheet.{Group, wholeFirst, recordsIn, recordsOf, wholeEnd, Split, splitGroups, groupsOf}
+use Rattle.spec.specs.Sheet.{Group, wholeFirst, recordsIn, recordsOf, wholeEnd, Split, splitGroups, groupsOf, classCount}
 use Rattle.spec.specs.Refusals.{oneClass, wholeGroup}
 use Rattle.theory.proofs.All.{All, all-append, all-left, all-right, all-map}
 use Rattle.theory.proofs.Parts.{u16-take}
-use Rattle.theory.proofs.Bools.{t-and, t-true, t-false, and-l, and-r, not-or-l, not-or-r}
+use Rattle.theory.proofs.Bools.{t-and, t-true, t-false, true-t, and-l, and-r, not-or-l, not-or-r}
 
 -- a list of bytes that is one whole record
 pub record Whole (r : List ℕ) : Type 0 where
@@ -52,6 +52,47 @@ module _ (s : List ℕ) where
 pub records-first : (n : ℕ) (s : List ℕ) → wholeFirst s ≡ true → recordsIn (suc n) s ≡ take (u16 s 0) s ∷ recordsIn n (drop (u16 s 0) s)
 unfolding recordsIn
 records-first n s e = rw (e, recordsIn)
+
+-- ---- the records one by one
+
+stop-in : (n : ℕ) (s : List ℕ) → wholeFirst s ≡ false → recordsIn n s ≡ []
+unfolding recordsIn
+stop-in zero s e = refl
+stop-in (suc n) s e = rw (e, recordsIn)
+
+pub short-stop : (s : List ℕ) → length s < 4 → wholeFirst s ≡ false
+short-stop s h = go (wholeFirst s) refl
+  where
+    go : (b : Bool) → wholeFirst s ≡ b → b ≡ false
+    go true e = absurd (omega (arith, first-is s (true-t e) .left))
+    go false e = refl
+
+-- fuel past the length changes nothing
+enough : (n m : ℕ) (s : List ℕ) → length s ≤ n → length s ≤ m → recordsIn n s ≡ recordsIn m s
+enough zero m s h k = stop-in zero s (short-stop s (omega arith)) ∙ sym (stop-in m s (short-stop s (omega arith)))
+enough (suc n) zero s h k = stop-in (suc n) s (short-stop s (omega arith)) ∙ sym (stop-in zero s (short-stop s (omega arith)))
+enough (suc n) (suc m) s h k = go (wholeFirst s) refl (enough n m)
+  where
+    go : (b : Bool) → wholeFirst s ≡ b → ((t : List ℕ) → length t ≤ n → length t ≤ m → recordsIn n t ≡ recordsIn m t) → recordsIn (suc n) s ≡ recordsIn (suc m) s
+    go true e ih =
+        let f = first-is s (true-t e) in
+        let d = length-drop (u16 s 0) s in
+        rw (records-first n s e, records-first m s e, ih (drop (u16 s 0) s) (omega arith) (omega arith))
+    go false e ih = stop-in (suc n) s e ∙ sym (stop-in (suc m) s e)
+
+pub records-step : (s : List ℕ) → wholeFirst s ≡ true → recordsOf s ≡ take (u16 s 0) s ∷ recordsOf (drop (u16 s 0) s)
+unfolding recordsOf
+records-step s e =
+    let t : List ℕ = drop (u16 s 0) s in
+    let f = first-is s (true-t e) in
+    let d = length-drop (u16 s 0) s in
+    enough (length s) (suc (length s)) s (omega arith) (omega arith) ∙ rw (records-first (length s) s e, enough (length s) (length t) t (omega arith) (omega arith))
+
+pub records-stop : (s : List ℕ) → wholeFirst s ≡ false → recordsOf s ≡ []
+unfolding recordsOf
+records-stop s e = stop-in (length s) s e
+
+-- ---- whole records end to end
 
 whole-first : (r t : List ℕ) → Whole r → wholeFirst (r ++ t) ≡ true
 whole-first r t w =
@@ -138,6 +179,10 @@ pub concat-append : {A : Type 0} (xs ys : List (List A)) → concat (xs ++ ys) �
 unfolding concat
 concat-append [] ys = refl
 concat-append (x ∷ xs) ys = ap (λ l. x ++ l) (concat-append xs ys) ∙ sym (append-assoc x (concat xs) (concat ys))
+
+pub front-low : (k : ℕ) (rs : List (List ℕ)) → length (concat (take k rs)) ≤ length (concat rs)
+front-low k rs =
+    omega (arith, ap (λ (l : List (List ℕ)). length (concat l)) (take-append-drop k rs), ap length (concat-append (take k rs) (drop k rs)), length-append (concat (take k rs)) (concat (drop k rs)))
 
 pub concat-concat : {A : Type 0} (xs : List (List (List A))) → concat (map concat xs) ≡ concat (concat xs)
 unfolding concat
@@ -245,6 +290,10 @@ unfolding groupsOf
 groups-of-join gs h =
     ap (λ (l : List (List ℕ)). splitGroups l .groups) (records-of-groups gs h)
     ∙ split-join (map recordsOf gs) (all-map IsGroup (λ r. T (oneClass r)) recordsOf group-one gs h) .1
+
+pub count-of-join : (gs : List (List ℕ)) → All IsGroup gs → classCount (concat gs) ≡ length gs
+unfolding classCount
+count-of-join gs h = ap length (groups-of-join gs h) ∙ length-map gs recordsOf
 
 -- a sheet of whole records that begins with a CLASS record, or is empty, is its groups end to end, and each is whole
 parts-whole : (xs : List Group) → All Whole (concat xs) → All (All Whole) xs

@@ -1,11 +1,13 @@
--- Rows of the values of a function.
+-- Rows of the values of a function, and rows that are filled one entry after the other.
 -- Assumes nothing.
-use mathlib.Core.Path.{_≡_, refl, ap, _∙_}
-use mathlib.Core.List.{map}
+use mathlib.Core.Path.{_≡_, refl, sym, ap, _∙_, subst}
+use mathlib.Core.List.{List, map}
 use Prim.Native.Nat.{ℕ, zero, suc, _+_, _<_}
 use native.Mathlib.Nat.{zero-add}
 use native.Mathlib.Omega.{arith}
-use lib.ListN.{length, getD, length-map}
+use lib.ListN.{length, getD, set, length-map}
+use lib.Seq.{getD-set-same, getD-set-other}
+use borrow.Author.Count.{below-more}
 use Rattle.spec.specs.Lists.{span}
 
 length-span : (i n : ℕ) → length (span i n) ≡ n
@@ -25,3 +27,8 @@ module _ (f : ℕ → ℕ) (n : ℕ) where
 
   pub getD-values : (d k : ℕ) → k < n → getD (map f (span 0 n)) k d ≡ f k
   getD-values d k h = values-from f d 0 n k h ∙ ap f (zero-add k)
+
+-- the entries below c and the new one at c: so all below c + 1
+pub set-below : (P : ℕ → ℕ → Type 0) (row : List ℕ) (c v : ℕ) → c < length row → ((d : ℕ) → d < c → P d (getD row d 0)) → P c v → (d : ℕ) → d < c + 1 → P d (getD (set row c v) d 0)
+set-below P row c v h f p =
+    below-more (λ d. P d (getD (set row c v) d 0)) c (λ d l. subst (P d) (sym (getD-set-other row c d v 0 (λ q. omega arith))) (f d l)) (subst (P c) (sym (getD-set-same row c v 0 h)) p)

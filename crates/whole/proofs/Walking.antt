@@ -1,7 +1,7 @@
 -- The records of a list of bytes, walked by positions: those from a byte on, and whether they end where the bytes end and no CLASS is among them.
 -- Assumes nothing.
 use mathlib.Core.Path.{_≡_, refl, sym, ap, _∙_}
-use mathlib.Core.Bool.{Bool, true, false, not, _&&_}
+use mathlib.Core.Bool.{Bool, true, false, not, _&&_, and-false}
 use mathlib.Core.List.{List, [], _∷_}
 use Prim.Native.Nat.{ℕ, zero, suc, _+_, _≤_, _<_}
 use native.Mathlib.Nat.{zero-add}
@@ -17,49 +17,10 @@ use Rattle.spec.specs.Sheet.{wholeFirst, recordsIn, recordsOf, wholeEnd}
 use Rattle.spec.specs.Refusals.{oneClass, wholeGroup}
 use Rattle.theory.proofs.Bools.{true-t}
 use Rattle.theory.proofs.Parts.{u16-here, part-length, part-kind}
-use Rattle.theory.proofs.Cut.{first-is, is-first, records-first}
+use Rattle.theory.proofs.Cut.{first-is, is-first, short-stop, records-step, records-stop}
 use Rattle.whole.specs.Lengths.{wholeLength}
 
--- ---- fuel
-
-records-stop-in : (n : ℕ) (s : List ℕ) → wholeFirst s ≡ false → recordsIn n s ≡ []
-unfolding recordsIn
-records-stop-in zero s e = refl
-records-stop-in (suc n) s e = rw (e, recordsIn)
-
-none-first : (s : List ℕ) → length s < 4 → wholeFirst s ≡ false
-none-first s h = go (wholeFirst s) refl
-  where
-    go : (b : Bool) → wholeFirst s ≡ b → b ≡ false
-    go true e = absurd (omega (arith, first-is s (true-t e) .left))
-    go false e = refl
-
--- as many steps as there are bytes are enough
-fuel : (n m : ℕ) (s : List ℕ) → length s ≤ n → length s ≤ m → recordsIn n s ≡ recordsIn m s
-fuel zero m s h k = records-stop-in zero s (none-first s (omega arith)) ∙ sym (records-stop-in m s (none-first s (omega arith)))
-fuel (suc n) zero s h k = records-stop-in (suc n) s (none-first s (omega arith)) ∙ sym (records-stop-in zero s (none-first s (omega arith)))
-fuel (suc n) (suc m) s h k = go (wholeFirst s) refl (fuel n m)
-  where
-    go : (b : Bool) → wholeFirst s ≡ b → ((t : List ℕ) → length t ≤ n → length t ≤ m → recordsIn n t ≡ recordsIn m t) → recordsIn (suc n) s ≡ recordsIn (suc m) s
-    go true e ih =
-        let f = first-is s (true-t e) in
-        let d = length-drop (u16 s 0) s in
-        rw (records-first n s e, records-first m s e, ih (drop (u16 s 0) s) (omega arith) (omega arith))
-    go false e ih = records-stop-in (suc n) s e ∙ sym (records-stop-in (suc m) s e)
-
 -- ---- the records from a byte on
-
-pub records-none : (s : List ℕ) → wholeFirst s ≡ false → recordsOf s ≡ []
-unfolding recordsOf
-records-none s e = records-stop-in (length s) s e
-
-records-some : (s : List ℕ) → wholeFirst s ≡ true → recordsOf s ≡ take (u16 s 0) s ∷ recordsOf (drop (u16 s 0) s)
-unfolding recordsOf
-records-some s e =
-    let t : List ℕ = drop (u16 s 0) s in
-    let f = first-is s (true-t e) in
-    let d = length-drop (u16 s 0) s in
-    fuel (length s) (suc (length s)) s (omega arith) (omega arith) ∙ rw (records-first (length s) s e, fuel (length s) (length t) t (omega arith) (omega arith))
 
 -- a whole record begins at `at`, n bytes long
 pub record Stands (s : List ℕ) (at n : ℕ) : Type 0 where
@@ -122,10 +83,6 @@ module _ (s : List ℕ) (at : ℕ) where
 unfoldable pub othersOnly : List ℕ → Bool
 othersOnly s = eqb (wholeEnd s) (length s) && not (any isClass (recordsOf s))
 
-and-false : (b : Bool) → (b && false) ≡ false
-and-false true = refl
-and-false false = refl
-
 shift-eqb : (n a b x y : ℕ) → a ≡ n + x → b ≡ n + y → eqb a b ≡ eqb x y
 shift-eqb n a b x y ea eb = go (ℕ-discrete x y)
   where
@@ -135,7 +92,7 @@ shift-eqb n a b x y ea eb = go (ℕ-discrete x y)
 
 module _ {s : List ℕ} {at n : ℕ} (w : Stands s at n) where
   pub records-here : recordsOf (drop at s) ≡ take n (drop at s) ∷ recordsOf (drop (at + n) s)
-  records-here = records-some (drop at s) (first-here s at w) ∙ rw (u16-here s at ∙ sym (w .size), drop-drop n at s)
+  records-here = records-step (drop at s) (first-here s at w) ∙ rw (u16-here s at ∙ sym (w .size), drop-drop n at s)
 
   end-here : eqb (wholeEnd (drop at s)) (length (drop at s)) ≡ eqb (wholeEnd (drop (at + n) s)) (length (drop (at + n) s))
   unfolding wholeEnd concat
@@ -165,17 +122,17 @@ module _ {s : List ℕ} {at n : ℕ} (w : Stands s at n) where
 
 none-stop : (s : List ℕ) (at : ℕ) → wholeFirst (drop at s) ≡ false → at < length s → othersOnly (drop at s) ≡ false
 unfolding othersOnly wholeEnd concat any
-none-stop s at e h = rw (records-none (drop at s) e) (ap (λ (b : Bool). b && true) (ne-eqb 0 (length (drop at s)) (λ q. omega (arith, length-drop at s))))
+none-stop s at e h = rw (records-stop (drop at s) e) (ap (λ (b : Bool). b && true) (ne-eqb 0 (length (drop at s)) (λ q. omega (arith, length-drop at s))))
 
 end-stop : (s : List ℕ) (at : ℕ) → length s ≤ at → othersOnly (drop at s) ≡ true
 unfolding othersOnly wholeEnd concat any
 end-stop s at h =
     let l : length (drop at s) ≡ 0 = omega (arith, length-drop at s) in
-    rw (records-none (drop at s) (none-first (drop at s) (omega arith))) (ap (λ (b : Bool). b && true) (eq-eqb 0 (length (drop at s)) (sym l)))
+    rw (records-stop (drop at s) (short-stop (drop at s) (omega arith))) (ap (λ (b : Bool). b && true) (eq-eqb 0 (length (drop at s)) (sym l)))
 
 none-at-all : (s : List ℕ) → wholeFirst s ≡ false → wholeGroup s ≡ false
 unfolding wholeGroup oneClass
-none-at-all s e = rw (records-none s e) (and-false (eqb (wholeEnd s) (length s)))
+none-at-all s e = rw (records-stop s e) (and-false (eqb (wholeEnd s) (length s)))
 
 -- ---- the code's steps: n is the length that it read, k the kind
 

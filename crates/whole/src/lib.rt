@@ -1,25 +1,15 @@
 // Whether the bytes of a group are whole records with one CLASS, its first.
+use view::word_in;
 ghost use mathlib.Core.Path.{_≡_};
 ghost use Prim.Native.Nat.{_+_, _-_, _≤_, _<_};
 ghost use lib.ListN.{length};
-ghost use Rattle.spec.specs.Record.{u16};
 ghost use Rattle.spec.specs.Refusals.{wholeGroup};
 ghost use Rattle.whole.specs.Lengths.{wholeLength};
 
-fn wide(x: u8) -> usize
-    ensures { λ r. ⌜ (r ≡ x) × (r < 256) ⌝ }
+fn wide(x: u16) -> usize
+    ensures { λ r. ⌜ (r ≡ x) × (r < 65536) ⌝ }
 {
     x as usize
-}
-
-// The little-endian number at i.
-fn word(group: &[u8], i: usize) -> usize
-    requires { ⌜ i + 2 ≤ length (now group) ⌝ }
-    ensures { λ r. ⌜ r ≡ u16 (now (group .entry)) i ⌝ }
-{
-    let low = wide(group[i]);
-    let high = wide(group[i + 1]);
-    low + 256 * high
 }
 
 // The length of the whole record at `at`, 0 if none begins there.
@@ -33,7 +23,7 @@ pub fn whole_length(group: &[u8], at: usize) -> usize
     if left < 4 {
         return 0;
     }
-    let len = word(group, at);
+    let len = wide(word_in(group, at));
     if len < 4 {
         return 0;
     }
@@ -50,7 +40,7 @@ pub fn whole_group(group: &[u8]) -> bool
     if at == 0 {
         return false;
     }
-    if word(group, 2) != 1 {
+    if word_in(group, 2) != 1 {
         return false;
     }
     while at < group.len() {
@@ -58,7 +48,7 @@ pub fn whole_group(group: &[u8]) -> bool
         if len == 0 {
             return false;
         }
-        if word(group, at + 2) == 1 {
+        if word_in(group, at + 2) == 1 {
             return false;
         }
         at += len;

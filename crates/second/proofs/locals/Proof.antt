@@ -2,7 +2,8 @@
 -- Assumes nothing.
 use borrow.Author.Needs.{needs}
 use mathlib.Core.Path.{_∙_}
-use Rattle.second.proofs.Counting.{counted-in, count-user}
+use Rattle.groups.proofs.Bytes.{counted-in}
+use Rattle.second.proofs.Counting.{count-user}
 use Rattle.second.proofs.locals.Statement.{statement}
 use Rattle.second.proofs.locals.Tie as tie
 

@@ -2,7 +2,8 @@
 -- Assumes nothing.
 use borrow.Author.Needs.{needs}
 use mathlib.Core.Path.{_∙_}
-use Rattle.second.proofs.Counting.{counted-in, count-library}
+use Rattle.groups.proofs.Bytes.{counted-in}
+use Rattle.second.proofs.Counting.{count-library}
 use Rattle.second.proofs.members.Statement.{statement}
 use Rattle.second.proofs.members.Tie as tie
 

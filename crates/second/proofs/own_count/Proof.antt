@@ -2,7 +2,8 @@
 -- Assumes nothing.
 use borrow.Author.Needs.{needs}
 use mathlib.Core.Path.{sym, _∙_}
-use Rattle.second.proofs.Counting.{counted-in, count-low, count-library, count-user}
+use Rattle.groups.proofs.Bytes.{counted-in}
+use Rattle.second.proofs.Counting.{count-low, count-library, count-user}
 use native.Mathlib.Omega.{arith}
 use Rattle.second.proofs.own_count.Statement.{statement}
 use Rattle.second.proofs.own_count.Tie as tie

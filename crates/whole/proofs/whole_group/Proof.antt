@@ -20,14 +20,14 @@ whole-length-requires c κs = search needs
 returns : tie.Need-returns Inv-loop μ-loop
 returns c = start-torn _ (c .before .whole-length .ensures .0) (c .if1 .taken)
 
-word-requires : tie.Need-word-requires Inv-loop μ-loop
-word-requires c κs = omega (arith, length-some _ _ (c .before .whole-length .ensures .0) (c .if1 .left))
+word-in-requires : tie.Need-word-in-requires Inv-loop μ-loop
+word-in-requires c κs = omega (arith, length-some _ _ (c .before .whole-length .ensures .0) (c .if1 .left))
 
 returns-2 : tie.Need-returns-2 Inv-loop μ-loop
-returns-2 c = start-other _ (c .before .before .before .whole-length .ensures .0) (c .before .before .if1 .left) (c .before .word .ensures) (c .if2 .taken)
+returns-2 c = start-other _ (c .before .before .before .whole-length .ensures .0) (c .before .before .if1 .left) (c .before .word-in .ensures) (c .if2 .taken)
 
 loop-holds : tie.Need-loop-holds Inv-loop μ-loop
-loop-holds c = start-class (c .before .before .before .whole-length .ensures .0) (c .before .before .if1 .left) (c .before .word .ensures) (c .if2 .left)
+loop-holds c = start-class (c .before .before .before .whole-length .ensures .0) (c .before .before .if1 .left) (c .before .word-in .ensures) (c .if2 .left)
 
 whole-length-requires-2 : tie.Need-whole-length-requires-2 Inv-loop μ-loop
 whole-length-requires-2 c κs = search needs
@@ -35,14 +35,14 @@ whole-length-requires-2 c κs = search needs
 returns-3 : tie.Need-returns-3 Inv-loop μ-loop
 returns-3 c = go-torn (c .before .before .before .loop .inv) (c .before .whole-length2 .ensures .0) (c .before .before .loop-test .taken) (c .if3 .taken)
 
-add-word : tie.Need-add-word Inv-loop μ-loop
-add-word c = omega (arith, length-some _ _ (c .before .whole-length2 .ensures .0) (c .if3 .left))
+add-word-in : tie.Need-add-word-in Inv-loop μ-loop
+add-word-in c = omega (arith, length-some _ _ (c .before .whole-length2 .ensures .0) (c .if3 .left))
 
-word-requires-2 : tie.Need-word-requires-2 Inv-loop μ-loop
-word-requires-2 c κs = omega (arith, length-some _ _ (c .before .whole-length2 .ensures .0) (c .if3 .left))
+word-in-requires-2 : tie.Need-word-in-requires-2 Inv-loop μ-loop
+word-in-requires-2 c κs = omega (arith, length-some _ _ (c .before .whole-length2 .ensures .0) (c .if3 .left))
 
 returns-4 : tie.Need-returns-4 Inv-loop μ-loop
-returns-4 c = go-class (c .before .before .before .before .before .loop .inv) (c .before .before .before .whole-length2 .ensures .0) (c .before .before .if3 .left) (c .before .word2 .ensures) (c .if4 .taken)
+returns-4 c = go-class (c .before .before .before .before .before .loop .inv) (c .before .before .before .whole-length2 .ensures .0) (c .before .before .if3 .left) (c .before .word-in2 .ensures) (c .if4 .taken)
 
 add-at : tie.Need-add-at Inv-loop μ-loop
 add-at c = omega (arith, length-some _ _ (c .before .before .before .whole-length2 .ensures .0) (c .before .before .if3 .left))
@@ -51,7 +51,7 @@ loop-less : tie.Need-loop-less Inv-loop μ-loop
 loop-less c = omega (arith, length-some _ _ (c .before .before .before .whole-length2 .ensures .0) (c .before .before .if3 .left))
 
 loop-again : tie.Need-loop-again Inv-loop μ-loop
-loop-again c = go-other (c .before .before .before .before .before .loop .inv) (c .before .before .before .whole-length2 .ensures .0) (c .before .before .if3 .left) (c .before .word2 .ensures) (c .if4 .left)
+loop-again c = go-other (c .before .before .before .before .before .loop .inv) (c .before .before .before .whole-length2 .ensures .0) (c .before .before .if3 .left) (c .before .word-in2 .ensures) (c .if4 .left)
 
 returns-5 : tie.Need-returns-5 Inv-loop μ-loop
 returns-5 c = go-end (c .before .loop .inv) (c .loop-test .left)
@@ -64,13 +64,13 @@ whole-group-spec =
     μ-loop
     whole-length-requires
     returns
-    word-requires
+    word-in-requires
     returns-2
     loop-holds
     whole-length-requires-2
     returns-3
-    add-word
-    word-requires-2
+    add-word-in
+    word-in-requires-2
     returns-4
     add-at
     loop-less
