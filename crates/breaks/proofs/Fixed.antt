@@ -1,7 +1,7 @@
 -- Encloser and captured variables: slots that never change, so rule 9 has nothing to say of them, and the others ask their types alone.
 -- Assumes nothing.
 use mathlib.Core.Path.{_≡_, refl, sym, ap, ap₂, _∙_}
-use mathlib.Core.Bool.{Bool, true, false, not, _&&_, _||_, or-false}
+use mathlib.Core.Bool.{Bool, true, false, not, _&&_, _||_, or-true, or-false}
 use mathlib.Core.List.{List, [], _∷_, _++_, map, append-nil}
 use mathlib.Core.Option.{none}
 use Prim.Native.Nat.{ℕ, _/_, _%_, _≤_, _<_}
@@ -13,6 +13,7 @@ use Rattle.spec.specs.Sheet.{Group, total, group, classCount, classRecord, ofKi
 use Rattle.spec.specs.Classes.{Slot, encloserSlot, variableSlot, classTy, enclosing, localAt, captured, hasMarker, satisfies, encloserSlots, capturedSlots}
 use Rattle.spec.specs.Refusals.{formRefusal, encloserFits}
 use Rattle.theory.proofs.All.{All, all-append, all-if, all-kept, any-cong}
+use Rattle.theory.proofs.Somewhere.{any-append, any-never}
 use Rattle.theory.proofs.Accept.{Fits, form-fits}
 use Rattle.theory.proofs.Form.{one-record, group-one-class}
 use Rattle.groups.specs.Groups.{Indexed}
@@ -42,22 +43,6 @@ all-still g t =
     all-append Still (encloserSlots g t) (capturedSlots g t)
     (all-if Still (isInner (g t)) (map (encloserSlot t) (enclosing (g t))) [] (map-still (encloserSlot t) (λ e. record { final = refl; transient = refl }) (enclosing (g t))) tt)
     (gather-still (λ v. map (variableSlot (v .0)) (localAt (g (v .0)) (v .1))) (λ v. map-still (variableSlot (v .0)) (λ n. record { final = refl; transient = refl }) (localAt (g (v .0)) (v .1))) (captured g t))
-
--- ---- a test somewhere in a list
-
-any-append : {A : Type 0} (p : A → Bool) (xs ys : List A) → any p (xs ++ ys) ≡ (any p xs || any p ys)
-unfolding any
-any-append p [] ys = refl
-any-append p (x ∷ xs) ys = ap (λ (b : Bool). p x || b) (any-append p xs ys) ∙ assoc (p x) (any p xs) (any p ys)
-  where
-    assoc : (a b c : Bool) → (a || (b || c)) ≡ ((a || b) || c)
-    assoc true b c = refl
-    assoc false b c = refl
-
-any-never : {A : Type 0} (xs : List A) → any (λ x. false) xs ≡ false
-unfolding any
-any-never [] = refl
-any-never (x ∷ xs) = any-never xs
 
 -- ---- all of them
 
@@ -98,10 +83,6 @@ module _ (g : ℕ → Group) {rule : ℕ} (t : ℕ) where
 
       pub captured-lacks : b ≡ true → true ≡ fixedBreaks g rule t
       captured-lacks e = sym (fixed-is ∙ ap (λ (c : Bool). lacks g (ruleMarker rule) (encloserSlots g t) || c) (lane-is ∙ e) ∙ or-true (lacks g (ruleMarker rule) (encloserSlots g t)))
-        where
-          or-true : (a : Bool) → (a || true) ≡ true
-          or-true true = refl
-          or-true false = refl
 
       module _ (e : b ≡ false) where
         enclosers-left : fixedBreaks g rule t ≡ lacks g (ruleMarker rule) (encloserSlots g t)

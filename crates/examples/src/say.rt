@@ -1,4 +1,6 @@
-// What is written: the answers of `marks`, `name_place` and `name` on one line, and a row of verdicts.
+// What is written: the answers of `marks`, `name_place` and `name` on one line, what a reader finds, and a row of verdicts.
+use reader::Found;
+use reader::nth;
 use verifier::Marked;
 use verifier::Placed;
 use verifier::marks;
@@ -46,6 +48,21 @@ pub(crate) fn answers<'a>(library: &'a [u8], user: &'a [u8], used: usize, class:
     say_marks(library, user, used, class);
     say_place(library, user, used, class);
     say_name(library, user, used, class);
+}
+
+// Record n of a sheet.
+pub(crate) fn say_record(sheet: &[u8], n: usize) {
+    match nth(sheet, n) {
+        Found::Record { start, len } => {
+            number(b": record at ", start);
+            number(b", bytes ", len);
+        }
+        Found::Broken { start } => number(b": broken at ", start),
+        Found::End => {
+            io::write_all(1, b": end");
+        }
+    }
+    io::write_all(1, b"\n");
 }
 
 // A byte of a row stands after a colon, a space or a bar: two bytes are one class's verdict.

@@ -10,6 +10,7 @@
 //   scratch N          how many bytes of scratch are lent
 //   expect R K | R K   the verdicts that the case must have
 //   ask C              writes what `marks`, `name_place` and `name` answer of class C
+//   record N           writes what a reader of the user sheet finds as record N
 //   judge              writes what `judge` answers, and whether the buffers and the verdicts are as they must be
 //   open               as judge, and begins a week: its row is kept
 //   add BYTES          writes what `add` answers of that group, the used length and the kept row after it
@@ -27,6 +28,7 @@ use crate::line::rest;
 use crate::line::same;
 use crate::line::word;
 use crate::say::answers;
+use crate::say::say_record;
 use crate::sheet::bytes;
 use crate::sheet::repeated;
 use crate::sheet::verdicts;
@@ -157,6 +159,10 @@ fn set(
     }
     if same(verb, b"ask") {
         ask(library, user, case, number(words));
+        return case;
+    }
+    if same(verb, b"record") {
+        say_record(start(user, case.used), number(words));
         return case;
     }
     if same(verb, b"judge") {

@@ -2,10 +2,10 @@
 use captured::captures;
 use lanes::fill;
 use overlay::overlays;
+use rules::Verdict;
 use rules::verdict_of;
-use survey::first_rule;
+use survey::clean;
 use survey::passes;
-use survey::refused;
 use view::Cut;
 ghost use mathlib.Core.Path.{_≡_};
 ghost use mathlib.Core.Option.{none};
@@ -22,10 +22,40 @@ ghost use Rattle.groups.specs.Groups.{Indexed};
 ghost use Rattle.overlay.specs.Memo.{Right};
 ghost use Rattle.overlay.specs.Types.{Known};
 ghost use Rattle.captured.specs.Captured.{Shown};
-ghost use Rattle.survey.specs.Survey.{Passing, Refusing};
+ghost use Rattle.rules.specs.Line.{lineOf};
+ghost use Rattle.survey.specs.Survey.{Passing};
 ghost use Rattle.flat.specs.Row.{putIf, chosen, faultedIn, markedIn};
 
-// Writes the verdict of class c if its mark is 0. The walk of its rules starts at the lowest that it can break, so a clean class needs none.
+// The verdict of class c: a clean class needs no walk over the rules.
+fn judged<'a>(
+    library: &'a [u8],
+    user: &'a [u8],
+    group: &'a [u8],
+    cut: Cut,
+    starts: &[u16],
+    nlib: usize,
+    n: usize,
+    markers: &[u8],
+    row: &[u8],
+    sets: &[u8],
+    c: usize,
+) -> Verdict
+    requires { ⌜ Fits cut (now user) (now group) ⌝ }
+    requires { ⌜ Indexed (now library) (spliced (now user) (now group) cut) nlib n (now starts) ⌝ }
+    requires { ⌜ formRefusal (now library) (spliced (now user) (now group) cut) ≡ none ⌝ }
+    requires { ⌜ Known (groupOf (now library) (spliced (now user) (now group) cut)) (now markers) ⌝ }
+    requires { ⌜ Shown (groupOf (now library) (spliced (now user) (now group) cut)) n (now row) ⌝ }
+    requires { ⌜ Passing nlib n (groupOf (now library) (spliced (now user) (now group) cut)) (now sets) ⌝ }
+    requires { ⌜ (nlib ≤ c) × (c < n) ⌝ }
+    ensures { λ r. ⌜ lineOf r ≡ verdictOf nlib (groupOf (now (library .entry)) (spliced (now (user .entry)) (now (group .entry)) cut)) c ⌝ }
+{
+    if clean(library, user, group, cut, starts, nlib, n, markers, sets, c) {
+        return Verdict { rule: 0, record: 0 };
+    }
+    verdict_of(library, user, group, cut, starts, nlib, n, markers, row, c)
+}
+
+// Writes the verdict of class c if its mark is 0.
 fn rewrite_class<'a>(
     library: &'a [u8],
     user: &'a [u8],
@@ -37,8 +67,6 @@ fn rewrite_class<'a>(
     markers: &[u8],
     row: &[u8],
     sets: &[u8],
-    banned: &[u8],
-    partial: &[u8],
     marks: &[u8],
     c: usize,
     verdicts: &mut [u8],
@@ -49,7 +77,6 @@ fn rewrite_class<'a>(
     requires { ⌜ Known (groupOf (now library) (spliced (now user) (now group) cut)) (now markers) ⌝ }
     requires { ⌜ Shown (groupOf (now library) (spliced (now user) (now group) cut)) n (now row) ⌝ }
     requires { ⌜ Passing nlib n (groupOf (now library) (spliced (now user) (now group) cut)) (now sets) ⌝ }
-    requires { ⌜ Refusing nlib (groupOf (now library) (spliced (now user) (now group) cut)) (now banned) (now partial) nlib ⌝ }
     requires { ⌜ (256 ≤ length (now marks)) × (n - nlib ≤ flatLines (now verdicts)) ⌝ }
     requires { ⌜ (nlib ≤ c) × (c < n) ⌝ }
     ensures { λ r. ⌜ now (verdicts .exit) ≡ putIf (eqb (getD (now (marks .entry)) c 0) 0) (2 * (c - nlib)) (verdictOf nlib (groupOf (now (library .entry)) (spliced (now (user .entry)) (now (group .entry)) cut)) c) (now (verdicts .entry)) ⌝ }
@@ -57,21 +84,7 @@ fn rewrite_class<'a>(
     if marks[c] != 0 {
         return;
     }
-    let first = first_rule(
-        library,
-        user,
-        group,
-        cut,
-        starts,
-        nlib,
-        n,
-        markers,
-        sets,
-        banned,
-        partial,
-        c,
-    );
-    let verdict = verdict_of(
+    let verdict = judged(
         library,
         user,
         group,
@@ -81,8 +94,8 @@ fn rewrite_class<'a>(
         n,
         markers,
         row,
+        sets,
         c,
-        first,
     );
     let at = 2 * (c - nlib);
     verdicts[at] = verdict.rule;
@@ -101,8 +114,6 @@ pub fn rewrite<'a>(
     markers: &[u8],
     row: &[u8],
     sets: &[u8],
-    banned: &[u8],
-    partial: &[u8],
     marks: &[u8],
     verdicts: &mut [u8],
 )
@@ -112,7 +123,6 @@ pub fn rewrite<'a>(
     requires { ⌜ Known (groupOf (now library) (spliced (now user) (now group) cut)) (now markers) ⌝ }
     requires { ⌜ Shown (groupOf (now library) (spliced (now user) (now group) cut)) n (now row) ⌝ }
     requires { ⌜ Passing nlib n (groupOf (now library) (spliced (now user) (now group) cut)) (now sets) ⌝ }
-    requires { ⌜ Refusing nlib (groupOf (now library) (spliced (now user) (now group) cut)) (now banned) (now partial) nlib ⌝ }
     requires { ⌜ (256 ≤ length (now marks)) × (n - nlib ≤ flatLines (now verdicts)) ⌝ }
     ensures { λ r. ⌜ now (verdicts .exit) ≡ flatRewritten (chosen nlib n (now (marks .entry))) (λ i. verdictOf nlib (groupOf (now (library .entry)) (spliced (now (user .entry)) (now (group .entry)) cut)) (nlib + i)) (now (verdicts .entry)) ⌝ }
 {
@@ -129,8 +139,6 @@ pub fn rewrite<'a>(
             markers,
             row,
             sets,
-            banned,
-            partial,
             marks,
             c,
             verdicts,
@@ -198,19 +206,6 @@ pub fn rejudge<'a>(
         scratch,
         &mut sets,
     );
-    let mut banned = [0u8; 256];
-    let mut partial = [0u8; 256];
-    refused(
-        library,
-        user,
-        group,
-        cut,
-        starts,
-        nlib,
-        n,
-        &mut banned,
-        &mut partial,
-    );
     rewrite(
         library,
         user,
@@ -222,8 +217,6 @@ pub fn rejudge<'a>(
         &markers,
         scratch,
         &sets,
-        &banned,
-        &partial,
         marks,
         verdicts,
     );

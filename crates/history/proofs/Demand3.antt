@@ -24,11 +24,13 @@ use Rattle.theory.proofs.Bools.{decide, and-l, not-or-l, eq→eqb}
 use Rattle.theory.proofs.All.{All, all-append, all-gather, all-set}
 use Rattle.theory.proofs.Cut.{IsGroup, count-of-join, sheet-grouped, sheet-groups}
 use Rattle.theory.proofs.Answers.{first-none, none-first, plain-none}
+use Rattle.theory.proofs.Demand2.{demand2}
 use Rattle.theory.proofs.Local.{verdict-same, locality}
 use Rattle.theory.proofs.New.{new-sheets}
 use Rattle.theory.proofs.Form.{depends-on}
 use Rattle.theory.proofs.Accept.{Fits, Clear, Sound, sound}
 use Rattle.history.specs.Model.{Call, add, replace, Model, sheet, used, buffer, opened, modelRefusal, newGroups, newSheet, modelValue, modelAnswer, changed}
+use Rattle.history.specs.Judged.{RightAt}
 use Rattle.history.specs.Demand3.{RowLaws, Dependent, Value, MayChange, Done, Runs, Agrees, Answers, Follows, Demand3}
 use Rattle.history.proofs.Flat.{flat-laws}
 use Rattle.history.proofs.Counting.{counted-by}
@@ -148,26 +150,36 @@ module _ (row : VerdictRow) (laws : RowLaws row) where
     acceptable : Acceptable (m .library) (sheet m) (m .lines)
     verdicts-are : (i : ℕ) → i < classCount (sheet m) → row .at (s .verdicts) i ≡ userVerdict (m .library) (sheet m) i
 
-  agrees : (m : Model) (s : State row) → Good m s → Agrees row m s
-  unfolding judgeRefusal
-  agrees m s h = record {
-    user-is = h .holds .user-is;
-    used-is = h .holds .used-is;
-    lines-are = h .holds .lines-are;
-    accepted = none-first (presentRefusal (m .library) (buffer m) (used m) ∷ shortRefusal (classCount (take (used m) (buffer m))) (m .lines) scratchLength ∷ []) (
-      facts-present (m .library) (buffer m) (used m) (record {
-        library-size = h .library-size;
-        user-size = unfold used in h .acceptable .size;
-        in-buffer = unfold used buffer in omega (arith, length-append (sheet m) (m .past));
-        sheets = ap (sheetRefusal (m .library)) (front-is m) ∙ h .acceptable .sheets;
-      }),
-      (
-        none-short (classCount (take (used m) (buffer m))) (m .lines) (subst (λ (u : List ℕ). classCount u ≤ m .lines) (sym (front-is m)) (h .acceptable .room)),
-        tt,
-      ),
-    );
-    verdicts-are = h .verdicts-are;
-  }
+  module _ (m : Model) (s : State row) (h : Good m s) where
+    present : presentRefusal (m .library) (buffer m) (used m) ≡ none
+    present =
+        facts-present (m .library) (buffer m) (used m) (record {
+          library-size = h .library-size;
+          user-size = unfold used in h .acceptable .size;
+          in-buffer = unfold used buffer in omega (arith, length-append (sheet m) (m .past));
+          sheets = ap (sheetRefusal (m .library)) (front-is m) ∙ h .acceptable .sheets;
+        })
+
+    agrees : Agrees row m s
+    unfolding judgeRefusal userVerdict total
+    agrees = record {
+      user-is = h .holds .user-is;
+      used-is = h .holds .used-is;
+      lines-are = h .holds .lines-are;
+      accepted = none-first (presentRefusal (m .library) (buffer m) (used m) ∷ shortRefusal (classCount (take (used m) (buffer m))) (m .lines) scratchLength ∷ []) (
+        present,
+        (
+          none-short (classCount (take (used m) (buffer m))) (m .lines) (subst (λ (u : List ℕ). classCount u ≤ m .lines) (sym (front-is m)) (h .acceptable .room)),
+          tt,
+        ),
+      );
+      verdicts-are = h .verdicts-are;
+      verdicts-right = λ lb ub i k.
+          let front : i < classCount (take (used m) (buffer m)) = subst (λ (u : List ℕ). i < classCount u) (sym (front-is m)) k in
+          let right : RightAt (m .library) (take (used m) (buffer m)) i (verdictAt (m .library) (take (used m) (buffer m)) (classCount (m .library) + i)) =
+          demand2 (m .library) (buffer m) (used m) (record { libraryBytes = lb; userBytes = ub; unrefused = present }) (classCount (m .library) + i) (omega arith) (omega arith) in
+          subst (RightAt (m .library) (sheet m) i) (sym (h .verdicts-are i k)) (subst (λ (u : List ℕ). RightAt (m .library) u i (verdictAt (m .library) u (classCount (m .library) + i))) (front-is m) right);
+    }
 
   -- ---- one call
 

@@ -3,4 +3,5 @@ pub mod Counting
 pub mod Unrefused
 pub mod Model
 pub mod Steps
+pub mod Judged
 pub mod Demand3

@@ -8,6 +8,7 @@ use mathlib.Core.Option.{none, some}
 use Prim.Native.Nat.{ℕ, suc, _+_, _<_}
 use lib.Dec.{T}
 use lib.ListN.{length}
+use Rattle.spec.specs.Record.{Bytes}
 use Rattle.spec.specs.Sheet.{classCount, total, group}
 use Rattle.spec.specs.Rules.{Verdict}
 use Rattle.spec.specs.Relations.{Depends}
@@ -15,6 +16,7 @@ use Rattle.spec.specs.Breaks.{Not}
 use Rattle.spec.specs.Refusals.{Refusal, scratchLength, judgeRefusal}
 use Rattle.spec.specs.Verdicts.{userVerdict, VerdictRow}
 use Rattle.spec.specs.Promises.{Answer, accepted, Counts, Judges, State, Adds, Replaces, afterwards, cleared}
+use Rattle.history.specs.Judged.{RightAt}
 use Rattle.history.specs.Model.{Call, add, replace, Model, sheet, used, buffer, opened, modelRefusal, newSheet, modelAnswer, modelStep}
 
 -- what a row of verdicts must satisfy: rewriting keeps how many it takes, writes the verdicts asked for and leaves every other one
@@ -69,13 +71,15 @@ module _ (row : VerdictRow) where
 
   -- ---- what is claimed
 
-  -- judging the model's sheets from nothing is accepted, and each class's verdict in the row is the one that it gives; buffer and used length are the model's
+  -- judging the model's sheets from nothing is accepted, and each class's verdict in the row is the one that it gives and is right about the rules that the class breaks; buffer and used length are the model's
   pub record Agrees (m : Model) (s : State row) : Type 0 where
     pub user-is : s .user ≡ buffer m
     pub used-is : s .used ≡ used m
     pub lines-are : row .lines (s .verdicts) ≡ m .lines
     pub accepted : judgeRefusal (m .library) (buffer m) (used m) (m .lines) scratchLength ≡ none
     pub verdicts-are : (i : ℕ) → i < classCount (sheet m) → row .at (s .verdicts) i ≡ userVerdict (m .library) (sheet m) i
+    -- demand 2 of the row; a slice of bytes has `Bytes` by its type
+    pub verdicts-right : Bytes (m .library) → Bytes (buffer m) → (i : ℕ) → i < classCount (sheet m) → RightAt (m .library) (sheet m) i (row .at (s .verdicts) i)
 
   -- the answer is the model's; a refused call changes nothing; an accepted one answers what it should, clears the scratch and keeps every verdict that it may not change
   pub record Answers (m : Model) (before : State row) (d : Done) : Type 0 where

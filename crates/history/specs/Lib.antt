@@ -1,2 +1,3 @@
 pub mod Model
+pub mod Judged
 pub mod Demand3

@@ -16,8 +16,8 @@ use Rattle.spec.specs.Classes.{superclasses, hasMarker, lineageIn, lineage, roo
 use Rattle.spec.specs.Rules.{judgedFor}
 use Rattle.theory.proofs.Bools.{decide, true-t, and-l}
 use Rattle.theory.proofs.Falls.{Falls}
-use Rattle.theory.proofs.Lines.{walk-enough, lineage-library, lineage-more, root-library, root-more}
-use Rattle.theory.proofs.Form.{Super}
+use Rattle.theory.proofs.Lines.{lineage-library, root-library}
+use Rattle.theory.proofs.Form.{Super, lineage-up, root-up}
 use Rattle.breaks.specs.Breaking.{ruleMarker}
 use Rattle.rules.specs.Walk.{above, order, afterward, firstClass, nextClass, classesFrom}
 
@@ -47,32 +47,9 @@ module _ (nlib n : ℕ) (g : ℕ → Group) (f : Falls g) (supers : (c : ℕ) �
   abbrev pub sup : ℕ → ℕ
   sup t = superclass (classRecord (g t))
 
-  -- ---- one step up
-
-  -- a walk that is found by superclasses, one step up from a user class
-  step-up : (F : ℕ → ℕ → List ℕ) (start : List ℕ) (t : ℕ) → Super g t → ((m d : ℕ) → d < m → F m d ≡ F (suc d) d) → F (suc t) t ≡ start ++ gather (F t) (superclasses (g t))
-      → F (suc t) t ≡ start ++ F (suc (sup t)) (sup t)
-  unfolding gather
-  step-up F start t u enough e =
-      e ∙ ap (λ (l : List ℕ). start ++ gather (F t) l) (u .only) ∙ ap (λ (l : List ℕ). start ++ l) (append-nil (F t (sup t)) ∙ enough t (sup t) (u .lower))
-
-  pub lineage-up : (t : ℕ) → nlib ≤ t → Super g t → lineage nlib g t ≡ t ∷ lineage nlib g (sup t)
-  unfolding lineage
-  lineage-up t h u =
-      step-up (lineageIn nlib g) (t ∷ []) t u
-      (λ m d k. walk-enough nlib g f (lineageIn nlib g) (λ c. []) (λ c. c ∷ []) (lineage-library nlib g f) (lineage-more nlib g f) m (suc d) d k (le-refl (suc d)))
-      (lineage-more nlib g f t t h)
-
-  pub root-up : (t : ℕ) → nlib ≤ t → Super g t → root nlib g t ≡ root nlib g (sup t)
-  unfolding root
-  root-up t h u =
-      step-up (rootIn nlib g) [] t u
-      (λ m d k. walk-enough nlib g f (rootIn nlib g) (λ c. c ∷ []) (λ c. []) (root-library nlib g f) (root-more nlib g f) m (suc d) d k (le-refl (suc d)))
-      (root-more nlib g f t t h)
-
   above-up : (c t : ℕ) → nlib ≤ t → Super g t → above nlib g c t ≡ t ∷ above nlib g c (sup t)
   unfolding above
-  above-up c t h u = ap₂ (λ (a b : List ℕ). a ++ (b ++ (c ∷ []))) (lineage-up t h u) (root-up t h u)
+  above-up c t h u = ap₂ (λ (a b : List ℕ). a ++ (b ++ (c ∷ []))) (lineage-up nlib g f t h u) (root-up nlib g f t h u)
 
   above-library : (c t : ℕ) → t < nlib → above nlib g c t ≡ t ∷ c ∷ []
   unfolding above lineage root

@@ -28,11 +28,17 @@ use Rattle.groups.proofs.Few.{group-few}
 use Rattle.second.specs.Second.{Sized}
 use Rattle.second.proofs.Positions.{walk-sized}
 use Rattle.breaks.specs.Breaking.{breaksAt}
-use Rattle.rules.specs.Walk.{onlyFirst, asked, foundIn, found, afterward, classesFrom, firstClass, nextClass, walked, RuleAt}
+use Rattle.rules.specs.Walk.{onlyFirst, asked, foundIn, found, afterward, classesFrom, firstClass, nextClass, walked}
 use Rattle.rules.proofs.Ascent.{Spot, left, Onward, Begins, after-self, from-there, from-past, onward, begins}
 use Rattle.rules.proofs.Hits.{asked-all, asked-one}
 use Rattle.rules.proofs.Records.{walk-part}
 use Rattle.rules.proofs.Verdicts.{Ground, verdict, none-found, first-found}
+
+-- no rule before this one finds anything
+pub record RuleAt (nlib : ℕ) (g : ℕ → Group) (c rule : ℕ) : Type 0 where
+  pub some : 1 ≤ rule
+  pub few : rule ≤ 11
+  pub clear : (i : ℕ) → 1 ≤ i → i < rule → walked nlib g i c ≡ []
 
 -- this rule finds what it finds from class t on
 pub record ClassAt (nlib n : ℕ) (g : ℕ → Group) (c rule t : ℕ) : Type 0 where
@@ -54,6 +60,9 @@ pub record RecordAt (library user : List ℕ) (nlib n c rule t : ℕ) (s : List 
   pub rest : walked nlib (group library user) rule c ≡ foundIn nlib (group library user) rule c t k (between s at end) ++ gather (found nlib (group library user) rule c) (afterward nlib (group library user) c t)
 
 -- ---- rules
+
+pub rule-start : {nlib : ℕ} {g : ℕ → Group} {c : ℕ} → RuleAt nlib g c 1
+rule-start = record { some = omega arith; few = omega arith; clear = λ i h k. absurd (omega arith) }
 
 pub rule-end : {nlib n : ℕ} {g : ℕ → Group} → Ground nlib n g → {c rule : ℕ} → nlib ≤ c → c < n → RuleAt nlib g c rule → 10 < rule → verdictOf nlib g c ≡ clean
 rule-end w user there r h = none-found w user there (λ i a b. r .clear i a (omega arith))

@@ -24,10 +24,9 @@ use Rattle.theory.proofs.Falls.{Falls}
 use Rattle.theory.proofs.Lines.{lineage-is, root-is, lineage-user}
 use Rattle.theory.proofs.Slots.{place-other, place-zero}
 use Rattle.theory.proofs.Faults.{Stands, stands-append, stands-only, Failing, failing-is}
-use Rattle.theory.proofs.Form.{Super}
+use Rattle.theory.proofs.Form.{Super, lineage-up, root-up}
 use Rattle.breaks.specs.Breaking.{ruleMarker, slotFits, fixedBreaks, rootBreaks, baseBreaks, fieldBreaks, headBreaks, firstRules, breaksAt}
 use Rattle.rules.specs.Walk.{onlyFirst, asked, above, order}
-use Rattle.rules.proofs.Ascent.{lineage-up, root-up}
 use Rattle.rules.proofs.Hits.{Hit, first-at, at-first, class-at, class-first, asked-all, asked-one}
 
 -- a FIELD is no CLASS record, so it is not the first one
@@ -141,8 +140,8 @@ module _ (nlib n : ℕ) (g : ℕ → Group) (f : Falls g) (supers : (c : ℕ) �
           line (inr k) = Memᴰ·append-left (root nlib g s ++ (c ∷ [])) k
 
           go : List·Memᴰ t (lineage nlib g c) ⊎ List·Memᴰ t (root nlib g c) → List·Memᴰ t (lineage nlib g s ++ (root nlib g s ++ (c ∷ [])))
-          go (inl k) = line (List·Memᴰ·cases-cons (subst (List·Memᴰ t) (lineage-up nlib n g f supers c user (its-super j)) k))
-          go (inr k) = Memᴰ·append-right (lineage nlib g s) (Memᴰ·append-left (c ∷ []) (subst (List·Memᴰ t) (root-up nlib n g f supers c user (its-super j)) k))
+          go (inl k) = line (List·Memᴰ·cases-cons (subst (List·Memᴰ t) (lineage-up nlib g f c user (its-super j)) k))
+          go (inr k) = Memᴰ·append-right (lineage nlib g s) (Memᴰ·append-left (c ∷ []) (subst (List·Memᴰ t) (root-up nlib g f c user (its-super j)) k))
 
       asked-of : {t : ℕ} → List·Memᴰ t (order nlib g rule c) → T judged × (List·Memᴰ t (lineage nlib g c) ⊎ List·Memᴰ t (root nlib g c))
       unfolding above
@@ -154,11 +153,11 @@ module _ (nlib n : ℕ) (g : ℕ → Group) (f : Falls g) (supers : (c : ℕ) �
           s = superclass (classRecord (g c))
 
           at : T judged → List·Memᴰ t (root nlib g s) ⊎ List·Memᴰ t (c ∷ []) → List·Memᴰ t (lineage nlib g c) ⊎ List·Memᴰ t (root nlib g c)
-          at j (inl k) = inr (subst (List·Memᴰ t) (sym (root-up nlib n g f supers c user (its-super j))) k)
-          at j (inr k) = inl (subst (List·Memᴰ t) (sym (lineage-up nlib n g f supers c user (its-super j))) (List·Memᴰ·head (List·Memᴰ·eq-of-singleton k)))
+          at j (inl k) = inr (subst (List·Memᴰ t) (sym (root-up nlib g f c user (its-super j))) k)
+          at j (inr k) = inl (subst (List·Memᴰ t) (sym (lineage-up nlib g f c user (its-super j))) (List·Memᴰ·head (List·Memᴰ·eq-of-singleton k)))
 
           go : T judged → List·Memᴰ t (lineage nlib g s) ⊎ List·Memᴰ t (root nlib g s ++ (c ∷ [])) → List·Memᴰ t (lineage nlib g c) ⊎ List·Memᴰ t (root nlib g c)
-          go j (inl k) = inl (subst (List·Memᴰ t) (sym (lineage-up nlib n g f supers c user (its-super j))) (List·Memᴰ·tail k))
+          go j (inl k) = inl (subst (List·Memᴰ t) (sym (lineage-up nlib g f c user (its-super j))) (List·Memᴰ·tail k))
           go j (inr k) = at j (List·Memᴰ·append-cases (root nlib g s) k)
 
       -- ---- a record of one of them

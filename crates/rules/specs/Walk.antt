@@ -1,9 +1,8 @@
 -- The judging of one class as a walk over rules, classes and records: the classes that a rule asks, and the records that it asks of each of them.
 -- Assumes nothing.
-use mathlib.Core.Path.{_≡_}
 use mathlib.Core.Bool.{Bool, true, false, _||_}
 use mathlib.Core.List.{List, [], _∷_, _++_, map}
-use Prim.Native.Nat.{ℕ, _≤_, _<_}
+use Prim.Native.Nat.{ℕ}
 use lib.Dec.{eqb, ltb}
 use lib.ListN.{take}
 use Rattle.spec.specs.Lists.{keep, gather, numbered, onlyIf}
@@ -58,9 +57,3 @@ module _ (nlib : ℕ) (g : ℕ → Group) where
 
   unfoldable pub classesFrom : ℕ → ℕ → ℕ → List ℕ
   classesFrom n c t = elim (ltb t n) [ true ↦ t ∷ afterward c t | false ↦ [] ]
-
--- a rule at which the judging of class c may begin: no rule before it finds anything
-pub record RuleAt (nlib : ℕ) (g : ℕ → Group) (c rule : ℕ) : Type 0 where
-  pub some : 1 ≤ rule
-  pub few : rule ≤ 11
-  pub clear : (i : ℕ) → 1 ≤ i → i < rule → walked nlib g i c ≡ []

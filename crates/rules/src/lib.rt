@@ -18,7 +18,7 @@ ghost use Rattle.view.specs.View.{Fits, spliced};
 ghost use Rattle.groups.specs.Groups.{Carries, Indexed};
 ghost use Rattle.overlay.specs.Types.{Known};
 ghost use Rattle.captured.specs.Captured.{Shown};
-ghost use Rattle.rules.specs.Walk.{onlyFirst, asked, firstClass, nextClass, RuleAt};
+ghost use Rattle.rules.specs.Walk.{onlyFirst, asked, firstClass, nextClass};
 ghost use Rattle.rules.specs.Line.{lineOf};
 
 // Rule and record; 0 and 0 is clean.
@@ -128,7 +128,7 @@ fn place(c: usize, t: usize, k: usize) -> u8
     if t == c { k as u8 } else { 0 }
 }
 
-// The verdict of user class c, where no rule before `first` finds anything.
+// The verdict of user class c.
 pub fn verdict_of<'a>(
     library: &'a [u8],
     user: &'a [u8],
@@ -140,7 +140,6 @@ pub fn verdict_of<'a>(
     markers: &[u8],
     row: &[u8],
     c: usize,
-    first: u8,
 ) -> Verdict
     requires { ⌜ Fits cut (now user) (now group) ⌝ }
     requires { ⌜ Indexed (now library) (spliced (now user) (now group) cut) nlib n (now starts) ⌝ }
@@ -148,10 +147,9 @@ pub fn verdict_of<'a>(
     requires { ⌜ Known (groupOf (now library) (spliced (now user) (now group) cut)) (now markers) ⌝ }
     requires { ⌜ Shown (groupOf (now library) (spliced (now user) (now group) cut)) n (now row) ⌝ }
     requires { ⌜ (nlib ≤ c) × (c < n) ⌝ }
-    requires { ⌜ RuleAt nlib (groupOf (now library) (spliced (now user) (now group) cut)) c first ⌝ }
     ensures { λ r. ⌜ lineOf r ≡ verdictOf nlib (groupOf (now (library .entry)) (spliced (now (user .entry)) (now (group .entry)) cut)) c ⌝ }
 {
-    let mut rule = first;
+    let mut rule: u8 = 1;
     let found = 'judged: loop {
         if 10 < rule {
             break 'judged Verdict { rule: 0, record: 0 };

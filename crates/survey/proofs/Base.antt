@@ -54,6 +54,10 @@ module _ (bytes markers : List ℕ) (m : ℕ) {b : Bool} (eb : b ≡ eqb (m / 4 
     unfolding baseBy
     base-zero e z {f} ef = judged (rw (has, e, eq-eqb (u16 bytes 8) 0 (sym (es ∙ ew) ∙ z), ← ef) (ap not (two-of-three f)))
 
+-- one test, and then the other
+pub both-asked : {a b x y : Bool} → a ≡ x → a ≡ true → b ≡ y → not b ≡ (x && not y)
+both-asked ea e eb = rw (← ea, e, ← eb)
+
 -- ---- as the definition has it
 
 pub base-is : {g : ℕ → Group} {c : ℕ} → Super g c → {bytes markers : List ℕ} → Carries bytes (g c) → 13 ≤ length (classRecord (g c)) → Known g markers → baseBreaks g c ≡ baseBy bytes markers

@@ -1,12 +1,7 @@
-pub mod Nothing
-pub mod Above
-pub mod First
-pub mod Walking
+pub mod Verdicts
 pub mod Sets
 pub mod Fields
-pub mod Own
-pub mod Telling
-pub mod Looking
+pub mod Lines
 pub mod Base
-pub mod Steps
-pub mod Refusals
+pub mod Records
+pub mod Whole

@@ -1,26 +1,29 @@
 -- Sets of markers bit by bit: those that a slot, a root, an encloser and captured variables pass.
 -- Assumes nothing.
-use mathlib.Core.Path.{_≡_, refl, sym, ap, _∙_, subst}
-use mathlib.Core.Bool.{Bool, true, false, not, _&&_, _||_}
+use mathlib.Core.Path.{_≡_, refl, sym, ap, ap₂, _∙_, subst}
+use mathlib.Core.Bool.{Bool, true, false, not, _&&_, _||_, and-true, and-false, or-true, or-false}
 use mathlib.Core.List.{List}
-use mathlib.Core.Logic.{_⊎_, inl, inr}
 use Prim.Native.Nat.{ℕ, _/_, _%_}
 use native.Mathlib.Decide.{ℕ-discrete}
 use native.Mathlib.Omega.{arith}
-use lib.Dec.{T, eqb, ltb}
+use lib.Dec.{eqb, ltb}
 use lib.ListN.{getD}
 use borrow.Author.Tests.{eq-eqb, ne-eqb}
+use Rattle.spec.specs.Lists.{any}
 use Rattle.spec.specs.Record.{u16, bit}
 use Rattle.spec.specs.Sheet.{Group}
 use Rattle.spec.specs.Markers.{union}
-use Rattle.spec.specs.Classes.{hasMarker}
+use Rattle.spec.specs.Classes.{overlay, hasMarker}
 use Rattle.spec.specs.Rules.{rootFits}
-use Rattle.theory.proofs.Bools.{t-true, and-l, and-r, or-cases}
 use Rattle.theory.proofs.Closure.{bit-union}
 use Rattle.overlay.specs.Types.{Known}
 use Rattle.lanes.specs.Lanes.{entryAt}
 use Rattle.breaks.specs.Breaking.{fromSeven, ruleMarker, rootBreaks}
-use Rattle.survey.specs.Survey.{Late, Trusted, passesBy, RootSet, EncloserHas, CapturedHas}
+use Rattle.survey.specs.Survey.{Late, Passes, slotBy, RootSet, encloserBy, capturedBy, anyLate}
+
+pub twice : (b : Bool) → not (not b) ≡ b
+twice true = refl
+twice false = refl
 
 -- ---- the four rules
 
@@ -33,123 +36,132 @@ late-cases P a b c d rule l = go (ℕ-discrete rule 7) (ℕ-discrete rule 8) (�
     go (no n7) (no n8) (yes e) = subst P (sym e) c
     go (no n7) (no n8) (no n9) = let e : rule ≡ 10 = omega arith in subst P (sym e) d
 
-pub trusted : (P : ℕ → Type 0) (set : ℕ) → (T (bit 0 set) → P 7) → (T (bit 1 set) → P 8) → (T (bit 2 set) → P 9) → (T (bit 7 set) → P 10) → Trusted P set
-unfolding ruleMarker fromSeven
-trusted P set a b c d = record { is = late-cases (λ rule. T (bit (ruleMarker rule) set) → P rule) a b c d }
+module _ {P : ℕ → Bool} where
+  pub passes-of : {set : ℕ} → bit 0 set ≡ P 7 → bit 1 set ≡ P 8 → bit 2 set ≡ P 9 → bit 7 set ≡ P 10 → Passes P set
+  unfolding ruleMarker fromSeven
+  passes-of {set} a b c d = record { is = late-cases (λ rule. bit (ruleMarker rule) set ≡ P rule) a b c d }
 
--- ---- unions and intersections
+  pub passes-all : P 7 ≡ true → P 8 ≡ true → P 9 ≡ true → P 10 ≡ true → Passes P 255
+  unfolding bit
+  passes-all a b c d = passes-of (sym a) (sym b) (sym c) (sym d)
 
-pub both-in : (k r a b : ℕ) → bit k r ≡ (bit k a && bit k b) → T (bit k r) → T (bit k a) × T (bit k b)
-both-in k r a b e t = let u = subst T e t in (and-l (bit k a) (bit k b) u, and-r (bit k a) (bit k b) u)
+  pub passes-as : {Q : ℕ → Bool} {set : ℕ} → Passes P set → ((rule : ℕ) → Late rule → P rule ≡ Q rule) → Passes Q set
+  passes-as p e = record { is = λ rule l. p .is rule l ∙ e rule l }
 
--- one test, and then the other
-pub both-asked : {a b x y : Bool} → a ≡ x → a ≡ true → b ≡ y → not b ≡ (x && not y)
-both-asked ea e eb = rw (← ea, e, ← eb)
+  pub passes-both : {Q : ℕ → Bool} {a b : ℕ} → Passes P a → Passes Q b → {r : ℕ} → ((k : ℕ) → bit k r ≡ (bit k a && bit k b)) → Passes (λ rule. P rule && Q rule) r
+  passes-both p q e = record { is = λ rule l. e (ruleMarker rule) ∙ ap₂ (λ (x y : Bool). x && y) (p .is rule l) (q .is rule l) }
 
--- a marker of a union that the second set lacks
-union-left : (k r a b : ℕ) → r ≡ union a b → (T (bit k b) → ⊥) → T (bit k r) → bit k a ≡ true
-union-left k r a b e n t = go (or-cases (bit k a) (bit k b) (subst T (ap (bit k) e ∙ bit-union k a b) t))
-  where
-    go : T (bit k a) ⊎ T (bit k b) → bit k a ≡ true
-    go (inl x) = t-true (bit k a) x
-    go (inr x) = absurd (n x)
+-- Selfless joined to a set: its rule asks no type
+module _ (m : ℕ) {r : ℕ} (e : r ≡ union m 4) where
+  pub joined : (k : ℕ) → bit k 4 ≡ false → bit k r ≡ bit k m
+  joined k z = ap (bit k) e ∙ bit-union k m 4 ∙ ap (λ (b : Bool). bit k m || b) z ∙ or-false (bit k m)
+
+  pub joined-nine : bit 2 r ≡ true
+  unfolding bit
+  joined-nine = ap (bit 2) e ∙ bit-union 2 m 4 ∙ or-true (bit 2 m)
 
 -- ---- a slot
 
 module _ (f m r : ℕ) where
-  abbrev Right : Type 0
-  Right = Trusted (λ rule. passesBy f m rule ≡ true) r
-
-  pub slot-changing : ((k : ℕ) → bit k r ≡ (bit k m && bit k 130)) → f % 2 ≡ 0 → Right
-  unfolding passesBy fromSeven bit
+  pub slot-changing : ((k : ℕ) → bit k r ≡ (bit k m && bit k 130)) → f % 2 ≡ 0 → Passes (slotBy f m) r
+  unfolding slotBy fromSeven bit
   slot-changing e h =
-      trusted (λ rule. passesBy f m rule ≡ true) r
-      (λ t. absurd (both-in 0 r m 130 (e 0) t .1))
-      (λ t. t-true (bit 1 m) (both-in 1 r m 130 (e 1) t .0))
-      (λ t. absurd (both-in 2 r m 130 (e 2) t .1))
-      (λ t. t-true (bit 7 m) (both-in 7 r m 130 (e 7) t .0))
+      passes-of {P = slotBy f m} (e 0 ∙ and-false (bit 0 m) ∙ rw h) (e 1 ∙ and-true (bit 1 m)) (e 2 ∙ and-false (bit 2 m) ∙ rw h) (e 7 ∙ and-true (bit 7 m))
 
   module _ (h : f % 2 ≡ 0 → ⊥) where
     final : eqb (f % 2) 1 ≡ true
     final = eq-eqb (f % 2) 1 (omega arith)
 
-    pub slot-transient : ((k : ℕ) → bit k r ≡ (bit k m && bit k 251)) → f / 2 % 2 ≡ 1 → Right
-    unfolding passesBy fromSeven bit
+    pub slot-transient : ((k : ℕ) → bit k r ≡ (bit k m && bit k 251)) → f / 2 % 2 ≡ 1 → Passes (slotBy f m) r
+    unfolding slotBy fromSeven bit
     slot-transient e o =
-        trusted (λ rule. passesBy f m rule ≡ true) r
-        (λ t. rw final (t-true (bit 0 m) (both-in 0 r m 251 (e 0) t .0)))
-        (λ t. t-true (bit 1 m) (both-in 1 r m 251 (e 1) t .0))
-        (λ t. absurd (both-in 2 r m 251 (e 2) t .1))
-        (λ t. t-true (bit 7 m) (both-in 7 r m 251 (e 7) t .0))
+        passes-of {P = slotBy f m} (e 0 ∙ and-true (bit 0 m) ∙ rw final) (e 1 ∙ and-true (bit 1 m)) (e 2 ∙ and-false (bit 2 m) ∙ rw (final, o)) (e 7 ∙ and-true (bit 7 m))
 
-    pub slot-final : r ≡ union m 4 → (f / 2 % 2 ≡ 1 → ⊥) → Right
-    unfolding passesBy fromSeven bit
+    pub slot-final : r ≡ union m 4 → (f / 2 % 2 ≡ 1 → ⊥) → Passes (slotBy f m) r
+    unfolding slotBy fromSeven bit
     slot-final e o =
-        trusted (λ rule. passesBy f m rule ≡ true) r
-        (λ t. rw final (union-left 0 r m 4 e (λ x. x) t))
-        (λ t. union-left 1 r m 4 e (λ x. x) t)
-        (λ t. rw (final, ne-eqb (f / 2 % 2) 1 o))
-        (λ t. union-left 7 r m 4 e (λ x. x) t)
+        passes-of {P = slotBy f m} (joined m e 0 refl ∙ rw final) (joined m e 1 refl) (joined-nine m e ∙ rw (final, ne-eqb (f / 2 % 2) 1 o)) (joined m e 7 refl)
 
 -- ---- a root
 
 pub root-zero : {row : List ℕ} {d : ℕ} → d ≡ 0 → RootSet row d 255
 unfolding rootBreaks fromSeven rootFits
-root-zero {row} {d} e = record {
-  is = λ g k. trusted (λ rule. rootBreaks g rule d ≡ false) 255 (λ t. rw (eq-eqb d 0 e)) (λ t. rw (eq-eqb d 0 e)) (λ t. refl) (λ t. rw (eq-eqb d 0 e));
-}
+root-zero {row} {d} e = record { is = λ g k. passes-all {P = λ rule. not (rootBreaks g rule d)} (rw (eq-eqb d 0 e)) (rw (eq-eqb d 0 e)) refl (rw (eq-eqb d 0 e)) }
 
-root-fits : {g : ℕ → Group} {row : List ℕ} → Known g row → (k d : ℕ) {m : ℕ} → m ≡ getD row d 0 → bit k m ≡ true → not (rootFits g k d) ≡ false
-unfolding rootFits hasMarker
-root-fits {g} {row} w k d {m} em e = rw (← w .is d, ← em, e) (or-true (eqb d 0))
+pub root-other : {row : List ℕ} {d m r : ℕ} → (d ≡ 0 → ⊥) → m ≡ getD row d 0 → r ≡ union m 4 → RootSet row d r
+unfolding rootBreaks fromSeven bit rootFits hasMarker
+root-other {row} {d} {m} {r} n em e =
+    record { is = λ g w. passes-of {P = λ rule. not (rootBreaks g rule d)} (joined m e 0 refl ∙ fits g w 0) (joined m e 1 refl ∙ fits g w 1) (joined-nine m e) (joined m e 7 refl ∙ fits g w 7) }
   where
-    or-true : (b : Bool) → not (b || true) ≡ false
-    or-true true = refl
-    or-true false = refl
-
-pub root-other : {row : List ℕ} {d m r : ℕ} → m ≡ getD row d 0 → r ≡ union m 4 → RootSet row d r
-unfolding rootBreaks fromSeven bit
-root-other {row} {d} {m} {r} em e = record {
-  is = λ g w.
-      trusted (λ rule. rootBreaks g rule d ≡ false) r
-      (λ t. root-fits w 0 d em (union-left 0 r m 4 e (λ x. x) t))
-      (λ t. root-fits w 1 d em (union-left 1 r m 4 e (λ x. x) t))
-      (λ t. refl)
-      (λ t. root-fits w 7 d em (union-left 7 r m 4 e (λ x. x) t));
-}
+    fits : (g : ℕ → Group) → Known g row → (k : ℕ) → bit k m ≡ not (not (rootFits g k d))
+    fits g w k = ap (bit k) (em ∙ w .is d) ∙ sym (twice (bit k (overlay g d))) ∙ rw (ne-eqb d 0 n)
 
 -- ---- an encloser
 
 module _ (bytes row : List ℕ) where
-  pub encloser-none : {w : ℕ} → w ≡ u16 bytes 4 → w / 2 % 2 ≡ 0 → Trusted (EncloserHas bytes row) 255
-  unfolding EncloserHas
-  encloser-none ew h = record { is = λ rule l t n o. absurd (o (ap (λ (x : ℕ). x / 2 % 2) (sym ew) ∙ h)) }
+  pub encloser-none : {w : ℕ} → w ≡ u16 bytes 4 → w / 2 % 2 ≡ 0 → Passes (encloserBy bytes row) 255
+  unfolding encloserBy
+  encloser-none ew h =
+      let z = eq-eqb (u16 bytes 4 / 2 % 2) 0 (ap (λ (x : ℕ). x / 2 % 2) (sym ew) ∙ h) in
+      passes-all {P = encloserBy bytes row} (rw z) (rw z) refl (rw z)
 
-  pub encloser-some : {e w m r : ℕ} → e ≡ w → w ≡ u16 bytes 10 → m ≡ getD row e 0 → r ≡ union m 4 → Trusted (EncloserHas bytes row) r
-  unfolding EncloserHas ruleMarker fromSeven bit
-  encloser-some {e} {w} {m} {r} ee ew em q =
-      trusted (EncloserHas bytes row) r (λ t n o. has 0 (λ x. x) t) (λ t n o. has 1 (λ x. x) t) (λ t n o. absurd (n refl)) (λ t n o. has 7 (λ x. x) t)
+  pub encloser-some : {w : ℕ} → w ≡ u16 bytes 4 → (w / 2 % 2 ≡ 0 → ⊥) → {e v m r : ℕ} → e ≡ v → v ≡ u16 bytes 10 → m ≡ getD row e 0 → r ≡ union m 4 → Passes (encloserBy bytes row) r
+  unfolding encloserBy ruleMarker fromSeven bit
+  encloser-some {w} ew h {e} {v} {m} {r} ee ev em q =
+      passes-of {P = encloserBy bytes row} (joined m q 0 refl ∙ has 0) (joined m q 1 refl ∙ has 1) (joined-nine m q) (joined m q 7 refl ∙ has 7)
     where
-      has : (k : ℕ) → (T (bit k 4) → ⊥) → T (bit k r) → bit k (getD row (u16 bytes 10) 0) ≡ true
-      has k n t = ap (bit k) (ap (λ (i : ℕ). getD row i 0) (sym (ee ∙ ew)) ∙ sym em) ∙ union-left k r m 4 q n t
+      has : (k : ℕ) → bit k m ≡ (eqb (u16 bytes 4 / 2 % 2) 0 || bit k (getD row (u16 bytes 10) 0))
+      has k = ap (bit k) (em ∙ ap (λ (i : ℕ). getD row i 0) (ee ∙ ev)) ∙ rw (ne-eqb (u16 bytes 4 / 2 % 2) 0 (λ z. h (ap (λ (x : ℕ). x / 2 % 2) ew ∙ z)))
 
 -- ---- captured variables
 
-module _ (row : List ℕ) (t : ℕ) where
-  -- a lane whose marker the mask lacks
-  lane-clear : (k lane mask : ℕ) → (T (bit k mask) → ⊥) → {x : Bool} → x ≡ ltb (entryAt row lane t) 255 → {a : ℕ} → (x ≡ true → a ≡ mask) → T (bit k a) → ltb (entryAt row lane t) 255 ≡ false
-  lane-clear k lane mask n {x} ex f b = go x refl
-    where
-      go : (y : Bool) → x ≡ y → ltb (entryAt row lane t) 255 ≡ false
-      go true e = absurd (n (subst (λ (i : ℕ). T (bit k i)) (f e) b))
-      go false e = sym ex ∙ e
+-- the set of one lane: all markers, or those of a mask
+masked : (k mask : ℕ) → bit k 255 ≡ true → (x : Bool) {a : ℕ} → (x ≡ true → a ≡ mask) × (x ≡ false → a ≡ 255) → bit k a ≡ (not x || bit k mask)
+masked k mask e true f = ap (bit k) (f .0 refl)
+masked k mask e false f = ap (bit k) (f .1 refl) ∙ e
 
-  pub lanes-clear : {x y z : Bool} → x ≡ ltb (entryAt row 0 t) 255 → y ≡ ltb (entryAt row 1 t) 255 → z ≡ ltb (entryAt row 2 t) 255 → (a b c s r : ℕ) → (x ≡ true → a ≡ 254) → (y ≡ true → b ≡ 253) → (z ≡ true → c ≡ 127)
-      → ((k : ℕ) → bit k s ≡ (bit k a && bit k b)) → ((k : ℕ) → bit k r ≡ (bit k s && bit k c)) → Trusted (CapturedHas row t) r
-  unfolding CapturedHas fromSeven bit
-  lanes-clear ex ey ez a b c s r fa fb fc es er =
-      trusted (CapturedHas row t) r
-      (λ t n. lane-clear 0 0 254 (λ x. x) ex fa (both-in 0 s a b (es 0) (both-in 0 r s c (er 0) t .0) .0))
-      (λ t n. lane-clear 1 1 253 (λ x. x) ey fb (both-in 1 s a b (es 1) (both-in 1 r s c (er 1) t .0) .1))
-      (λ t n. absurd (n refl))
-      (λ t n. lane-clear 7 2 127 (λ x. x) ez fc (both-in 7 r s c (er 7) t .1))
+module _ (row : List ℕ) (t : ℕ) where
+  pub lanes-pass : {x y z : Bool} → x ≡ ltb (entryAt row 0 t) 255 → y ≡ ltb (entryAt row 1 t) 255 → z ≡ ltb (entryAt row 2 t) 255
+      → (a b c s : ℕ) {r : ℕ} → (x ≡ true → a ≡ 254) × (x ≡ false → a ≡ 255) → (y ≡ true → b ≡ 253) × (y ≡ false → b ≡ 255) → (z ≡ true → c ≡ 127) × (z ≡ false → c ≡ 255)
+      → ((k : ℕ) → bit k s ≡ (bit k a && bit k b)) → ((k : ℕ) → bit k r ≡ (bit k s && bit k c)) → Passes (capturedBy row t) r
+  unfolding capturedBy fromSeven bit
+  lanes-pass {x} {y} {z} ex ey ez a b c s {r} fa fb fc es er =
+      passes-of {P = capturedBy row t}
+      (three 0 refl ∙ one x y z ∙ ap not ex)
+      (three 1 refl ∙ two x y z ∙ ap not ey)
+      (three 2 refl ∙ none x y z)
+      (three 7 refl ∙ last x y z ∙ ap not ez)
+    where
+      three : (k : ℕ) → bit k 255 ≡ true → bit k r ≡ (((not x || bit k 254) && (not y || bit k 253)) && (not z || bit k 127))
+      three k e = er k ∙ ap₂ (λ (p q : Bool). p && q) (es k ∙ ap₂ (λ (p q : Bool). p && q) (masked k 254 e x fa) (masked k 253 e y fb)) (masked k 127 e z fc)
+
+      one : (x y z : Bool) → (((not x || false) && (not y || true)) && (not z || true)) ≡ not x
+      one x y z = rw (or-false (not x), or-true (not y), or-true (not z), and-true (not x), and-true (not x))
+
+      two : (x y z : Bool) → (((not x || true) && (not y || false)) && (not z || true)) ≡ not y
+      two x y z = rw (or-true (not x), or-false (not y), or-true (not z), and-true (not y))
+
+      none : (x y z : Bool) → (((not x || true) && (not y || true)) && (not z || true)) ≡ true
+      none x y z = rw (or-true (not x), or-true (not y), or-true (not z))
+
+      last : (x y z : Bool) → (((not x || true) && (not y || true)) && (not z || false)) ≡ not z
+      last x y z = rw (or-true (not x), or-true (not y), or-false (not z))
+
+-- ---- one test after the other
+
+-- the first of some tests is met, or it is not and the others are left
+pub met : {a : Bool} → a ≡ true → {x : Bool} (r : Bool) → x ≡ (a || r) → x ≡ true
+met q r e = rw (e, q)
+
+pub past : {a : Bool} → a ≡ false → {x r : Bool} → x ≡ (a || r) → x ≡ r
+past q e = rw (e, q)
+
+-- ---- a set against the markers of a class
+
+module _ (m set : ℕ) where
+  abbrev pub lacksBy : ℕ → Bool
+  lacksBy k = eqb (m / k % 2) 1 && not (eqb (set / k % 2) 1)
+
+  pub covers-by : {a b c d : Bool} → a ≡ lacksBy 1 → b ≡ lacksBy 2 → c ≡ lacksBy 4 → d ≡ lacksBy 128 → anyLate m (λ rule. not (bit (ruleMarker rule) set)) ≡ (a || (b || (c || (d || false))))
+  unfolding anyLate any ruleMarker fromSeven bit
+  covers-by ea eb ec ed = rw (ea, eb, ec, ed)

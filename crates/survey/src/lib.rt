@@ -1,38 +1,39 @@
-// What a look at each record tells of a class: the lowest rule that it can break. A rule below that one finds nothing.
+// Whether a class is clean, in one look at each record: a clean class needs no walk over the rules.
 use breaks::lets_out;
+use breaks::names_forbidden;
 use breaks::refers_forbidden;
 use breaks::reserved;
+use breaks::static_breaks;
 use captured::lacking;
 use groups::class_bytes;
 use markers::clash;
 use markers::common;
 use markers::has;
 use markers::union;
-use named::any_named;
-use named::second_named;
 use overlay::known;
 use overlay::type_markers;
 use view::Cut;
 use view::word_in;
 ghost use mathlib.Core.Path.{_≡_};
-ghost use mathlib.Core.Bool.{true, not, _&&_};
+ghost use mathlib.Core.Bool.{true, false, not, _&&_};
 ghost use mathlib.Core.Option.{none};
 ghost use Prim.Native.Nat.{_+_, _/_, _%_, _≤_, _<_};
 ghost use lib.Dec.{eqb};
-ghost use lib.ListN.{length};
-ghost use Rattle.spec.specs.Record.{u16};
+ghost use lib.ListN.{length, drop};
+ghost use Rattle.spec.specs.Lists.{any};
+ghost use Rattle.spec.specs.Record.{u16, bit};
 ghost use Rattle.spec.specs.Sheet.{group as groupOf};
+ghost use Rattle.spec.specs.Rules.{verdictOf};
 ghost use Rattle.spec.specs.Refusals.{formRefusal};
 ghost use Rattle.theory.proofs.All.{All};
 ghost use Rattle.view.specs.View.{Fits, spliced};
 ghost use Rattle.pass.specs.Pass.{recordAt};
-ghost use Rattle.groups.specs.Groups.{between, AtRecord, Carries, Indexed};
+ghost use Rattle.groups.specs.Groups.{between, AtRecord, Indexed};
 ghost use Rattle.overlay.specs.Types.{Known};
 ghost use Rattle.second.specs.Second.{Sized};
 ghost use Rattle.captured.specs.Captured.{Shown};
-ghost use Rattle.breaks.specs.Breaking.{Refers};
-ghost use Rattle.rules.specs.Walk.{RuleAt};
-ghost use Rattle.survey.specs.Survey.{Trusted, Passes, Passing, Spared, passesBy, FieldSet, FieldsSet, RootSet, EncloserHas, CapturedHas, Begun, MemberFine, Refusing, Told, Fixity, Lowest, baseBy};
+ghost use Rattle.breaks.specs.Breaking.{Refers, ruleMarker};
+ghost use Rattle.survey.specs.Survey.{isClean, headBreaks, anyLate, recordBreaks, Passes, ClassSet, Passing, slotBy, FieldSet, FieldsSet, RootSet, encloserBy, capturedBy, baseBy};
 
 fn wide(x: u16) -> usize
     ensures { λ r. ⌜ (r ≡ x) × (r < 65536) ⌝ }
@@ -42,9 +43,9 @@ fn wide(x: u16) -> usize
 
 // ---- rules 7 to 10: sets of the markers whose rules a slot passes: 1 Immutable, 2 Powerless, 4 Selfless, 128 DeepSelfless
 
-// The rules that a slot passes, by the flags of its field and the markers of its type. One that is not final passes neither rule 7 nor rule 9, a transient one not rule 9.
+// By the flags of a field and the markers of its type. One that is not final passes neither rule 7 nor rule 9, a transient one not rule 9.
 fn slot_set(flags: u16, m: u8) -> u8
-    ensures { λ r. ⌜ Trusted (λ rule. passesBy flags m rule ≡ true) r ⌝ }
+    ensures { λ r. ⌜ Passes (slotBy flags m) r ⌝ }
 {
     if flags % 2 == 0 {
         return common(m, 130);
@@ -97,7 +98,7 @@ fn root_set(markers: &[u8], d: usize) -> u8
 // Those that the encloser of an inner class passes.
 fn encloser_set(bytes: &[u8], markers: &[u8]) -> u8
     requires { ⌜ 13 ≤ length (now bytes) ⌝ }
-    ensures { λ r. ⌜ Trusted (EncloserHas (now (bytes .entry)) (now (markers .entry))) r ⌝ }
+    ensures { λ r. ⌜ Passes (encloserBy (now (bytes .entry)) (now (markers .entry))) r ⌝ }
 {
     if word_in(bytes, 4) / 2 % 2 == 0 {
         return 255;
@@ -107,7 +108,7 @@ fn encloser_set(bytes: &[u8], markers: &[u8]) -> u8
 
 // All markers, or those of the mask.
 fn all_or(lacks: bool, mask: u8) -> u8
-    ensures { λ r. ⌜ (lacks ≡ true → r ≡ mask) ⌝ }
+    ensures { λ r. ⌜ (lacks ≡ true → r ≡ mask) × (lacks ≡ false → r ≡ 255) ⌝ }
 {
     if lacks { mask } else { 255 }
 }
@@ -115,7 +116,7 @@ fn all_or(lacks: bool, mask: u8) -> u8
 // Those that the captured variables of class t pass: each lane is one marker's.
 fn captured_set(row: &[u8], t: usize) -> u8
     requires { ⌜ t < 256 ⌝ }
-    ensures { λ r. ⌜ Trusted (CapturedHas (now (row .entry)) t) r ⌝ }
+    ensures { λ r. ⌜ Passes (capturedBy (now (row .entry)) t) r ⌝ }
 {
     let a = all_or(lacking(row, 0, t), 254);
     let b = all_or(lacking(row, 1, t), 253);
@@ -123,7 +124,7 @@ fn captured_set(row: &[u8], t: usize) -> u8
     common(common(a, b), c)
 }
 
-// Those that class t and its superclasses up to the root pass, by the sets of lower classes.
+// Those that class t and its superclasses up to the root pass, by the sets of lower classes. An interface has no slots.
 fn class_set<'a>(
     library: &'a [u8],
     user: &'a [u8],
@@ -142,9 +143,8 @@ fn class_set<'a>(
     requires { ⌜ formRefusal (now library) (spliced (now user) (now group) cut) ≡ none ⌝ }
     requires { ⌜ Known (groupOf (now library) (spliced (now user) (now group) cut)) (now markers) ⌝ }
     requires { ⌜ Shown (groupOf (now library) (spliced (now user) (now group) cut)) n (now lanes) ⌝ }
-    requires { ⌜ Begun nlib (groupOf (now library) (spliced (now user) (now group) cut)) (now row) t ⌝ }
-    requires { ⌜ t < n ⌝ }
-    ensures { λ r. ⌜ Passes nlib (groupOf (now (library .entry)) (spliced (now (user .entry)) (now (group .entry)) cut)) t r ⌝ }
+    requires { ⌜ (t < n) × Passing nlib t (groupOf (now library) (spliced (now user) (now group) cut)) (now row) ⌝ }
+    ensures { λ r. ⌜ ClassSet nlib (groupOf (now (library .entry)) (spliced (now (user .entry)) (now (group .entry)) cut)) t r ⌝ }
 {
     if t < nlib {
         return root_set(markers, t);
@@ -178,7 +178,8 @@ pub fn passes<'a>(
     requires { ⌜ Known (groupOf (now library) (spliced (now user) (now group) cut)) (now markers) ⌝ }
     requires { ⌜ Shown (groupOf (now library) (spliced (now user) (now group) cut)) n (now lanes) ⌝ }
     requires { ⌜ length (now row) ≡ 256 ⌝ }
-    ensures { λ r. ⌜ Passing nlib n (groupOf (now (library .entry)) (spliced (now (user .entry)) (now (group .entry)) cut)) (now (row .exit)) ⌝ }
+    ensures sets { λ r. ⌜ Passing nlib n (groupOf (now (library .entry)) (spliced (now (user .entry)) (now (group .entry)) cut)) (now (row .exit)) ⌝ }
+    ensures rest { λ r. ⌜ drop n (now (row .exit)) ≡ drop n (now (row .entry)) ⌝ }
 {
     let mut c = 0;
     while c < n {
@@ -199,250 +200,6 @@ pub fn passes<'a>(
     }
 }
 
-// ---- library classes that are not allowed, and those with such members
-
-// Whether a class is not allowed, by its bytes.
-fn closed(bytes: &[u8]) -> u8
-    requires { ⌜ 13 ≤ length (now bytes) ⌝ }
-    ensures { λ r. ⌜ (r ≡ 0 → u16 (now (bytes .entry)) 4 / 256 % 2 ≡ 1) ⌝ }
-{
-    if word_in(bytes, 4) / 256 % 2 == 1 {
-        return 0;
-    }
-    1
-}
-
-// Whether one of its members is not.
-fn part_closed(bytes: &[u8]) -> u8
-    requires { ⌜ AtRecord (now bytes) (length (now bytes)) 0 ⌝ }
-    ensures { λ r. ⌜ (r ≡ 0 → All MemberFine (between (now (bytes .entry)) 0 (length (now (bytes .entry))))) ⌝ }
-{
-    let mut at = 0;
-    while at < bytes.len() {
-        if word_in(bytes, at + 2) == 7 {
-            if word_in(bytes, at + 4) % 2 == 0 {
-                return 1;
-            }
-        }
-        at += wide(word_in(bytes, at));
-    }
-    0
-}
-
-// Marks the library classes that are not allowed in one row, those with a member that is not in the other.
-pub fn refused<'a>(
-    library: &'a [u8],
-    user: &'a [u8],
-    group: &'a [u8],
-    cut: Cut,
-    starts: &[u16],
-    nlib: usize,
-    n: usize,
-    banned: &mut [u8],
-    partial: &mut [u8],
-)
-    requires { ⌜ Fits cut (now user) (now group) ⌝ }
-    requires { ⌜ Indexed (now library) (spliced (now user) (now group) cut) nlib n (now starts) ⌝ }
-    requires { ⌜ (length (now banned) ≡ 256) × (length (now partial) ≡ 256) ⌝ }
-    ensures { λ r. ⌜ Refusing nlib (groupOf (now (library .entry)) (spliced (now (user .entry)) (now (group .entry)) cut)) (now (banned .exit)) (now (partial .exit)) nlib ⌝ }
-{
-    let mut d = 0;
-    while d < nlib {
-        let bytes = class_bytes(library, user, group, cut, starts, nlib, n, d);
-        banned[d] = closed(bytes);
-        partial[d] = part_closed(bytes);
-        d += 1;
-    }
-}
-
-// ---- rules 1, 2 and 5: the lowest that a record breaks, 11 if none
-
-// Rule 5 at the FIELD record at `at`.
-fn static_rule(bytes: &[u8], at: usize, markers: &[u8]) -> u8
-    requires { ⌜ Sized (now bytes) at ⌝ }
-    requires { ⌜ (length (now bytes) ≤ 32768) × (u16 (now bytes) (at + 2) ≡ 3) ⌝ }
-    ensures { λ r. ⌜ Fixity (now (markers .entry)) (recordAt (now (bytes .entry)) at) r ⌝ }
-{
-    let flags = word_in(bytes, at + 4);
-    if flags / 4 % 2 == 0 {
-        return 11;
-    }
-    if flags % 2 == 0 {
-        return 5;
-    }
-    if has(type_markers(bytes, at + 6, markers), 1) {
-        return 11;
-    }
-    5
-}
-
-// By the rows: 2 says only that the class referred to has a member that is not allowed.
-fn record_rule(
-    bytes: &[u8],
-    at: usize,
-    nlib: usize,
-    banned: &[u8],
-    partial: &[u8],
-    markers: &[u8],
-) -> u8
-    requires { ⌜ Sized (now bytes) at ⌝ }
-    requires { ⌜ length (now bytes) ≤ 32768 ⌝ }
-    requires { ⌜ (nlib ≤ 256) × (length (now partial) ≡ 256) ⌝ }
-    ensures { λ r. ⌜ Told nlib (now (banned .entry)) (now (partial .entry)) (now (markers .entry)) r (recordAt (now (bytes .entry)) at) ⌝ }
-{
-    let first = any_named(bytes, at);
-    if known(banned, first) != 0 {
-        return 1;
-    }
-    let second = second_named(bytes, at, false);
-    if known(banned, second) != 0 {
-        return 1;
-    }
-    let kind = word_in(bytes, at + 2);
-    if kind == 3 {
-        return static_rule(bytes, at, markers);
-    }
-    if kind != 8 {
-        return 11;
-    }
-    let d = wide(word_in(bytes, at + 4));
-    if nlib <= d {
-        return 2;
-    }
-    if partial[d] != 0 {
-        return 2;
-    }
-    11
-}
-
-// What `low` becomes after a record for which the rows told x.
-fn settled<'a>(
-    library: &'a [u8],
-    user: &'a [u8],
-    group: &'a [u8],
-    cut: Cut,
-    starts: &[u16],
-    nlib: usize,
-    n: usize,
-    banned: &[u8],
-    partial: &[u8],
-    markers: &[u8],
-    bytes: &[u8],
-    at: usize,
-    low: u8,
-    x: u8,
-) -> u8
-    requires { ⌜ Fits cut (now user) (now group) ⌝ }
-    requires { ⌜ Indexed (now library) (spliced (now user) (now group) cut) nlib n (now starts) ⌝ }
-    requires { ⌜ Sized (now bytes) at ⌝ }
-    requires { ⌜ length (now bytes) ≤ 32768 ⌝ }
-    requires { ⌜ Refers n (groupOf (now library) (spliced (now user) (now group) cut)) (recordAt (now bytes) at) ⌝ }
-    requires { ⌜ Refusing nlib (groupOf (now library) (spliced (now user) (now group) cut)) (now banned) (now partial) nlib ⌝ }
-    requires { ⌜ Known (groupOf (now library) (spliced (now user) (now group) cut)) (now markers) ⌝ }
-    requires { ⌜ Told nlib (now banned) (now partial) (now markers) x (recordAt (now bytes) at) ⌝ }
-    requires { ⌜ x < low ⌝ }
-    ensures { λ r. ⌜ (1 ≤ r) × (r ≤ low) × Spared nlib (groupOf (now (library .entry)) (spliced (now (user .entry)) (now (group .entry)) cut)) r (recordAt (now (bytes .entry)) at) ⌝ }
-{
-    if x != 2 {
-        return x;
-    }
-    if refers_forbidden(library, user, group, cut, starts, nlib, n, bytes, at) {
-        return 2;
-    }
-    low
-}
-
-// The lowest of rules 1, 2 and 5 that a record of a class breaks.
-fn records_rule<'a>(
-    library: &'a [u8],
-    user: &'a [u8],
-    group: &'a [u8],
-    cut: Cut,
-    starts: &[u16],
-    nlib: usize,
-    n: usize,
-    banned: &[u8],
-    partial: &[u8],
-    markers: &[u8],
-    bytes: &[u8],
-) -> u8
-    requires { ⌜ Fits cut (now user) (now group) ⌝ }
-    requires { ⌜ Indexed (now library) (spliced (now user) (now group) cut) nlib n (now starts) ⌝ }
-    requires { ⌜ Refusing nlib (groupOf (now library) (spliced (now user) (now group) cut)) (now banned) (now partial) nlib ⌝ }
-    requires { ⌜ Known (groupOf (now library) (spliced (now user) (now group) cut)) (now markers) ⌝ }
-    requires { ⌜ AtRecord (now bytes) (length (now bytes)) 0 ⌝ }
-    requires { ⌜ All (Refers n (groupOf (now library) (spliced (now user) (now group) cut))) (between (now bytes) 0 (length (now bytes))) ⌝ }
-    ensures { λ r. ⌜ Lowest nlib (groupOf (now (library .entry)) (spliced (now (user .entry)) (now (group .entry)) cut)) (between (now (bytes .entry)) 0 (length (now (bytes .entry)))) r ⌝ }
-{
-    let mut at = 0;
-    let mut low: u8 = 11;
-    while at < bytes.len() {
-        let x = record_rule(bytes, at, nlib, banned, partial, markers);
-        if x < low {
-            low = settled(
-                library,
-                user,
-                group,
-                cut,
-                starts,
-                nlib,
-                n,
-                banned,
-                partial,
-                markers,
-                bytes,
-                at,
-                low,
-                x,
-            );
-        }
-        at += wide(word_in(bytes, at));
-    }
-    low
-}
-
-// ---- the first rule that a class can break
-
-// Up to 7, where `low` is the lowest of rules 1, 2 and 5 that a record breaks.
-fn early_rule<'a>(
-    library: &'a [u8],
-    user: &'a [u8],
-    group: &'a [u8],
-    cut: Cut,
-    starts: &[u16],
-    nlib: usize,
-    n: usize,
-    markers: &[u8],
-    bytes: &[u8],
-    low: u8,
-    c: usize,
-) -> u8
-    requires { ⌜ Fits cut (now user) (now group) ⌝ }
-    requires { ⌜ Indexed (now library) (spliced (now user) (now group) cut) nlib n (now starts) ⌝ }
-    requires { ⌜ Known (groupOf (now library) (spliced (now user) (now group) cut)) (now markers) ⌝ }
-    requires { ⌜ Carries (now bytes) (groupOf (now library) (spliced (now user) (now group) cut) c) ⌝ }
-    requires { ⌜ Lowest nlib (groupOf (now library) (spliced (now user) (now group) cut)) (groupOf (now library) (spliced (now user) (now group) cut) c) low ⌝ }
-    requires { ⌜ (nlib ≤ c) × (c < n) ⌝ }
-    ensures { λ r. ⌜ RuleAt nlib (groupOf (now (library .entry)) (spliced (now (user .entry)) (now (group .entry)) cut)) c r × (r ≤ 7) ⌝ }
-{
-    if low < 3 {
-        return low;
-    }
-    if reserved(bytes[6]) {
-        return 3;
-    }
-    if clash(markers[c]) {
-        return 4;
-    }
-    if low < 6 {
-        return 5;
-    }
-    if lets_out(word_in(bytes, 4)) {
-        return 6;
-    }
-    7
-}
-
 // A class has the marker, and its set lacks it.
 fn lacks(m: u8, set: u8, marker: u8) -> bool
     requires { ⌜ 0 < marker ⌝ }
@@ -452,6 +209,22 @@ fn lacks(m: u8, set: u8, marker: u8) -> bool
         return !has(set, marker);
     }
     false
+}
+
+// The set has each of the four markers that a class with the markers m has.
+fn covers(m: u8, set: u8) -> bool
+    ensures { λ r. ⌜ r ≡ not (anyLate m (λ rule. not (bit (ruleMarker rule) set))) ⌝ }
+{
+    if lacks(m, set, 1) {
+        return false;
+    }
+    if lacks(m, set, 2) {
+        return false;
+    }
+    if lacks(m, set, 4) {
+        return false;
+    }
+    !lacks(m, set, 128)
 }
 
 // Rule 9's second part, for a class with the markers m.
@@ -472,8 +245,10 @@ fn base_lacks(m: u8, bytes: &[u8], markers: &[u8]) -> bool
     word_in(bytes, 4) / 4 % 8 != 3
 }
 
-// From 7 on.
-fn late_rule<'a>(
+// ---- rules 1 to 6
+
+// No record breaks rule 1, 2 or 5.
+fn records_fine<'a>(
     library: &'a [u8],
     user: &'a [u8],
     group: &'a [u8],
@@ -482,45 +257,49 @@ fn late_rule<'a>(
     nlib: usize,
     n: usize,
     markers: &[u8],
-    sets: &[u8],
     bytes: &[u8],
-    c: usize,
-) -> u8
+) -> bool
     requires { ⌜ Fits cut (now user) (now group) ⌝ }
     requires { ⌜ Indexed (now library) (spliced (now user) (now group) cut) nlib n (now starts) ⌝ }
-    requires { ⌜ formRefusal (now library) (spliced (now user) (now group) cut) ≡ none ⌝ }
     requires { ⌜ Known (groupOf (now library) (spliced (now user) (now group) cut)) (now markers) ⌝ }
-    requires { ⌜ Passing nlib n (groupOf (now library) (spliced (now user) (now group) cut)) (now sets) ⌝ }
-    requires { ⌜ Carries (now bytes) (groupOf (now library) (spliced (now user) (now group) cut) c) ⌝ }
-    requires { ⌜ RuleAt nlib (groupOf (now library) (spliced (now user) (now group) cut)) c 7 ⌝ }
-    requires { ⌜ (nlib ≤ c) × (c < n) ⌝ }
-    ensures { λ r. ⌜ RuleAt nlib (groupOf (now (library .entry)) (spliced (now (user .entry)) (now (group .entry)) cut)) c r ⌝ }
+    requires { ⌜ AtRecord (now bytes) (length (now bytes)) 0 ⌝ }
+    requires { ⌜ All (Refers n (groupOf (now library) (spliced (now user) (now group) cut))) (between (now bytes) 0 (length (now bytes))) ⌝ }
+    ensures { λ r. ⌜ r ≡ not (any (recordBreaks nlib (groupOf (now (library .entry)) (spliced (now (user .entry)) (now (group .entry)) cut))) (between (now (bytes .entry)) 0 (length (now (bytes .entry))))) ⌝ }
 {
-    if word_in(bytes, 4) % 2 == 1 {
-        return 11;
+    let mut at = 0;
+    while at < bytes.len() {
+        if names_forbidden(library, user, group, cut, starts, nlib, n, bytes, at) {
+            return false;
+        }
+        if refers_forbidden(library, user, group, cut, starts, nlib, n, bytes, at) {
+            return false;
+        }
+        if static_breaks(bytes, at, markers) {
+            return false;
+        }
+        at += wide(word_in(bytes, at));
     }
-    let m = markers[c];
-    let set = sets[c];
-    if lacks(m, set, 1) {
-        return 7;
-    }
-    if lacks(m, set, 2) {
-        return 8;
-    }
-    if lacks(m, set, 4) {
-        return 9;
-    }
-    if base_lacks(m, bytes, markers) {
-        return 9;
-    }
-    if lacks(m, set, 128) {
-        return 10;
-    }
-    11
+    true
 }
 
-// The lowest rule that user class c can break, 11 if there is none. `sets`, `banned` and `partial` are filled by `passes` and `refused`.
-pub fn first_rule<'a>(
+// The CLASS record breaks none of rules 3, 4 and 6, where m are the class's overlay markers.
+fn head_fine(bytes: &[u8], m: u8) -> bool
+    requires { ⌜ 13 ≤ length (now bytes) ⌝ }
+    ensures { λ r. ⌜ r ≡ not (headBreaks (now (bytes .entry)) m) ⌝ }
+{
+    if reserved(bytes[6]) {
+        return false;
+    }
+    if clash(m) {
+        return false;
+    }
+    !lets_out(word_in(bytes, 4))
+}
+
+// ---- all ten
+
+// Whether user class c breaks no rule; `sets` is filled by `passes`.
+pub fn clean<'a>(
     library: &'a [u8],
     user: &'a [u8],
     group: &'a [u8],
@@ -530,60 +309,29 @@ pub fn first_rule<'a>(
     n: usize,
     markers: &[u8],
     sets: &[u8],
-    banned: &[u8],
-    partial: &[u8],
     c: usize,
-) -> u8
+) -> bool
     requires { ⌜ Fits cut (now user) (now group) ⌝ }
     requires { ⌜ Indexed (now library) (spliced (now user) (now group) cut) nlib n (now starts) ⌝ }
     requires { ⌜ formRefusal (now library) (spliced (now user) (now group) cut) ≡ none ⌝ }
     requires { ⌜ Known (groupOf (now library) (spliced (now user) (now group) cut)) (now markers) ⌝ }
     requires { ⌜ Passing nlib n (groupOf (now library) (spliced (now user) (now group) cut)) (now sets) ⌝ }
-    requires { ⌜ Refusing nlib (groupOf (now library) (spliced (now user) (now group) cut)) (now banned) (now partial) nlib ⌝ }
     requires { ⌜ (nlib ≤ c) × (c < n) ⌝ }
-    ensures { λ r. ⌜ RuleAt nlib (groupOf (now (library .entry)) (spliced (now (user .entry)) (now (group .entry)) cut)) c r ⌝ }
+    ensures { λ r. ⌜ r ≡ isClean (verdictOf nlib (groupOf (now (library .entry)) (spliced (now (user .entry)) (now (group .entry)) cut)) c) ⌝ }
 {
     let bytes = class_bytes(library, user, group, cut, starts, nlib, n, c);
-    let low = records_rule(
-        library,
-        user,
-        group,
-        cut,
-        starts,
-        nlib,
-        n,
-        banned,
-        partial,
-        markers,
-        bytes,
-    );
-    let early = early_rule(
-        library,
-        user,
-        group,
-        cut,
-        starts,
-        nlib,
-        n,
-        markers,
-        bytes,
-        low,
-        c,
-    );
-    if early < 7 {
-        return early;
+    let m = markers[c];
+    if !head_fine(bytes, m) {
+        return false;
     }
-    late_rule(
-        library,
-        user,
-        group,
-        cut,
-        starts,
-        nlib,
-        n,
-        markers,
-        sets,
-        bytes,
-        c,
-    )
+    if !records_fine(library, user, group, cut, starts, nlib, n, markers, bytes) {
+        return false;
+    }
+    if word_in(bytes, 4) % 2 == 1 {
+        return true;
+    }
+    if base_lacks(m, bytes, markers) {
+        return false;
+    }
+    covers(m, sets[c])
 }

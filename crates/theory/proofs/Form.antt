@@ -15,7 +15,7 @@ use Rattle.spec.specs.Verdicts.{dependsOn}
 use Rattle.spec.specs.Lists.{elem, any, keep, gather, concat, numbered}
 use Rattle.spec.specs.Record.{Bytes, u8, u16, bit, isKind, isClass, flags, ownMarkers, superclass, target, index, none16, unlessNone, references, CLASS, LOCAL}
 use Rattle.spec.specs.Sheet.{Group, wholeFirst, recordsIn, recordsOf, splitGroups, groupsOf, classCount, total, group, classRecord, ofKind, isInterface}
-use Rattle.spec.specs.Classes.{superclasses, locals, rootIn, root}
+use Rattle.spec.specs.Classes.{superclasses, locals, lineageIn, lineage, rootIn, root}
 use Rattle.spec.specs.Relations.{Depends, Superclass, References, Uses, Root}
 use Rattle.spec.specs.Breaks.{Not, Flag}
 use Rattle.spec.specs.Refusals.{Accepted, oneClass, superclassFits, presentRefusal}
@@ -28,7 +28,7 @@ use Rattle.theory.proofs.Accept.{Fits, Sound, sound}
 use Rattle.theory.proofs.Groups.{superclass-is, flag-is}
 use Rattle.theory.proofs.Falls.{Falls, falls}
 use Rattle.theory.proofs.Overlay.{marked-sound, marked-complete}
-use Rattle.theory.proofs.Lines.{inside-sound, inside-complete, lineage-is, root-is, root-library, root-more}
+use Rattle.theory.proofs.Lines.{inside-sound, inside-complete, lineage-is, root-is, walk-enough, lineage-library, lineage-more, root-library, root-more}
 use Rattle.theory.proofs.Capture.{chain-is, captured-is, depends-is}
 
 pub accepted-sound : (library user : List ℕ) (used : ℕ) → presentRefusal library user used ≡ none → Sound library (take used user)
@@ -125,6 +125,33 @@ pub record Super (g : ℕ → Group) (c : ℕ) : Type 0 where
   pub only : superclasses (g c) ≡ superclass (classRecord (g c)) ∷ []
   pub lower : superclass (classRecord (g c)) < c
   pub concrete : T (not (isInterface (g (superclass (classRecord (g c))))))
+
+-- ---- one step up the superclasses
+
+module _ (nlib : ℕ) (g : ℕ → Group) (f : Falls g) where
+  abbrev sup : ℕ → ℕ
+  sup t = superclass (classRecord (g t))
+
+  -- a walk that is found by superclasses, one step up from a user class
+  step-up : (F : ℕ → ℕ → List ℕ) (start : List ℕ) (t : ℕ) → Super g t → ((m d : ℕ) → d < m → F m d ≡ F (suc d) d) → F (suc t) t ≡ start ++ gather (F t) (superclasses (g t))
+      → F (suc t) t ≡ start ++ F (suc (sup t)) (sup t)
+  unfolding gather
+  step-up F start t u enough e =
+      e ∙ ap (λ (l : List ℕ). start ++ gather (F t) l) (u .only) ∙ ap (λ (l : List ℕ). start ++ l) (append-nil (F t (sup t)) ∙ enough t (sup t) (u .lower))
+
+  pub lineage-up : (t : ℕ) → nlib ≤ t → Super g t → lineage nlib g t ≡ t ∷ lineage nlib g (sup t)
+  unfolding lineage
+  lineage-up t h u =
+      step-up (lineageIn nlib g) (t ∷ []) t u
+      (λ m d k. walk-enough nlib g f (lineageIn nlib g) (λ c. []) (λ c. c ∷ []) (lineage-library nlib g f) (lineage-more nlib g f) m (suc d) d k (le-refl (suc d)))
+      (lineage-more nlib g f t t h)
+
+  pub root-up : (t : ℕ) → nlib ≤ t → Super g t → root nlib g t ≡ root nlib g (sup t)
+  unfolding root
+  root-up t h u =
+      step-up (rootIn nlib g) [] t u
+      (λ m d k. walk-enough nlib g f (rootIn nlib g) (λ c. c ∷ []) (λ c. []) (root-library nlib g f) (root-more nlib g f) m (suc d) d k (le-refl (suc d)))
+      (root-more nlib g f t t h)
 
 module _ (nlib n : ℕ) (g : ℕ → Group) (few : n ≤ 256) (some : T (not (eqb nlib 0))) (fits : (c : ℕ) → All (Fits nlib n g c) (g c)) (one : (c : ℕ) → c < n → T (oneClass (g c))) where
   based : (c : ℕ) (r : List ℕ) → T (not (eqb c 0 || bit 0 (flags r))) → T (superclassFits g c r) → (superclass r < c) × T (not (isInterface (g (superclass r))))

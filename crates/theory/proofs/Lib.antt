@@ -8,6 +8,7 @@ pub mod Answers
 pub mod Accept
 pub mod Closure
 pub mod Members
+pub mod Somewhere
 pub mod References
 pub mod Groups
 pub mod Falls

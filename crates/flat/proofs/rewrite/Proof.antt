@@ -12,16 +12,16 @@ use Rattle.flat.proofs.rewrite.Statement.{statement}
 use Rattle.flat.proofs.rewrite.Tie as tie
 
 abbrev Inv-loop : tie.InvT-loop
-Inv-loop library user group cut starts nlib n markers row sets banned partial marks verdicts₀ c₀ verdicts c = Rewriting nlib n (λ i. verdictOf nlib (groupOf library (spliced user group cut)) (nlib + i)) marks verdicts₀ verdicts c
+Inv-loop library user group cut starts nlib n markers row sets marks verdicts₀ c₀ verdicts c = Rewriting nlib n (λ i. verdictOf nlib (groupOf library (spliced user group cut)) (nlib + i)) marks verdicts₀ verdicts c
 
 abbrev μ-loop : tie.MeasureT-loop
-μ-loop library user group cut starts nlib n markers row sets banned partial marks verdicts₀ c₀ verdicts c = n - c
+μ-loop library user group cut starts nlib n markers row sets marks verdicts₀ c₀ verdicts c = n - c
 
 loop-holds : tie.Need-loop-holds Inv-loop μ-loop
-loop-holds c = let p = c .before .before .before .before .before .before .before .before .before .before .before .pre in rewrite-start _ _ _ _ _ (omega (arith, classes-ordered (p .1 .0)))
+loop-holds c = let p = c .before .before .before .before .before .before .before .before .before .pre in rewrite-start _ _ _ _ _ (omega (arith, classes-ordered (p .1 .0)))
 
 rewrite-class-requires : tie.Need-rewrite-class-requires Inv-loop μ-loop
-rewrite-class-requires c κs = let p = c .before .before .before .before .before .before .before .before .before .before .before .before .before .before .pre in let f = c .before .before .loop .inv in (p .0, (p .1 .0, (p .1 .1 .0, (p .1 .1 .1 .0, (p .1 .1 .1 .1 .0, (p .1 .1 .1 .1 .1 .0, (p .1 .1 .1 .1 .1 .1 .0, ((p .1 .1 .1 .1 .1 .1 .1 .0, lines-same f (p .1 .1 .1 .1 .1 .1 .1 .1)), (f .low, omega arith)))))))))
+rewrite-class-requires c κs = let p = c .before .before .before .before .before .before .before .before .before .before .before .before .pre in let f = c .before .before .loop .inv in (p .0, (p .1 .0, (p .1 .1 .0, (p .1 .1 .1 .0, (p .1 .1 .1 .1 .0, (p .1 .1 .1 .1 .1 .0, ((p .1 .1 .1 .1 .1 .1 .0, lines-same f (p .1 .1 .1 .1 .1 .1 .1)), (f .low, omega arith))))))))
 
 add-c : tie.Need-add-c Inv-loop μ-loop
 add-c c = omega arith
@@ -30,8 +30,8 @@ loop-less : tie.Need-loop-less Inv-loop μ-loop
 loop-less c = omega arith
 
 loop-again : tie.Need-loop-again Inv-loop μ-loop
-loop-again c = let p = c .before .before .before .before .before .before .before .before .before .before .before .before .before .before .before .before .before .pre in
-    let a = c .before .before .before .before .before .before .before .before .before .before .before .before .before .before .before .before .before .args in rewrite-next (c .before .before .before .before .before .loop .inv) (omega arith) (p .1 .1 .1 .1 .1 .1 .1 .1) (c .before .before .rewrite-class .ensures ∙ class-is (c .before .before .before .before .before .loop .inv) (verdictOf (a .nlib) (groupOf (a .library .now) (spliced (a .user .now) (a .group .now) (a .cut)))))
+loop-again c = let p = c .before .before .before .before .before .before .before .before .before .before .before .before .before .before .before .pre in
+    let a = c .before .before .before .before .before .before .before .before .before .before .before .before .before .before .before .args in rewrite-next (c .before .before .before .before .before .loop .inv) (omega arith) (p .1 .1 .1 .1 .1 .1 .1) (c .before .before .rewrite-class .ensures ∙ class-is (c .before .before .before .before .before .loop .inv) (verdictOf (a .nlib) (groupOf (a .library .now) (spliced (a .user .now) (a .group .now) (a .cut)))))
 
 same-length : tie.Need-same-length Inv-loop μ-loop
 same-length c = rewrite-long (c .before .loop .inv)

@@ -9,37 +9,36 @@ use Rattle.flat.proofs.rewrite_class.Statement.{statement}
 use Rattle.flat.proofs.rewrite_class.Tie as tie
 
 shared-slice-read-if1 : tie.Need-shared-slice-read-if1
-shared-slice-read-if1 c = let p = c .before .before .before .before .before .before .before .before .before .before .before .before .pre in omega (arith, p .1 .1 .1 .1 .1 .1 .1 .0, p .1 .0 .few, p .1 .1 .1 .1 .1 .1 .1 .1)
+shared-slice-read-if1 c = let p = c .before .before .before .before .before .before .before .before .before .before .pre in omega (arith, p .1 .1 .1 .1 .1 .1 .0, p .1 .0 .few, p .1 .1 .1 .1 .1 .1 .1)
 
 returns : tie.Need-returns
 returns c = put-not _ _ _ _ (ne-eqb _ _ (c .if1 .taken))
 
-first-rule-requires : tie.Need-first-rule-requires
-first-rule-requires c κs = let p = c .before .before .before .before .before .before .before .before .before .before .before .before .before .pre in (p .0, (p .1 .0, (p .1 .1 .0, (p .1 .1 .1 .0, (p .1 .1 .1 .1 .1 .0, (p .1 .1 .1 .1 .1 .1 .0, p .1 .1 .1 .1 .1 .1 .1 .1))))))
-
-verdict-of-requires : tie.Need-verdict-of-requires
-verdict-of-requires c κs = let p = c .before .before .before .before .before .before .before .before .before .before .before .before .before .before .pre in (p .0, (p .1 .0, (p .1 .1 .0, (p .1 .1 .1 .0, (p .1 .1 .1 .1 .0, (p .1 .1 .1 .1 .1 .1 .1 .1, c .first-rule .ensures))))))
+judged-requires : tie.Need-judged-requires
+judged-requires c κs =
+    let p = c .before .before .before .before .before .before .before .before .before .before .before .pre in
+    (p .0, (p .1 .0, (p .1 .1 .0, (p .1 .1 .1 .0, (p .1 .1 .1 .1 .0, (p .1 .1 .1 .1 .1 .0, p .1 .1 .1 .1 .1 .1 .1))))))
 
 sub-at : tie.Need-sub-at
-sub-at c = let p = c .before .before .before .before .before .before .before .before .before .before .before .before .before .before .before .pre in omega (arith, p .1 .1 .1 .1 .1 .1 .1 .1)
+sub-at c = let p = c .before .before .before .before .before .before .before .before .before .before .before .before .pre in omega (arith, p .1 .1 .1 .1 .1 .1 .1)
 
 mul-at : tie.Need-mul-at
-mul-at c = let p = c .before .before .before .before .before .before .before .before .before .before .before .before .before .before .before .pre in omega (arith, p .1 .0 .few, p .1 .1 .1 .1 .1 .1 .1 .1)
+mul-at c = let p = c .before .before .before .before .before .before .before .before .before .before .before .before .pre in omega (arith, p .1 .0 .few, p .1 .1 .1 .1 .1 .1 .1)
 
 slice-write-verdicts : tie.Need-slice-write-verdicts
-slice-write-verdicts c = let p = c .before .before .before .before .before .before .before .before .before .before .before .before .before .before .before .pre in omega (arith, lines-bytes _ (p .1 .1 .1 .1 .1 .1 .1 .0 .1), p .1 .1 .1 .1 .1 .1 .1 .1)
+slice-write-verdicts c = let p = c .before .before .before .before .before .before .before .before .before .before .before .before .pre in omega (arith, lines-bytes _ (p .1 .1 .1 .1 .1 .1 .0 .1), p .1 .1 .1 .1 .1 .1 .1)
 
 add-verdicts : tie.Need-add-verdicts
-add-verdicts c = let p = c .before .before .before .before .before .before .before .before .before .before .before .before .before .before .before .pre in omega (arith, p .1 .0 .few, p .1 .1 .1 .1 .1 .1 .1 .1)
+add-verdicts c = let p = c .before .before .before .before .before .before .before .before .before .before .before .before .pre in omega (arith, p .1 .0 .few, p .1 .1 .1 .1 .1 .1 .1)
 
 slice-write-verdicts-2 : tie.Need-slice-write-verdicts-2
-slice-write-verdicts-2 c = let p = c .before .before .before .before .before .before .before .before .before .before .before .before .before .before .before .pre in simp length-set (omega (arith, lines-bytes _ (p .1 .1 .1 .1 .1 .1 .1 .0 .1), p .1 .1 .1 .1 .1 .1 .1 .1))
+slice-write-verdicts-2 c = let p = c .before .before .before .before .before .before .before .before .before .before .before .before .pre in simp length-set (omega (arith, lines-bytes _ (p .1 .1 .1 .1 .1 .1 .0 .1), p .1 .1 .1 .1 .1 .1 .1))
 
 same-length : tie.Need-same-length
 same-length c = simp length-set refl
 
 returns-2 : tie.Need-returns-2
-returns-2 c = put-yes _ _ _ _ _ (eq-eqb _ _ (c .before .before .if1 .left)) (c .verdict-of .ensures)
+returns-2 c = put-yes _ _ _ _ _ (eq-eqb _ _ (c .before .if1 .left)) (c .judged .ensures)
 
 pub rewrite-class-spec : {M : Type 1} → statement M
 rewrite-class-spec =
@@ -47,8 +46,7 @@ rewrite-class-spec =
     (tie.spec
     shared-slice-read-if1
     returns
-    first-rule-requires
-    verdict-of-requires
+    judged-requires
     sub-at
     mul-at
     slice-write-verdicts

@@ -10,45 +10,44 @@ use Rattle.groups.proofs.Between.{tiled-room}
 use Rattle.groups.proofs.Walks.{walk-on}
 use Rattle.groups.proofs.Classes.{class-long}
 use Rattle.groups.proofs.Bytes.{class-within}
-use Rattle.rules.specs.Walk.{RuleAt}
 use Rattle.rules.proofs.Ascent.{left}
 use Rattle.rules.proofs.Verdicts.{ground}
 use Rattle.rules.proofs.Stepping.{only-three, only-six}
-use Rattle.rules.proofs.Judging.{ClassAt, RecordAt, rule-end, class-start, class-end, record-start, record-end, record-low, record-first, record-sized, record-at, record-next, record-hit}
+use Rattle.rules.proofs.Judging.{RuleAt, ClassAt, RecordAt, rule-start, rule-end, class-start, class-end, record-start, record-end, record-low, record-first, record-sized, record-at, record-next, record-hit}
 use Rattle.rules.proofs.verdict_of.Statement.{statement}
 use Rattle.rules.proofs.verdict_of.Tie as tie
 
 abbrev Inv-loop2 : tie.InvT-loop2
-Inv-loop2 library user group cut starts nlib n markers row c first rule t bytes end at₀ k₀ at k = RecordAt library (spliced user group cut) nlib n c rule t bytes end at k
+Inv-loop2 library user group cut starts nlib n markers row c rule t bytes end at₀ k₀ at k = RecordAt library (spliced user group cut) nlib n c rule t bytes end at k
 
 abbrev μ-loop2 : tie.MeasureT-loop2
-μ-loop2 library user group cut starts nlib n markers row c first rule t bytes end at₀ k₀ at k = end - at
+μ-loop2 library user group cut starts nlib n markers row c rule t bytes end at₀ k₀ at k = end - at
 
 abbrev Inv-loop : tie.InvT-loop
-Inv-loop library user group cut starts nlib n markers row c first rule t₀ t = ClassAt nlib n (groupOf library (spliced user group cut)) c rule t
+Inv-loop library user group cut starts nlib n markers row c rule t₀ t = ClassAt nlib n (groupOf library (spliced user group cut)) c rule t
 
 abbrev μ-loop : tie.MeasureT-loop
-μ-loop library user group cut starts nlib n markers row c first rule t₀ t = left n c t
+μ-loop library user group cut starts nlib n markers row c rule t₀ t = left n c t
 
 abbrev Inv-judged : tie.InvT-judged
-Inv-judged library user group cut starts nlib n markers row c first rule₀ rule = RuleAt nlib (groupOf library (spliced user group cut)) c rule
+Inv-judged library user group cut starts nlib n markers row c rule₀ rule = RuleAt nlib (groupOf library (spliced user group cut)) c rule
 
 abbrev μ-judged : tie.MeasureT-judged
-μ-judged library user group cut starts nlib n markers row c first rule₀ rule = 11 - rule
+μ-judged library user group cut starts nlib n markers row c rule₀ rule = 11 - rule
 
 judged-holds : tie.Need-judged-holds Inv-loop2 μ-loop2 Inv-loop μ-loop Inv-judged μ-judged
-judged-holds c = c .before .before .before .before .before .before .pre .1 .1 .1 .1 .1 .1
+judged-holds c = rule-start
 
 first-class-requires :
     tie.Need-first-class-requires Inv-loop2 μ-loop2 Inv-loop μ-loop Inv-judged μ-judged
 first-class-requires c κs =
     let p = c .before .before .before .before .before .before .before .before .pre in
-    (p .0, (p .1 .0, (p .1 .1 .1 .0, p .1 .1 .1 .1 .1 .0 .1)))
+    (p .0, (p .1 .0, (p .1 .1 .1 .0, p .1 .1 .1 .1 .1 .1)))
 
 loop-holds : tie.Need-loop-holds Inv-loop2 μ-loop2 Inv-loop μ-loop Inv-judged μ-judged
 loop-holds c =
     let p = c .before .before .before .before .before .before .before .before .before .pre in
-    class-start (ground (p .1 .0) (p .1 .1 .0)) (p .1 .1 .1 .1 .1 .0 .0) (p .1 .1 .1 .1 .1 .0 .1) (c .before .before .judged .inv) (c .first-class .ensures)
+    class-start (ground (p .1 .0) (p .1 .1 .0)) (p .1 .1 .1 .1 .1 .0) (p .1 .1 .1 .1 .1 .1) (c .before .before .judged .inv) (c .first-class .ensures)
 
 class-bytes-requires :
     tie.Need-class-bytes-requires Inv-loop2 μ-loop2 Inv-loop μ-loop Inv-judged μ-judged
@@ -65,7 +64,7 @@ asked-end-requires c κs =
 loop2-holds : tie.Need-loop2-holds Inv-loop2 μ-loop2 Inv-loop μ-loop Inv-judged μ-judged
 loop2-holds c =
     let p = c .before .before .before .before .before .before .before .before .before .before .before .before .before .pre in
-    record-start (p .1 .0) (ground (p .1 .0) (p .1 .1 .0)) (p .1 .1 .1 .1 .1 .0 .0) (p .1 .1 .1 .1 .1 .0 .1) (c .before .before .before .loop .inv) (omega arith) (c .before .class-bytes .ensures) (c .asked-end .ensures _ (c .before .class-bytes .ensures))
+    record-start (p .1 .0) (ground (p .1 .0) (p .1 .1 .0)) (p .1 .1 .1 .1 .1 .0) (p .1 .1 .1 .1 .1 .1) (c .before .before .before .loop .inv) (omega arith) (c .before .class-bytes .ensures) (c .asked-end .ensures _ (c .before .class-bytes .ensures))
 
 breaks-requires : tie.Need-breaks-requires Inv-loop2 μ-loop2 Inv-loop μ-loop Inv-judged μ-judged
 breaks-requires c κs =
@@ -81,10 +80,10 @@ breaks-requires c κs =
             (
               p .1 .1 .1 .1 .0,
               (
-                (p .1 .1 .1 .1 .1 .0 .0, p .1 .1 .1 .1 .1 .0 .1, omega arith, f .rules .some),
+                (p .1 .1 .1 .1 .1 .0, p .1 .1 .1 .1 .1 .1, omega arith, f .rules .some),
                 (
-                  record { carries = f .carries; is = record-at (p .1 .0) (ground (p .1 .0) (p .1 .1 .0)) (p .1 .1 .1 .1 .1 .0 .0) (p .1 .1 .1 .1 .1 .0 .1) f (omega arith); sized = record-sized (p .1 .0) (ground (p .1 .0) (p .1 .1 .0)) (p .1 .1 .1 .1 .1 .0 .0) (p .1 .1 .1 .1 .1 .0 .1) f (omega arith) },
-                  (λ e. record-first (p .1 .0) (ground (p .1 .0) (p .1 .1 .0)) (p .1 .1 .1 .1 .1 .0 .0) (p .1 .1 .1 .1 .1 .0 .1) f (omega arith) (only-three _ _ _ e), λ e. record-first (p .1 .0) (ground (p .1 .0) (p .1 .1 .0)) (p .1 .1 .1 .1 .1 .0 .0) (p .1 .1 .1 .1 .1 .0 .1) f (omega arith) (only-six _ _ _ e), f .concrete),
+                  record { carries = f .carries; is = record-at (p .1 .0) (ground (p .1 .0) (p .1 .1 .0)) (p .1 .1 .1 .1 .1 .0) (p .1 .1 .1 .1 .1 .1) f (omega arith); sized = record-sized (p .1 .0) (ground (p .1 .0) (p .1 .1 .0)) (p .1 .1 .1 .1 .1 .0) (p .1 .1 .1 .1 .1 .1) f (omega arith) },
+                  (λ e. record-first (p .1 .0) (ground (p .1 .0) (p .1 .1 .0)) (p .1 .1 .1 .1 .1 .0) (p .1 .1 .1 .1 .1 .1) f (omega arith) (only-three _ _ _ e), λ e. record-first (p .1 .0) (ground (p .1 .0) (p .1 .1 .0)) (p .1 .1 .1 .1 .1 .0) (p .1 .1 .1 .1 .1 .1) f (omega arith) (only-six _ _ _ e), f .concrete),
                 ),
               ),
             ),
@@ -96,7 +95,7 @@ breaks-requires c κs =
 place-requires : tie.Need-place-requires Inv-loop2 μ-loop2 Inv-loop μ-loop Inv-judged μ-judged
 place-requires c κs =
     let p = c .before .before .before .before .before .before .before .before .before .before .before .before .before .before .before .before .before .pre in
-    omega (arith, record-low (p .1 .0) (ground (p .1 .0) (p .1 .1 .0)) (p .1 .1 .1 .1 .1 .0 .0) (p .1 .1 .1 .1 .1 .0 .1) (c .before .before .before .loop2 .inv) (omega arith))
+    omega (arith, record-low (p .1 .0) (ground (p .1 .0) (p .1 .1 .0)) (p .1 .1 .1 .1 .1 .0) (p .1 .1 .1 .1 .1 .1) (c .before .before .before .loop2 .inv) (omega arith))
 
 word-in-requires : tie.Need-word-in-requires Inv-loop2 μ-loop2 Inv-loop μ-loop Inv-judged μ-judged
 word-in-requires c κs = omega (arith, tiled-room (c .before .before .before .loop2 .inv .place .tiled) (omega arith))
@@ -110,7 +109,7 @@ add-at c = omega (arith, c .before .before .before .before .before .loop2 .inv .
 add-k : tie.Need-add-k Inv-loop2 μ-loop2 Inv-loop μ-loop Inv-judged μ-judged
 add-k c =
     let p = c .before .before .before .before .before .before .before .before .before .before .before .before .before .before .before .before .before .before .before .pre in
-    omega (arith, record-low (p .1 .0) (ground (p .1 .0) (p .1 .1 .0)) (p .1 .1 .1 .1 .1 .0 .0) (p .1 .1 .1 .1 .1 .0 .1) (c .before .before .before .before .before .loop2 .inv) (omega arith))
+    omega (arith, record-low (p .1 .0) (ground (p .1 .0) (p .1 .1 .0)) (p .1 .1 .1 .1 .1 .0) (p .1 .1 .1 .1 .1 .1) (c .before .before .before .before .before .loop2 .inv) (omega arith))
 
 loop2-less : tie.Need-loop2-less Inv-loop2 μ-loop2 Inv-loop μ-loop Inv-judged μ-judged
 loop2-less c =
@@ -120,7 +119,7 @@ loop2-less c =
 loop2-again : tie.Need-loop2-again Inv-loop2 μ-loop2 Inv-loop μ-loop Inv-judged μ-judged
 loop2-again c =
     let p = c .before .before .before .before .before .before .before .before .before .before .before .before .before .before .before .before .before .before .before .pre in
-    record-next (p .1 .0) (ground (p .1 .0) (p .1 .1 .0)) (p .1 .1 .1 .1 .1 .0 .0) (p .1 .1 .1 .1 .1 .0 .1) (c .before .before .before .before .before .loop2 .inv) (omega arith) (c .wide .ensures .0 ∙ c .before .word-in .ensures) (sym (c .before .before .before .breaks .ensures) ∙ c .before .before .if2 .left)
+    record-next (p .1 .0) (ground (p .1 .0) (p .1 .1 .0)) (p .1 .1 .1 .1 .1 .0) (p .1 .1 .1 .1 .1 .1) (c .before .before .before .before .before .loop2 .inv) (omega arith) (c .wide .ensures .0 ∙ c .before .word-in .ensures) (sym (c .before .before .before .breaks .ensures) ∙ c .before .before .if2 .left)
 
 next-class-requires :
     tie.Need-next-class-requires Inv-loop2 μ-loop2 Inv-loop μ-loop Inv-judged μ-judged
@@ -131,12 +130,12 @@ next-class-requires c κs =
 loop-less : tie.Need-loop-less Inv-loop2 μ-loop2 Inv-loop μ-loop Inv-judged μ-judged
 loop-less c =
     let p = c .before .before .before .before .before .before .before .before .before .before .before .before .before .before .before .before .pre in
-    record-end (p .1 .0) (ground (p .1 .0) (p .1 .1 .0)) (p .1 .1 .1 .1 .1 .0 .0) (p .1 .1 .1 .1 .1 .0 .1) (c .before .before .loop2 .inv) (omega arith) (omega arith) (c .next-class .ensures) .1
+    record-end (p .1 .0) (ground (p .1 .0) (p .1 .1 .0)) (p .1 .1 .1 .1 .1 .0) (p .1 .1 .1 .1 .1 .1) (c .before .before .loop2 .inv) (omega arith) (omega arith) (c .next-class .ensures) .1
 
 loop-again : tie.Need-loop-again Inv-loop2 μ-loop2 Inv-loop μ-loop Inv-judged μ-judged
 loop-again c =
     let p = c .before .before .before .before .before .before .before .before .before .before .before .before .before .before .before .before .pre in
-    record-end (p .1 .0) (ground (p .1 .0) (p .1 .1 .0)) (p .1 .1 .1 .1 .1 .0 .0) (p .1 .1 .1 .1 .1 .0 .1) (c .before .before .loop2 .inv) (omega arith) (omega arith) (c .next-class .ensures) .0
+    record-end (p .1 .0) (ground (p .1 .0) (p .1 .1 .0)) (p .1 .1 .1 .1 .1 .0) (p .1 .1 .1 .1 .1 .1) (c .before .before .loop2 .inv) (omega arith) (omega arith) (c .next-class .ensures) .0
 
 add-rule : tie.Need-add-rule Inv-loop2 μ-loop2 Inv-loop μ-loop Inv-judged μ-judged
 add-rule c = omega arith
@@ -147,17 +146,17 @@ judged-less c = omega arith
 judged-again : tie.Need-judged-again Inv-loop2 μ-loop2 Inv-loop μ-loop Inv-judged μ-judged
 judged-again c =
     let p = c .before .before .before .before .before .before .before .before .before .before .before .pre in
-    class-end (ground (p .1 .0) (p .1 .1 .0)) (p .1 .1 .1 .1 .1 .0 .0) (p .1 .1 .1 .1 .1 .0 .1) (omega arith) (c .before .loop .inv) (omega arith)
+    class-end (ground (p .1 .0) (p .1 .1 .0)) (p .1 .1 .1 .1 .1 .0) (p .1 .1 .1 .1 .1 .1) (omega arith) (c .before .loop .inv) (omega arith)
 
 returns : tie.Need-returns Inv-loop2 μ-loop2 Inv-loop μ-loop Inv-judged μ-judged
 returns c =
     let p = c .before .before .before .before .before .before .before .before .pre in
-    sym (rule-end (ground (p .1 .0) (p .1 .1 .0)) (p .1 .1 .1 .1 .1 .0 .0) (p .1 .1 .1 .1 .1 .0 .1) (c .before .judged .inv) (omega arith))
+    sym (rule-end (ground (p .1 .0) (p .1 .1 .0)) (p .1 .1 .1 .1 .1 .0) (p .1 .1 .1 .1 .1 .1) (c .before .judged .inv) (omega arith))
 
 returns-2 : tie.Need-returns-2 Inv-loop2 μ-loop2 Inv-loop μ-loop Inv-judged μ-judged
 returns-2 c =
     let p = c .before .before .before .before .before .before .before .before .before .before .before .before .before .before .before .before .before .before .pre in
-    record-hit (p .1 .0) (ground (p .1 .0) (p .1 .1 .0)) (p .1 .1 .1 .1 .1 .0 .0) (p .1 .1 .1 .1 .1 .0 .1) (c .before .before .before .before .loop2 .inv) (omega arith) (omega arith) (omega arith) (sym (c .before .before .breaks .ensures) ∙ c .before .if2 .taken) (c .place .ensures)
+    record-hit (p .1 .0) (ground (p .1 .0) (p .1 .1 .0)) (p .1 .1 .1 .1 .1 .0) (p .1 .1 .1 .1 .1 .1) (c .before .before .before .before .loop2 .inv) (omega arith) (omega arith) (omega arith) (sym (c .before .before .breaks .ensures) ∙ c .before .if2 .taken) (c .place .ensures)
 
 pub verdict-of-spec : {M : Type 1} → statement M
 verdict-of-spec =

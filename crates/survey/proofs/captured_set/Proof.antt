@@ -1,6 +1,6 @@
 -- Each of the three lanes has its marker.
 -- Assumes nothing.
-use Rattle.survey.proofs.Sets.{lanes-clear}
+use Rattle.survey.proofs.Sets.{lanes-pass}
 use borrow.Author.Needs.{needs}
 use Rattle.survey.proofs.captured_set.Statement.{statement}
 use Rattle.survey.proofs.captured_set.Tie as tie
@@ -30,7 +30,7 @@ common-requires-2 : tie.Need-common-requires-2
 common-requires-2 c κs = search needs
 
 returns : tie.Need-returns
-returns c = let q = c .before in let z = q .before in let y = z .before .before in let x = y .before .before in lanes-clear _ _ (x .before .lacking .ensures) (y .before .lacking2 .ensures) (z .before .lacking3 .ensures) _ _ _ _ _ (x .all-or .ensures) (y .all-or2 .ensures) (z .all-or3 .ensures) (q .common .ensures) (c .common2 .ensures)
+returns c = let q = c .before in let z = q .before in let y = z .before .before in let x = y .before .before in lanes-pass _ _ (x .before .lacking .ensures) (y .before .lacking2 .ensures) (z .before .lacking3 .ensures) _ _ _ _ (x .all-or .ensures) (y .all-or2 .ensures) (z .all-or3 .ensures) (q .common .ensures) (c .common2 .ensures)
 
 pub captured-set-spec : {M : Type 1} → statement M
 captured-set-spec =

@@ -25,7 +25,7 @@ union-requires : tie.Need-union-requires
 union-requires c κs = search needs
 
 returns-2 : tie.Need-returns-2
-returns-2 c = let a = c .before .before .before .before .before .before .before .before .args in encloser-some (now (a .bytes)) (now (a .markers)) (c .before .before .wide .ensures .0) (c .before .before .before .word-in2 .ensures) (c .before .known .ensures) (c .union .ensures)
+returns-2 c = let a = c .before .before .before .before .before .before .before .before .args in encloser-some (now (a .bytes)) (now (a .markers)) (c .before .before .before .before .before .word-in .ensures) (c .before .before .before .before .if1 .left) (c .before .before .wide .ensures .0) (c .before .before .before .word-in2 .ensures) (c .before .known .ensures) (c .union .ensures)
 
 pub encloser-set-spec : {M : Type 1} → statement M
 encloser-set-spec =

@@ -9,8 +9,7 @@ use native.Mathlib.Omega.{arith}
 use borrow.Author.Needs.{needs}
 use Rattle.groups.proofs.Between.{tiled-room}
 use Rattle.groups.proofs.Walks.{walk-on}
-use Rattle.survey.proofs.Walking.{walking-start}
-use Rattle.survey.proofs.Fields.{Fielding, fielding-end, fielding-other, fielding-field}
+use Rattle.survey.proofs.Fields.{Fielding, fielding-start, fielding-end, fielding-other, fielding-field}
 use Rattle.survey.proofs.fields_set.Statement.{statement}
 use Rattle.survey.proofs.fields_set.Tie as tie
 
@@ -21,7 +20,7 @@ abbrev μ-loop : tie.MeasureT-loop
 μ-loop bytes markers at₀ set₀ at set = length bytes - at
 
 loop-holds : tie.Need-loop-holds Inv-loop μ-loop
-loop-holds c = walking-start 255 (c .before .before .pre)
+loop-holds c = fielding-start (c .before .before .pre)
 
 add-word-in : tie.Need-add-word-in Inv-loop μ-loop
 add-word-in c = omega (arith, c .before .loop .inv .place .small)

@@ -15,7 +15,7 @@ union-requires : tie.Need-union-requires
 union-requires c κs = search needs
 
 returns-2 : tie.Need-returns-2
-returns-2 c = root-other (c .before .known .ensures) (c .union .ensures)
+returns-2 c = root-other (c .before .before .if1 .left) (c .before .known .ensures) (c .union .ensures)
 
 pub root-set-spec : {M : Type 1} → statement M
 root-set-spec = tie.close (tie.spec returns known-requires union-requires returns-2)

@@ -1,0 +1,62 @@
+-- Demand 2 and locality of the row that an accepted judging leaves, for any row with its laws; and of the flat one.
+-- Assumes nothing.
+use mathlib.Core.Path.{_≡_, sym, ap, _∙_, subst}
+use mathlib.Core.List.{List}
+use mathlib.Core.Option.{none}
+use Prim.Native.Nat.{ℕ, _+_, _≤_, _<_}
+use native.Mathlib.Omega.{arith}
+use lib.Dec.{ltb, lt→ltb}
+use lib.ListN.{length, take}
+use Rattle.spec.specs.Sheet.{classCount, total, group}
+use Rattle.spec.specs.Rules.{verdictOf}
+use Rattle.spec.specs.Refusals.{presentRefusal, judgeRefusal}
+use Rattle.spec.specs.Verdicts.{VerdictRow, flat, verdictAt, userVerdict}
+use Rattle.spec.specs.Promises.{accepted, countsOf, judgedRow}
+use Rattle.theory.proofs.Answers.{first-none}
+use Rattle.theory.proofs.Demand2.{demand2}
+use Rattle.theory.proofs.Local.{locality}
+use Rattle.history.specs.Judged.{RightAt, Accepts, RowRight, RowLocal}
+use Rattle.history.specs.Demand3.{RowLaws}
+use Rattle.history.proofs.Unrefused.{short-none}
+use Rattle.history.proofs.Steps.{is-accepted, anew}
+use Rattle.history.proofs.Flat.{flat-laws}
+
+module _ (row : VerdictRow) (laws : RowLaws row) where
+  module _ {library user : List ℕ} {used : ℕ} {after : row .Row} (a : Accepts row library user used after) where
+    abbrev bytes : List ℕ
+    bytes = take used user
+
+    unrefused : judgeRefusal library user used (row .lines (a .before)) (length (a .scratch)) ≡ none
+    unrefused = is-accepted (judgeRefusal library user used (row .lines (a .before)) (length (a .scratch))) (countsOf library bytes) (a .counts) (sym (a .promised .answered)) .0
+
+    present : presentRefusal library user used ≡ none
+    unfolding judgeRefusal
+    present = first-none _ unrefused .0
+
+    room : classCount bytes ≤ row .lines (a .before)
+    unfolding judgeRefusal
+    room = short-none (classCount bytes) (row .lines (a .before)) (length (a .scratch)) (first-none _ unrefused .1 .0)
+
+    pub line-is : (i : ℕ) → i < classCount bytes → row .at after i ≡ verdictAt library bytes (classCount library + i)
+    unfolding judgedRow userVerdict
+    line-is i h =
+        ap (λ (v : row .Row). row .at v i) (a .promised .verdicts-are ∙ anew (judgeRefusal library user used (row .lines (a .before)) (length (a .scratch))) (a .before) _ unrefused)
+        ∙ laws .at-changed (λ j. ltb j (classCount bytes)) (userVerdict library bytes) (a .before) i (omega (arith, room)) (lt→ltb i (classCount bytes) h)
+
+  pub row-right : RowRight row
+  unfolding total
+  row-right library user used after a lb ub i h =
+      subst (RightAt library (take used user) i) (sym (line-is a i h))
+      (demand2 library user used (record { libraryBytes = lb; userBytes = ub; unrefused = present a }) (classCount library + i) (omega arith) (omega arith))
+
+  pub row-local : RowLocal row
+  unfolding verdictAt
+  row-local library user used after a library′ user′ used′ after′ a′ e i h h′ same =
+      line-is a i h ∙ locality (classCount library) (group library (take used user)) (group library′ (take used′ user′)) (classCount library + i) same
+      ∙ ap (λ (k : ℕ). verdictOf k (group library′ (take used′ user′)) (k + i)) e ∙ sym (line-is a′ i h′)
+
+pub flat-right : RowRight flat
+flat-right = row-right flat flat-laws
+
+pub flat-local : RowLocal flat
+flat-local = row-local flat flat-laws

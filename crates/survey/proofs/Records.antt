@@ -1,0 +1,85 @@
+-- The records of a class by rules 1, 2 and 5, and its CLASS record by 3, 4 and 6.
+-- Assumes nothing.
+use mathlib.Core.Path.{_≡_, refl, sym, ap, _∙_, subst}
+use mathlib.Core.Bool.{Bool, true, false, not, _&&_, _||_}
+use mathlib.Core.List.{List, _∷_}
+use mathlib.Core.Option.{none}
+use Prim.Native.Nat.{ℕ, _+_, _≤_, _<_}
+use native.Mathlib.Omega.{arith}
+use lib.ListN.{length, getD}
+use Rattle.spec.specs.Lists.{any}
+use Rattle.spec.specs.Record.{u8, u16, bit, isKind, REFERS, flags, ownMarkers, target, index, fieldTy, isFinal, references}
+use Rattle.spec.specs.Sheet.{Group, group, total, classCount, isStaticField}
+use Rattle.spec.specs.Markers.{clash}
+use Rattle.spec.specs.Classes.{satisfies}
+use Rattle.spec.specs.Rules.{staticMarker, memberAllowed, forbidden}
+use Rattle.spec.specs.Refusals.{formRefusal}
+use Rattle.theory.proofs.All.{All, weaken}
+use Rattle.theory.proofs.Accept.{Fits, form-fits}
+use Rattle.theory.proofs.References.{references-refers}
+use Rattle.pass.specs.Pass.{recordAt}
+use Rattle.groups.specs.Groups.{between, AtRecord, Carries, Indexed}
+use Rattle.groups.proofs.Between.{tiled-end}
+use Rattle.groups.proofs.Walks.{walk-here, walk-next}
+use Rattle.breaks.specs.Breaking.{Refers}
+use Rattle.survey.specs.Survey.{headBreaks, recordBreaks}
+use Rattle.survey.proofs.Sets.{met, past}
+
+-- ---- the CLASS record
+
+pub head-by : (bytes : List ℕ) (m : ℕ) {a b d : Bool} → a ≡ (bit 4 (getD bytes 6 0) || bit 5 (getD bytes 6 0) || bit 6 (getD bytes 6 0)) → b ≡ clash m
+    → {f : ℕ} → f ≡ u16 bytes 4 → d ≡ (bit 5 f || bit 6 f || bit 7 f) → headBreaks bytes m ≡ (a || (b || d))
+unfolding headBreaks ownMarkers u8 flags
+head-by bytes m ea eb {f} ef ed = rw (ea, eb, ed, ef)
+
+-- ---- every record
+
+-- a record breaks one of the three rules if one of three tests is met
+module _ (nlib : ℕ) (g : ℕ → Group) (r : List ℕ) {a b d : Bool} (ea : a ≡ any (forbidden nlib g) (references r)) (eb : b ≡ (isKind REFERS r && not (memberAllowed g (target r) (index r))))
+    (ed : d ≡ (isStaticField r && not (isFinal r && satisfies g staticMarker (fieldTy r)))) where
+  pub record-by : recordBreaks nlib g r ≡ (a || (b || d))
+  unfolding recordBreaks
+  record-by = rw (ea, eb, ed)
+
+-- what is left of the records tells of all
+pub record Seeking (nlib n : ℕ) (g : ℕ → Group) (bytes : List ℕ) (at : ℕ) : Type 0 where
+  pub place : AtRecord bytes (length bytes) at
+  pub left : All (Refers n g) (between bytes at (length bytes))
+  pub rest : any (recordBreaks nlib g) (between bytes 0 (length bytes)) ≡ any (recordBreaks nlib g) (between bytes at (length bytes))
+
+pub seek-start : {nlib n : ℕ} {g : ℕ → Group} {bytes : List ℕ} → AtRecord bytes (length bytes) 0 → All (Refers n g) (between bytes 0 (length bytes)) → Seeking nlib n g bytes 0
+seek-start w h = record { place = w; left = h; rest = refl }
+
+module _ {nlib n : ℕ} {g : ℕ → Group} {bytes : List ℕ} {at : ℕ} (w : Seeking nlib n g bytes at) where
+  pub seek-end : length bytes ≤ at → any (recordBreaks nlib g) (between bytes 0 (length bytes)) ≡ false
+  unfolding any
+  seek-end h = w .rest ∙ ap (any (recordBreaks nlib g)) (tiled-end bytes at (length bytes) h)
+
+  module _ (h : at < length bytes) where
+    left-here : All (Refers n g) (recordAt bytes at ∷ between bytes (at + u16 bytes at) (length bytes))
+    unfolding recordAt
+    left-here = subst (All (Refers n g)) (walk-here (w .place) h) (w .left)
+
+    pub seek-refers : Refers n g (recordAt bytes at)
+    seek-refers = left-here .0
+
+    rest-here : any (recordBreaks nlib g) (between bytes 0 (length bytes)) ≡ (recordBreaks nlib g (recordAt bytes at) || any (recordBreaks nlib g) (between bytes (at + u16 bytes at) (length bytes)))
+    unfolding recordAt any
+    rest-here = w .rest ∙ ap (any (recordBreaks nlib g)) (walk-here (w .place) h)
+
+    pub seek-hit : recordBreaks nlib g (recordAt bytes at) ≡ true → any (recordBreaks nlib g) (between bytes 0 (length bytes)) ≡ true
+    seek-hit e = met e (any (recordBreaks nlib g) (between bytes (at + u16 bytes at) (length bytes))) rest-here
+
+    pub seek-next : {l : ℕ} → l ≡ u16 bytes at → recordBreaks nlib g (recordAt bytes at) ≡ false → Seeking nlib n g bytes (at + l)
+    seek-next el e = rw el (record { place = walk-next (w .place) h; left = left-here .1; rest = past e rest-here })
+
+-- REFERS records of an accepted pair name members that are there
+all-refer : {library user : List ℕ} {nlib n : ℕ} {row : List ℕ} → Indexed library user nlib n row → formRefusal library user ≡ none → (c : ℕ) → All (Refers n (group library user)) (group library user c)
+all-refer {library} {user} {n = n} x ok c =
+    weaken (Fits (classCount library) (total library user) (group library user) c) (Refers n (group library user))
+    (λ r f. record { class = λ u. let a = subst (All (λ d. d < total library user)) (references-refers r u) (f .there) in omega (arith, a .0, x .n-is); member = f .member })
+    (group library user c) (form-fits library user ok c)
+
+pub refers-in : {library user : List ℕ} {nlib n : ℕ} {row : List ℕ} → Indexed library user nlib n row → formRefusal library user ≡ none → (c : ℕ) {bytes : List ℕ} → Carries bytes (group library user c)
+    → All (Refers n (group library user)) (between bytes 0 (length bytes))
+refers-in {library} {user} {n = n} x ok c w = subst (All (Refers n (group library user))) (sym (w .records)) (all-refer x ok c)
