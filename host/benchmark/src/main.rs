@@ -66,8 +66,7 @@ fn table() {
     println!("|:--|:--|--:|--:|--:|--:|");
     let mut full = None;
     for family in families() {
-        let hostile = !["typical", "full"].contains(&family.name);
-        let judged = time_judge(&family, full.filter(|_| hostile));
+        let judged = time_judge(&family, full.filter(|_| family.hostile));
         if family.name == "full" {
             full = Some(judged);
         }
