@@ -69,6 +69,21 @@ fn full_is_full_and_mostly_clean() {
     assert!(counts.faulted * 10 <= counts.classes, "{counts:?}");
 }
 
+/// Each class below the chain passes all rules but the last.
+#[test]
+fn faulted_chains_break_rule_1_and_the_classes_below_rule_10() {
+    let families = families();
+    let family = families
+        .iter()
+        .find(|family| family.name == "faulted_chains");
+    let mut buffers = Buffers::new();
+    let counts = buffers.judge(family.expect("a family of this name"));
+    let verdicts: Vec<&[u8]> = buffers.verdicts.chunks(2).take(counts.classes).collect();
+    let (chain, below) = verdicts.split_at(10);
+    assert!(chain.iter().all(|verdict| verdict[0] == 1), "{chain:?}");
+    assert_eq!(below, vec![[10, 1]; 243]);
+}
+
 #[test]
 fn timing() {
     println!();
