@@ -6,16 +6,15 @@
 
 mod measure;
 mod operations;
-mod verifier;
 
 use std::env;
 use std::process::ExitCode;
 
+use calls::{most_needed, Verifier, KERDZHUSI, REFERENCE};
 use kerdzhusi::{SCRATCH_BYTES, VERDICT_BYTES};
 use measure::{compare, Times, Workload, BURST, BURSTS, SAMPLES};
 use sheets::build::CLASS_LIMIT;
 use sheets::{families, Family};
-use verifier::{Verifier, KERDZHUSI, REFERENCE};
 
 fn main() -> ExitCode {
     let words: Vec<String> = env::args().skip(1).collect();
@@ -66,8 +65,7 @@ fn table() {
     println!("|:--|:--|--:|--:|--:|--:|");
     let mut full = None;
     for family in families() {
-        let hostile = !["typical", "full"].contains(&family.name);
-        let judged = time_judge(&family, full.filter(|_| hostile));
+        let judged = time_judge(&family, full.filter(|_| family.hostile));
         if family.name == "full" {
             full = Some(judged);
         }
@@ -86,7 +84,7 @@ fn time_judge(family: &Family, full: Option<f64>) -> f64 {
 fn time_others(family: &Family) {
     let times = measure(|verifier| operations::add(verifier, family));
     print_row(family, "add", times, "");
-    let (class, dependents) = operations::most_needed(family);
+    let (class, dependents) = most_needed(family);
     let times = measure(|verifier| operations::replace(verifier, family, class));
     let operation = format!("replace, dependents {dependents}");
     print_row(family, &operation, times, "");

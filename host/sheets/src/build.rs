@@ -17,6 +17,8 @@ pub const INTERFACE: u16 = 1 << 0;
 pub const INNER: u16 = 1 << 1;
 /// Overrides equals and hashCode.
 pub const BY_VALUE: u16 = 0b1100;
+pub const CALLS_OWN_METHOD: u16 = 1 << 5;
+pub const LETS_THIS_OUT: u16 = 1 << 7;
 pub const ALLOWED: u16 = 1 << 8;
 
 pub const FINAL: u16 = 1 << 0;

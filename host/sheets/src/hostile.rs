@@ -9,6 +9,10 @@ pub const ALL: &[(&str, Maker)] = &[
     ("interface_diamonds", interface_diamonds),
     ("nested_chains", nested_chains),
     ("field_chains", field_chains),
+    ("superclass_chain", superclass_chain),
+    ("interface_chain", interface_chain),
+    ("both_chains", both_chains),
+    ("faulted_chains", faulted_chains),
     ("builds_rings_zigzag", || nested_rings(zigzag(CHAIN))),
     ("builds_rings_rising", || nested_rings(rising(CHAIN))),
     ("builds_rings_falling", || nested_rings(falling(CHAIN))),
@@ -128,6 +132,106 @@ fn field_chains() -> Pair {
     }
     fill_last_group(&mut user);
     (object_only(), user)
+}
+
+/// A superclass chain of all classes. The first has the markers that all are asked for, and the
+/// fields stand as near to it as they can, so that most classes inherit them.
+fn superclass_chain() -> Pair {
+    let mut user = Sheet::new();
+    for class in 1..=CHAIN {
+        user.class(chained(class, 1), &short_name(class));
+        fill_with_fields(&mut user, FINAL, (CHAIN - class) * (12 + SHORT));
+    }
+    (object_only(), user)
+}
+
+/// A chain of interfaces that each extend the one before, and a class at its end, which is the
+/// type of all fields.
+fn interface_chain() -> Pair {
+    let mut user = Sheet::new();
+    for class in 1..CHAIN {
+        chained_interface(&mut user, class);
+        fill_with_fields(
+            &mut user,
+            STATIC | FINAL,
+            (CHAIN - class) * (12 + SHORT + 6),
+        );
+    }
+    user.class(Class::below(0).flags(BY_VALUE), &short_name(CHAIN));
+    user.implements(CHAIN - 1);
+    (object_only(), user)
+}
+
+/// A chain of interfaces and a superclass chain, whose classes implement them from the last to the
+/// first, so that one way up leads through all of both.
+fn both_chains() -> Pair {
+    const INTERFACES: usize = CHAIN / 2;
+    const FIRST: usize = INTERFACES + 1;
+    let mut user = Sheet::new();
+    for class in 1..=INTERFACES {
+        chained_interface(&mut user, class);
+    }
+    for class in FIRST..=CHAIN {
+        user.class(chained(class, FIRST), &short_name(class));
+        user.implements((CHAIN - class).max(1));
+        fill_with_fields(&mut user, FINAL, (CHAIN - class) * (12 + SHORT + 6));
+    }
+    (object_only(), user)
+}
+
+/// A class of a superclass chain; its first one has all markers that rules ask for.
+fn chained(class: usize, first: usize) -> Class {
+    if class > first {
+        return Class::below(class - 1);
+    }
+    let own = POWERLESS | DEEP_SELFLESS;
+    Class::below(0).flags(BY_VALUE).own(own)
+}
+
+/// An interface of a chain from 1 on; its first one has all markers that rules ask for.
+fn chained_interface(user: &mut Sheet, class: usize) {
+    let own = POWERLESS | DEEP_SELFLESS;
+    match class {
+        1 => user.class(Class::interface().own(own), &short_name(class)),
+        _ => {
+            user.class(Class::interface(), &short_name(class));
+            user.implements(class - 1)
+        }
+    };
+}
+
+/// Fields of the last class's type, as many as leave room for what comes later.
+fn fill_with_fields(user: &mut Sheet, flags: u16, later: usize) {
+    while user.fits(11 + later) {
+        user.field(flags, object(CHAIN), b"f");
+    }
+}
+
+/// Faults behind much that is sound. Below a superclass chain with as many fields as fit stand as
+/// many classes as there can be, all markers asked, each broken by rule 10 alone, at a field of
+/// its own. The chain's classes are broken by rule 1 alone, each at its last record.
+fn faulted_chains() -> Pair {
+    const SUPERCLASSES: usize = 10;
+    let mut library = object_only();
+    library.class(Class::below(0), b"System");
+    library.class(Class::below(0).flags(ALLOWED).own(POWERLESS), b"Powerless");
+    let (system, powerless, first) = (1, 2, 3);
+    let last = first + SUPERCLASSES - 1;
+    let own = POWERLESS | DEEP_SELFLESS;
+    let mut user = Sheet::new();
+    for class in first..=last {
+        user.class(chained(class, first).own(own), &short_name(class));
+        let later = (last - class) * (12 + SHORT + 6) + (CHAIN - last) * (12 + SHORT + 11);
+        while user.records_in_group() < GROUP_LIMIT - 1 && user.fits(11 + 6 + later) {
+            user.field(FINAL, object(first), b"f");
+        }
+        user.builds(system);
+    }
+    for class in last + 1..=CHAIN {
+        user.class(Class::below(last).own(own), &short_name(class));
+        user.field(FINAL, object(powerless), b"f");
+    }
+    (library, user)
 }
 
 /// BUILDS records up to the end of the sheet or of the group.

@@ -8,6 +8,8 @@ mod ordinary;
 mod plan;
 mod random;
 mod read;
+mod real;
+mod real_names;
 
 pub use groups::{broken_group, edited_group, fitting_group};
 pub use random::{damage, random_group, random_pair, varied_pair, Random};
@@ -18,6 +20,7 @@ use build::Sheet;
 /// A library sheet and a user sheet with a name.
 pub struct Family {
     pub name: &'static str,
+    pub hostile: bool,
     pub library: Vec<u8>,
     pub user: Vec<u8>,
     pub classes: usize,
@@ -28,6 +31,7 @@ impl Family {
     fn new(name: &'static str, (library, user): (Sheet, Sheet)) -> Family {
         Family {
             name,
+            hostile: false,
             classes: library.classes() + user.classes(),
             records: library.records() + user.records(),
             library: library.into_bytes(),
@@ -50,13 +54,17 @@ pub fn full() -> Family {
     Family::new("full", ordinary::full())
 }
 
+/// 189 classes with the make-up of real code.
+pub fn real() -> Family {
+    Family::new("real", real::real())
+}
+
 /// Each family, the ordinary ones first.
 pub fn families() -> Vec<Family> {
-    let mut families = vec![typical(), full()];
-    families.extend(
-        hostile::ALL
-            .iter()
-            .map(|&(name, make)| Family::new(name, make())),
-    );
+    let mut families = vec![typical(), full(), real()];
+    families.extend(hostile::ALL.iter().map(|&(name, make)| Family {
+        hostile: true,
+        ..Family::new(name, make())
+    }));
     families
 }

@@ -11,8 +11,8 @@ pub fn full() -> (Sheet, Sheet) {
     Mixed::new(2).write(56, 12_000, 200, SHEET_LIMIT)
 }
 
-/// Library classes that each mixed pair has.
-const BASE: [(&str, u16, u8); 11] = [
+/// The library classes that each ordinary pair has.
+pub const BASE: [(&str, u16, u8); 11] = [
     ("java.lang.Object", ALLOWED, 0),
     ("org.joe_e.Immutable", INTERFACE | ALLOWED, IMMUTABLE),
     ("org.joe_e.Powerless", INTERFACE | ALLOWED, POWERLESS),
@@ -25,16 +25,26 @@ const BASE: [(&str, u16, u8); 11] = [
     ("java.io.File", ALLOWED, 0),
     ("java.lang.System", 0, 0),
 ];
-const OBJECT: usize = 0;
-const IMMUTABLE_INTERFACE: usize = 1;
-const POWERLESS_INTERFACE: usize = 2;
+pub const OBJECT: usize = 0;
+pub const IMMUTABLE_INTERFACE: usize = 1;
+pub const POWERLESS_INTERFACE: usize = 2;
 const SELFLESS_INTERFACE: usize = 3;
 const EQUATABLE_INTERFACE: usize = 4;
 const TOKEN_CLASS: usize = 5;
-const THROWABLE_CLASS: usize = 6;
-const STRING: usize = 8;
-const FILE: usize = 9;
+pub const THROWABLE_CLASS: usize = 6;
+pub const STRING: usize = 8;
+pub const FILE: usize = 9;
 const SYSTEM: usize = 10;
+
+/// A library class, below a superclass if it can have one.
+pub fn library_head(number: usize, superclass: usize, flags: u16) -> Class {
+    let head = match number {
+        OBJECT => Class::object(),
+        _ if flags & INTERFACE != 0 => Class::interface(),
+        _ => Class::below(superclass),
+    };
+    head.flags(flags)
+}
 
 /// LOCALs of a service: two that anybody may capture, one that only it uses.
 const CLEAN_LOCALS: usize = 2;
@@ -123,13 +133,8 @@ impl Mixed {
         let name = format!("java.util.planning.Part{number}");
         let other = (name.as_str(), ALLOWED, self.random.pick(&[0, 0, 1, 130]));
         let (name, flags, own) = BASE.get(number).copied().unwrap_or(other);
-        let head = match number {
-            OBJECT => Class::object(),
-            _ if flags & INTERFACE != 0 => Class::interface(),
-            _ => Class::below(OBJECT),
-        };
-        self.library
-            .class(head.flags(flags).own(own), name.as_bytes());
+        let head = library_head(number, OBJECT, flags);
+        self.library.class(head.own(own), name.as_bytes());
         let mut members = 0;
         while members == 0 || self.library.len() + 20 < end {
             let name = format!("method{members}");

@@ -141,7 +141,7 @@ pub fn random_group(seed: u64, library_classes: usize, classes: usize, class: us
     let mut random = Random::new(seed);
     let mut sheet = Sheet::new();
     let mut head = Class::below(random.below(library_classes.max(1)));
-    head.flags = random.pick(&[0, 0, BY_VALUE, BY_VALUE, 1 << 7, INNER]);
+    head.flags = random.pick(&[0, 0, BY_VALUE, BY_VALUE, LETS_THIS_OUT, INNER]);
     head.own = random.pick(&OWN);
     if class > library_classes && random.percent(50) {
         head.encloser = (library_classes + random.below(class - library_classes)) as u16;

@@ -387,7 +387,7 @@ fn random_pairs_get_the_lines_of_the_definitions() {
 #[test]
 fn families_get_the_lines_of_the_definitions() {
     // The slow definitions take a while on whole sheets; these have something to capture.
-    let chosen = ["typical", "full", "last_local"];
+    let chosen = ["typical", "full", "real", "last_local"];
     for family in families() {
         if chosen.contains(&family.name) {
             let plain = Pair::parse(&family.library, &family.user).lines();

@@ -45,7 +45,7 @@ fn every_family_is_accepted_and_within_the_limits() {
 
 #[test]
 fn hostile_families_nearly_fill_the_user_sheet() {
-    for family in families().iter().filter(|family| family.name != "typical") {
+    for family in families().iter().filter(|family| family.hostile) {
         assert!(family.user.len() >= 31_500, "{}", family.name);
     }
 }
@@ -67,6 +67,21 @@ fn full_is_full_and_mostly_clean() {
     let counts = Buffers::new().judge(&family);
     assert!(counts.faulted > 0, "{counts:?}");
     assert!(counts.faulted * 10 <= counts.classes, "{counts:?}");
+}
+
+/// Each class below the chain passes all rules but the last.
+#[test]
+fn faulted_chains_break_rule_1_and_the_classes_below_rule_10() {
+    let families = families();
+    let family = families
+        .iter()
+        .find(|family| family.name == "faulted_chains");
+    let mut buffers = Buffers::new();
+    let counts = buffers.judge(family.expect("a family of this name"));
+    let verdicts: Vec<&[u8]> = buffers.verdicts.chunks(2).take(counts.classes).collect();
+    let (chain, below) = verdicts.split_at(10);
+    assert!(chain.iter().all(|verdict| verdict[0] == 1), "{chain:?}");
+    assert_eq!(below, vec![[10, 1]; 243]);
 }
 
 #[test]

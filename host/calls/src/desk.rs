@@ -1,0 +1,107 @@
+//! What the calls of one verifier borrow.
+
+use kerdzhusi::{SCRATCH_BYTES, VERDICT_BYTES};
+use sheets::build::CLASS_LIMIT;
+use sheets::Family;
+
+use crate::edits::without_last;
+use crate::verifier::Verifier;
+
+/// Two sheets that have been judged: the scratch is zero and the verdicts are there. Only accepted
+/// calls are of interest, so a refused one ends the program.
+pub struct Desk<'a> {
+    verifier: &'a Verifier,
+    library: &'a [u8],
+    user: Vec<u8>,
+    used: usize,
+    verdicts: Vec<u8>,
+    scratch: Vec<u8>,
+}
+
+impl<'a> Desk<'a> {
+    pub fn judged(verifier: &'a Verifier, family: &'a Family) -> Desk<'a> {
+        Desk::new(verifier, &family.library, family.user.clone())
+    }
+
+    /// Without the last class, and its group. The buffer has room for it.
+    pub fn without_last(verifier: &'a Verifier, family: &'a Family) -> (Desk<'a>, Vec<u8>) {
+        let (sheet, group) = without_last(family);
+        let mut desk = Desk::new(verifier, &family.library, sheet);
+        desk.user.resize(desk.used + group.len(), 0);
+        (desk, group)
+    }
+
+    fn new(verifier: &'a Verifier, library: &'a [u8], user: Vec<u8>) -> Desk<'a> {
+        let mut desk = Desk {
+            verifier,
+            library,
+            used: user.len(),
+            user,
+            verdicts: vec![0; CLASS_LIMIT * VERDICT_BYTES],
+            scratch: vec![0; SCRATCH_BYTES],
+        };
+        desk.judge();
+        desk
+    }
+
+    pub fn judge(&mut self) {
+        accepted((self.verifier.judge)(
+            self.library,
+            &self.user,
+            self.used,
+            &mut self.verdicts,
+            &mut self.scratch,
+        ));
+    }
+
+    pub fn add(&mut self, group: &[u8]) {
+        accepted((self.verifier.add)(
+            self.library,
+            &mut self.user,
+            &mut self.used,
+            group,
+            &mut self.verdicts,
+            &mut self.scratch,
+        ));
+    }
+
+    /// Takes back the group that was added last.
+    pub fn take_back(&mut self, group: &[u8]) {
+        self.used -= group.len();
+        self.user[self.used..].fill(0);
+    }
+
+    pub fn replace(&mut self, class: usize, group: &[u8]) {
+        accepted((self.verifier.replace)(
+            self.library,
+            &mut self.user,
+            &mut self.used,
+            class,
+            group,
+            &mut self.verdicts,
+            &mut self.scratch,
+        ));
+    }
+
+    pub fn name(&self, class: usize) {
+        accepted((self.verifier.name)(
+            self.library,
+            &self.user,
+            self.used,
+            class,
+        ));
+    }
+
+    pub fn marks(&self, class: usize) {
+        accepted((self.verifier.marks)(
+            self.library,
+            &self.user,
+            self.used,
+            class,
+        ));
+    }
+}
+
+fn accepted(answer: bool) {
+    assert!(answer, "a call was refused");
+}
