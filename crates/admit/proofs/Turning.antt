@@ -13,17 +13,17 @@ use Rattle.spec.specs.Lists.{firstOf}
 use Rattle.spec.specs.Sheet.{classCount, total, group}
 use Rattle.spec.specs.Refusals.{Refusal, refuseIf, refusePlain, formRefusal, sheetRefusal, newRefusal, wholeGroup, groupRefusal, roomRefusal, shortRefusal}
 use Rattle.theory.proofs.Bools.{true-t, un-not, not-or-l, not-or-r}
-use Rattle.theory.proofs.Answers.{some≢none, first-none, first-some, first-past, skip-none, plain-none}
+use Rattle.theory.proofs.Answers.{first-none, first-some, first-past, skip-none, plain-none}
 use Rattle.theory.proofs.Cut.{IsGroup}
 use Rattle.view.specs.declared.Cut.{Cut}
 use Rattle.view.specs.View.{Sits, Fits}
 use Rattle.view.proofs.Splice.{sits-fits}
 use Rattle.groups.specs.Groups.{Indexed}
-use Rattle.overlay.specs.Memo.{Right}
+use Rattle.overlay.specs.Memo.{memoOf}
 use Rattle.form.specs.Form.{Ready, checkedOf}
 use Rattle.form.specs.declared.Checked.{Checked}
 use Rattle.form.specs.declared.Checked.the-variants.{Fine, Refused}
-use Rattle.form.proofs.Accepting.{fine-none, refused-is}
+use Rattle.form.proofs.Accepting.{Fresh, ready-fresh, ready-memo, ready-refused, fine-none, refused-is}
 use Rattle.admit.specs.Admitting.{admitRefusal, Plain}
 
 -- a whole group between whole groups can be read through the view
@@ -31,35 +31,42 @@ pub group-fits : {cut : Cut} {user g : List ℕ} → Sits cut user → {b : Bool
 unfolding IsGroup
 group-fits s {b} e t = sits-fits s (true-t (sym e ∙ not-false b t))
 
+-- the library's classes are among all classes
+pub admit-ordered : (library new : List ℕ) {p : Checked} → p ≡ checkedOf (sheetRefusal library new) (classCount library) (total library new) → {nlib n : ℕ} → p ≡ Fine nlib n → nlib ≤ n
+unfolding total
+admit-ordered library new e f = omega (arith, fine-none (sheetRefusal library new) (sym f ∙ e) .1)
+
 module _ (library user g new : List ℕ) (lines scratch : ℕ) where
   -- what a call promises
   abbrev pub Admits : Checked → List ℕ → List ℕ → Type 0
   Admits p row memo =
       (p ≡ checkedOf (admitRefusal library user g new lines scratch) (classCount library) (total library new))
-      × (admitRefusal library user g new lines scratch ≡ none → Ready library new row memo)
+      × Ready (admitRefusal library user g new lines scratch) library new row memo
 
-  turned : {r : Refusal} {row memo : List ℕ} → admitRefusal library user g new lines scratch ≡ some r → Admits (Refused (r .number) (r .sheet) (r .byte)) row memo
-  turned o = (rw o, λ n. absurd (some≢none _ (sym o ∙ n)))
+  turned : {row memo : List ℕ} → Fresh row memo → {r : Refusal} → admitRefusal library user g new lines scratch ≡ some r → Admits (Refused (r .number) (r .sheet) (r .byte)) row memo
+  turned f o = (rw o, ready-fresh o f)
 
-  pub not-whole : {b : Bool} {row memo : List ℕ} → b ≡ wholeGroup g → not b ≡ true → Admits (Refused 14 0 0) row memo
+  pub not-whole : {b : Bool} {row memo : List ℕ} → Fresh row memo → b ≡ wholeGroup g → not b ≡ true → Admits (Refused 14 0 0) row memo
   unfolding admitRefusal groupRefusal refusePlain refuseIf
-  not-whole {b} e t = turned (first-some _ (let o : groupRefusal g ≡ some (record { number = 14; sheet = 0; byte = 0 }) = rw (← e, t) in o))
+  not-whole {b} f e t =
+      turned f (first-some _ (let o : groupRefusal g ≡ some (record { number = 14; sheet = 0; byte = 0 }) = rw (← e, t) in o))
 
   module _ {b : Bool} (eb : b ≡ wholeGroup g) (tb : not b ≡ false) where
     past-group : admitRefusal library user g new lines scratch ≡ firstOf (roomRefusal user new ∷ newRefusal library new ∷ shortRefusal (classCount new) lines scratch ∷ [])
     unfolding admitRefusal groupRefusal refusePlain refuseIf
     past-group = skip-none _ _ (let o : groupRefusal g ≡ none = rw (← eb, tb) in o)
 
-    room : {r : Refusal} {row memo : List ℕ} → roomRefusal user new ≡ some r → Admits (Refused (r .number) (r .sheet) (r .byte)) row memo
-    room o = turned (past-group ∙ first-some _ o)
+    room : {row memo : List ℕ} → Fresh row memo → {r : Refusal} → roomRefusal user new ≡ some r → Admits (Refused (r .number) (r .sheet) (r .byte)) row memo
+    room f o = turned f (past-group ∙ first-some _ o)
 
-    pub over-buffer : {size : ℕ} {row memo : List ℕ} → size ≡ length new → length user < size → Admits (Refused 15 0 0) row memo
+    pub over-buffer : {size : ℕ} {row memo : List ℕ} → Fresh row memo → size ≡ length new → length user < size → Admits (Refused 15 0 0) row memo
     unfolding roomRefusal refusePlain refuseIf
-    over-buffer e h = room (let o : roomRefusal user new ≡ some (record { number = 15; sheet = 0; byte = 0 }) = rw (lt-ltb (length user) (length new) (omega arith)) in o)
+    over-buffer f e h = room f (let o : roomRefusal user new ≡ some (record { number = 15; sheet = 0; byte = 0 }) = rw (lt-ltb (length user) (length new) (omega arith)) in o)
 
-    pub over-limit : {size : ℕ} {row memo : List ℕ} → size ≡ length new → size ≤ length user → 32768 < size → Admits (Refused 15 0 0) row memo
+    pub over-limit : {size : ℕ} {row memo : List ℕ} → Fresh row memo → size ≡ length new → size ≤ length user → 32768 < size → Admits (Refused 15 0 0) row memo
     unfolding roomRefusal refusePlain refuseIf
-    over-limit e l h = room (let o : roomRefusal user new ≡ some (record { number = 15; sheet = 0; byte = 0 }) = rw (le-ltb (length user) (length new) (omega arith), lt-ltb 32768 (length new) (omega arith)) in o)
+    over-limit f e l h =
+        room f (let o : roomRefusal user new ≡ some (record { number = 15; sheet = 0; byte = 0 }) = rw (le-ltb (length user) (length new) (omega arith), lt-ltb 32768 (length new) (omega arith)) in o)
 
     module _ {size : ℕ} (es : size ≡ length new) (l : size ≤ length user) (h : size ≤ 32768) (plain : Plain library g new) where
       whole : T (wholeGroup g)
@@ -72,19 +79,15 @@ module _ (library user g new : List ℕ) (lines scratch : ℕ) where
           ∙ skip-none _ _ (let o : roomRefusal user new ≡ none = rw (le-ltb (length user) (length new) (omega arith), le-ltb 32768 (length new) (omega arith)) in o)
           ∙ ap (λ (x : Option Refusal). firstOf (x ∷ shortRefusal (classCount new) lines scratch ∷ [])) (sym (plain .is whole))
 
-      module _ {p : Checked} {row memo : List ℕ} (a : (p ≡ checkedOf (sheetRefusal library new) (classCount library) (total library new)) × Ready library new row memo) where
+      module _ {p : Checked} {row memo : List ℕ} (a : (p ≡ checkedOf (sheetRefusal library new) (classCount library) (total library new)) × Ready (sheetRefusal library new) library new row memo) where
         pub sheet-refused : {number sheet byte : ℕ} → p ≡ Refused number sheet byte → Admits p row memo
         sheet-refused f =
             let o = past-room ∙ first-some _ (refused-is (sheetRefusal library new) (classCount library) (total library new) (sym f ∙ a .0)) in
-            (f ∙ rw o, λ n. absurd (some≢none _ (sym o ∙ n)))
+            (f ∙ rw o, ready-refused (a .1) o)
 
         module _ {nlib n : ℕ} (f : p ≡ Fine nlib n) where
           told : (sheetRefusal library new ≡ none) × ((nlib ≡ classCount library) × (n ≡ total library new))
           told = fine-none (sheetRefusal library new) (sym f ∙ a .0)
-
-          pub admit-ordered : nlib ≤ n
-          unfolding total
-          admit-ordered = omega (arith, told .1)
 
           short : (x : Bool) → (ltb lines (n - nlib) || ltb scratch 65536) ≡ x → admitRefusal library user g new lines scratch ≡ refusePlain x 12
           unfolding shortRefusal total
@@ -94,17 +97,17 @@ module _ (library user g new : List ℕ) (lines scratch : ℕ) where
 
           pub few-lines : lines < n - nlib → Admits (Refused 12 0 0) row memo
           unfolding refusePlain refuseIf
-          few-lines k = turned (short true (rw (lt-ltb lines (n - nlib) k)))
+          few-lines k = let q = short true (rw (lt-ltb lines (n - nlib) k)) in (rw q, ready-refused (a .1) q)
 
           pub short-scratch : n - nlib ≤ lines → scratch < 65536 → Admits (Refused 12 0 0) row memo
           unfolding refusePlain refuseIf
-          short-scratch k q = turned (short true (rw (le-ltb lines (n - nlib) k, lt-ltb scratch 65536 q)))
+          short-scratch k q = let o = short true (rw (le-ltb lines (n - nlib) k, lt-ltb scratch 65536 q)) in (rw o, ready-refused (a .1) o)
 
           pub admitted : n - nlib ≤ lines → 65536 ≤ scratch → Admits (Fine nlib n) row memo
           unfolding refusePlain refuseIf
           admitted k q =
               let o : admitRefusal library user g new lines scratch ≡ none = short false (rw (le-ltb lines (n - nlib) k, le-ltb scratch 65536 q)) in
-              (sym f ∙ a .0 ∙ rw (told .0, o), λ _. a .1)
+              (sym f ∙ a .0 ∙ rw (told .0, o), rw (o ∙ sym (told .0)) (a .1))
 
 -- ---- what an admitted group gives
 
@@ -118,7 +121,7 @@ pub record Admitted (library user g new : List ℕ) (lines scratch nlib n : ℕ)
   pub enough : 65536 ≤ scratch
   pub form : formRefusal library new ≡ none
   pub indexed : Indexed library new nlib n row
-  pub right : Right (group library new) memo
+  pub memo-is : memo ≡ memoOf (group library new) nlib
 
 module _ (library user g new : List ℕ) (lines scratch : ℕ) (plain : Plain library g new) where
   pub admit-turned : {p : Checked} {row memo : List ℕ} → Admits library user g new lines scratch p row memo → {number sheet byte : ℕ} → p ≡ Refused number sheet byte
@@ -134,7 +137,6 @@ module _ (library user g new : List ℕ) (lines scratch : ℕ) (plain : Plain li
       let m = plain-none (ltb (length user) (length new) || ltb 32768 (length new)) 15 (q .1 .0) in
       let k = plain-none (ltb lines (classCount new) || ltb scratch 65536) 12 (q .1 .1 .1 .0) in
       let o : sheetRefusal library new ≡ none = plain .is w ∙ q .1 .1 .0 in
-      let r = a .1 (t .0) in
       record {
         unrefused = t .0;
         whole = w;
@@ -144,11 +146,12 @@ module _ (library user g new : List ℕ) (lines scratch : ℕ) (plain : Plain li
         room = omega (arith, t .1, nltb→le lines (classCount new) (not-or-l (ltb lines (classCount new)) (ltb scratch 65536) k));
         enough = nltb→le scratch 65536 (not-or-r (ltb lines (classCount new)) (ltb scratch 65536) k);
         form = first-none _ o .1 .1 .1 .1 .1 .0;
-        indexed = rw (t .1 .0, t .1 .1) (r .indexed o);
-        right = r .right o;
+        indexed = rw (t .1 .0, t .1 .1) (a .1 .indexed (t .0));
+        memo-is = rw (t .1 .0) (ready-memo (a .1) (t .0));
       }
 
 -- an admitted group can be read through the view
-pub admitted-fits : {library user g new : List ℕ} {lines scratch nlib n : ℕ} {row memo : List ℕ} {cut : Cut} → Sits cut user → Admitted library user g new lines scratch nlib n row memo → Fits cut user g
+pub admitted-fits : {library user g new : List ℕ} {lines scratch nlib n : ℕ} {row memo : List ℕ} {cut : Cut} → Sits cut user
+    → Admitted library user g new lines scratch nlib n row memo → Fits cut user g
 unfolding IsGroup
 admitted-fits s a = sits-fits s (a .whole)

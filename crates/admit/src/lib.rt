@@ -5,8 +5,8 @@ use view::Cut;
 use view::view_len;
 use whole::whole_group;
 ghost use mathlib.Core.Path.{_≡_};
-ghost use mathlib.Core.Option.{none};
-ghost use Prim.Native.Nat.{_≤_};
+ghost use mathlib.Core.List.{List};
+ghost use Prim.Native.Nat.{ℕ, _≤_};
 ghost use lib.ListN.{length, replicate};
 ghost use Rattle.spec.specs.Sheet.{classCount, total};
 ghost use Rattle.view.specs.View.{Sits, spliced};
@@ -24,12 +24,16 @@ pub fn admit<'a>(
     starts: &mut [u16],
     memo: &mut [u16],
 ) -> Checked
-    requires { ⌜ Sits cut (now user) ⌝ }
-    requires { ⌜ length (now library) ≤ 32768 ⌝ }
-    requires { ⌜ (length (now starts) ≡ 256) × (now memo ≡ replicate 256 65535) ⌝ }
-    requires { ⌜ Plain (now library) (now group) (spliced (now user) (now group) cut) ⌝ }
-    ensures answer { λ r. ⌜ r ≡ checkedOf (admitRefusal (now (library .entry)) (now (user .entry)) (now (group .entry)) (spliced (now (user .entry)) (now (group .entry)) cut) lines scratch) (classCount (now (library .entry))) (total (now (library .entry)) (spliced (now (user .entry)) (now (group .entry)) cut)) ⌝ }
-    ensures rows { λ r. ⌜ (admitRefusal (now (library .entry)) (now (user .entry)) (now (group .entry)) (spliced (now (user .entry)) (now (group .entry)) cut) lines scratch ≡ none → Ready (now (library .entry)) (spliced (now (user .entry)) (now (group .entry)) cut) (now (starts .exit)) (now (memo .exit))) ⌝ }
+    ghost { List ℕ }
+    requires { λ new. ⌜ spliced (now user) (now group) cut ≡ new ⌝ }
+    requires { λ new. ⌜ Sits cut (now user) ⌝ }
+    requires { λ new. ⌜ length (now library) ≤ 32768 ⌝ }
+    requires { λ new. ⌜ (length (now starts) ≡ 256) × (now memo ≡ replicate 256 65535) ⌝ }
+    requires { λ new. ⌜ Plain (now library) (now group) new ⌝ }
+    ensures answer { λ new r. ⌜ r ≡ checkedOf (admitRefusal (now (library .entry)) (now (user .entry)) (now (group .entry)) new lines scratch)
+        (classCount (now (library .entry))) (total (now (library .entry)) new) ⌝ }
+    ensures rows { λ new r. ⌜ Ready (admitRefusal (now (library .entry)) (now (user .entry)) (now (group .entry)) new lines scratch)
+        (now (library .entry)) new (now (starts .exit)) (now (memo .exit)) ⌝ }
 {
     if !whole_group(group) {
         return Checked::Refused(14, 0, 0);

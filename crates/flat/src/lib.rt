@@ -19,7 +19,7 @@ ghost use Rattle.spec.specs.Promises.{cleared};
 ghost use Rattle.spec.specs.Verdicts.{flatLines, flatRewritten};
 ghost use Rattle.view.specs.View.{Fits, spliced};
 ghost use Rattle.groups.specs.Groups.{Indexed};
-ghost use Rattle.overlay.specs.Memo.{Right};
+ghost use Rattle.overlay.specs.Memo.{memoOf};
 ghost use Rattle.overlay.specs.Types.{Known};
 ghost use Rattle.captured.specs.Captured.{Shown};
 ghost use Rattle.rules.specs.Line.{lineOf};
@@ -164,9 +164,9 @@ pub fn rejudge<'a>(
     requires { ⌜ Fits cut (now user) (now group) ⌝ }
     requires { ⌜ Indexed (now library) (spliced (now user) (now group) cut) nlib n (now starts) ⌝ }
     requires { ⌜ formRefusal (now library) (spliced (now user) (now group) cut) ≡ none ⌝ }
-    requires { ⌜ Right (groupOf (now library) (spliced (now user) (now group) cut)) (now memo) ⌝ }
+    requires { ⌜ now memo ≡ memoOf (groupOf (now library) (spliced (now user) (now group) cut)) nlib ⌝ }
     requires { ⌜ (256 ≤ length (now marks)) × (n - nlib ≤ flatLines (now verdicts)) × (scratchLength ≤ length (now scratch)) ⌝ }
-    ensures memo { λ r. ⌜ Right (groupOf (now (library .entry)) (spliced (now (user .entry)) (now (group .entry)) cut)) (now (memo .exit)) ⌝ }
+    ensures memo { λ r. ⌜ now (memo .exit) ≡ memoOf (groupOf (now (library .entry)) (spliced (now (user .entry)) (now (group .entry)) cut)) n ⌝ }
     ensures verdicts { λ r. ⌜ now (verdicts .exit) ≡ flatRewritten (chosen nlib n (now (marks .entry))) (λ i. verdictOf nlib (groupOf (now (library .entry)) (spliced (now (user .entry)) (now (group .entry)) cut)) (nlib + i)) (now (verdicts .entry)) ⌝ }
     ensures scratch { λ r. ⌜ now (scratch .exit) ≡ cleared (now (scratch .entry)) ⌝ }
 {

@@ -4,14 +4,15 @@ use mathlib.Core.Path.{_≡_, refl, sym, ap, _∙_, subst}
 use mathlib.Core.Bool.{Bool, true, false, _||_}
 use mathlib.Core.List.{List, [], _∷_, _++_, map, map-append}
 use mathlib.Core.Option.{Option, none, some}
-use Prim.Native.Nat.{ℕ, _+_, _<_}
+use Prim.Native.Nat.{ℕ, _+_, _<_, min}
 use native.Mathlib.Omega.{arith}
 use lib.Dec.{ltb}
 use lib.ListN.{length, take, replicate}
 use borrow.Author.Tests.{lt-ltb, le-ltb}
 use Rattle.spec.specs.Lists.{firstOf}
 use Rattle.spec.specs.Sheet.{Group, classCount, total, group, groupStart, locatedIn, located}
-use Rattle.spec.specs.Refusals.{Refusal, refuseIf, refuseRecord, formTests, deemedTests, recordRefusal, tornRefusal, noClassRefusal, formRefusal, deemedRefusal, sheetRefusal, sizeRefusal, presentRefusal}
+use Rattle.spec.specs.Refusals.{Refusal, refuseIf, refuseRecord, formTests, deemedTests, recordRefusal, tornRefusal, noClassRefusal}
+use Rattle.spec.specs.Refusals.{formRefusal, deemedRefusal, sheetRefusal, sizeRefusal, presentRefusal}
 use Rattle.theory.proofs.Bools.{nltb}
 use Rattle.theory.proofs.Answers.{some≢none, first-some, first-only, first-past, first-append, keep-head, none-if, Gives}
 use Rattle.theory.proofs.Accept.{form-fits}
@@ -22,8 +23,9 @@ use Rattle.pass.specs.declared.Pass.the-variants.{Fine as Passes, Refused as St
 use Rattle.pass.proofs.Places.{answer}
 use Rattle.groups.specs.Groups.{startOf, Indexed}
 use Rattle.groups.proofs.Classes.{in-library}
-use Rattle.overlay.specs.Memo.{Right}
-use Rattle.overlay.proofs.Recursion.{memo-new}
+use Rattle.overlay.specs.Memo.{memoOf}
+use Rattle.overlay.proofs.Memos.{memo-none, memo-length}
+use Rattle.overlay.proofs.Turns.{classes-few}
 use Rattle.second.specs.Second.{formIn, firstClass}
 use Rattle.form.specs.Form.{firstDeemed, passesRefusal, laterRefusal, Starts, Ready, checkedOf}
 use Rattle.form.specs.declared.Checked.{Checked}
@@ -35,6 +37,38 @@ use Rattle.form.proofs.DeemedRecords.{library-deemed, user-deemed}
 
 first-split : {A B : Type 0} (f : A → Option B) (xs ys : List A) → firstOf (map f (xs ++ ys)) ≡ firstOf (firstOf (map f xs) ∷ firstOf (map f ys) ∷ [])
 first-split f xs ys = ap firstOf (map-append f xs ys) ∙ first-append (map f xs) (map f ys) ∙ keep-head _ _ _ (sym (first-only _))
+
+-- ---- the rows
+
+-- as they come in
+abbrev pub Fresh : List ℕ → List ℕ → Type 0
+Fresh row memo = (length row ≡ 256) × (memo ≡ replicate 256 65535)
+
+module _ {o : Option Refusal} {library user row memo : List ℕ} where
+  pub ready-fresh : {r : Refusal} → o ≡ some r → Fresh row memo → Ready o library user row memo
+  ready-fresh e f = record {
+    long = f .0;
+    memo-long = ap length (f .1);
+    asked = 0;
+    memo-asked = f .1 ∙ sym (memo-none (group library user));
+    all-asked = λ n. absurd (some≢none _ (sym e ∙ n));
+    indexed = λ n. absurd (some≢none _ (sym e ∙ n));
+  }
+
+  module _ (r : Ready o library user row memo) where
+    pub ready-memo : o ≡ none → memo ≡ memoOf (group library user) (classCount library)
+    ready-memo e = r .memo-asked ∙ ap (memoOf (group library user)) (r .all-asked e)
+
+    -- and another refusal after it
+    pub ready-refused : {p : Option Refusal} {s : Refusal} → p ≡ some s → Ready p library user row memo
+    ready-refused e = record {
+      long = r .long;
+      memo-long = r .memo-long;
+      asked = r .asked;
+      memo-asked = r .memo-asked;
+      all-asked = λ n. absurd (some≢none _ (sym e ∙ n));
+      indexed = λ n. absurd (some≢none _ (sym e ∙ n));
+    }
 
 -- ---- the second pass
 
@@ -99,26 +133,30 @@ module _ {library user : List ℕ} {nlib n : ℕ} {row : List ℕ} (x : Indexed 
     unfolding refuseIf firstOf
     deemed-none h = deemed-at ∙ rw (le-ltb c nlib (omega arith))
 
+  -- what a call of the later checks promises
+  abbrev Later : Checked → List ℕ → Type 0
+  Later r memo = (r ≡ checkedOf (laterRefusal library user) nlib n) × Ready (laterRefusal library user) library user row memo
+
   -- the second pass of the library sheet ended with p
   module _ {p : Pass} (ep : p ≡ passOf (formIn (group library user) nlib n 0 (firstClass nlib 0) library) (firstClass nlib 0 + classCount library)) where
-    pub later-first : {number byte : ℕ} {memo : List ℕ} → p ≡ Stops number byte → Right (group library user) memo
-        → (Refused number 0 byte ≡ checkedOf (laterRefusal library user) nlib n) × Right (group library user) memo
+    pub later-first : {number byte : ℕ} {memo : List ℕ} → p ≡ Stops number byte → memo ≡ replicate 256 65535 → Later (Refused number 0 byte) memo
     unfolding laterRefusal
-    later-first f r =
+    later-first f m =
         let o = first-some _ (stops-some _ _ (form-names library user nlib n 0 (firstClass nlib 0) library) (sym f ∙ ep)) in
-        (rw (first-some (deemedRefusal library user ∷ []) (form-sheets ∙ o)), r)
+        let e = first-some (deemedRefusal library user ∷ []) (form-sheets ∙ o) in
+        (rw e, ready-fresh e (x .long, m))
 
     -- and that of the user sheet with q
     module _ {k : ℕ} (fp : p ≡ Passes k) {q : Pass} (eq : q ≡ passOf (formIn (group library user) nlib n 1 (firstClass nlib 1) user) (firstClass nlib 1 + classCount user)) where
       library-fits : formIn (group library user) nlib n 0 (firstClass nlib 0) library ≡ none
       library-fits = passes-none (formIn (group library user) nlib n 0 (firstClass nlib 0) library) (sym fp ∙ ep) .0
 
-      pub later-second : {number byte : ℕ} {memo : List ℕ} → q ≡ Stops number byte → Right (group library user) memo
-          → (Refused number 1 byte ≡ checkedOf (laterRefusal library user) nlib n) × Right (group library user) memo
+      pub later-second : {number byte : ℕ} {memo : List ℕ} → q ≡ Stops number byte → memo ≡ replicate 256 65535 → Later (Refused number 1 byte) memo
       unfolding laterRefusal
-      later-second f r =
+      later-second f m =
           let o = stops-some _ _ (form-names library user nlib n 1 (firstClass nlib 1) user) (sym f ∙ eq) in
-          (rw (first-some (deemedRefusal library user ∷ []) (form-sheets ∙ first-past _ _ library-fits ∙ o)), r)
+          let e = first-some (deemedRefusal library user ∷ []) (form-sheets ∙ first-past _ _ library-fits ∙ o) in
+          (rw e, ready-fresh e (x .long, m))
 
       module _ {m : ℕ} (fq : q ≡ Passes m) where
         form-none : formRefusal library user ≡ none
@@ -132,18 +170,24 @@ module _ {library user : List ℕ} {nlib n : ℕ} {row : List ℕ} (x : Indexed 
         unfolding laterRefusal
         then-deemed = first-past _ _ form-none
 
-        module _ {c : ℕ} {memo : List ℕ} (h : (c ≡ firstDeemed (group library user) nlib) × Right (group library user) memo) where
-          pub later-deemed : c < nlib → {b : ℕ} → b ≡ startOf library user c → (Refused 11 0 b ≡ checkedOf (laterRefusal library user) nlib n) × Right (group library user) memo
-          later-deemed l e = (rw (then-deemed ∙ deemed-found (h .0) l e), h .1)
+        module _ {c : ℕ} {memo : List ℕ} (h : (c ≡ firstDeemed (group library user) nlib) × (memo ≡ memoOf (group library user) (min nlib (c + 1)))) where
+          rows : {o : Option Refusal} → (o ≡ none → c < nlib → ⊥) → Ready o library user row memo
+          rows f = record {
+            long = x .long;
+            memo-long = memo-length (group library user) (min nlib (c + 1)) (h .1) (omega (arith, classes-few x));
+            asked = min nlib (c + 1);
+            memo-asked = h .1;
+            all-asked = λ e. let l = f e in omega (arith, x .nlib-is);
+            indexed = λ _. rw (← x .nlib-is, ← x .n-is) x;
+          }
 
-          pub later-fine : (c < nlib → ⊥) → (Fine nlib n ≡ checkedOf (laterRefusal library user) nlib n) × Right (group library user) memo
-          later-fine l = (rw (then-deemed ∙ deemed-none (h .0) l), h .1)
+          pub later-deemed : c < nlib → {b : ℕ} → b ≡ startOf library user c → Later (Refused 11 0 b) memo
+          later-deemed l e = let o = then-deemed ∙ deemed-found (h .0) l e in (rw o, rows (λ n. absurd (some≢none _ (sym o ∙ n))))
+
+          pub later-fine : (c < nlib → ⊥) → Later (Fine nlib n) memo
+          later-fine l = (rw (then-deemed ∙ deemed-none (h .0) l), rows (λ _. l))
 
 -- ---- check: 2 to 11
-
--- a memo that knows nothing is right
-pub memo-fresh : (g : ℕ → Group) {memo : List ℕ} → memo ≡ replicate 256 65535 → Right g memo
-memo-fresh g e = subst (Right g) (sym e) (memo-new g)
 
 pub fine-none : (o : Option Refusal) {k m a b : ℕ} → Fine k m ≡ checkedOf o a b → (o ≡ none) × ((k ≡ a) × (m ≡ b))
 fine-none none e = (refl, (cc, cc))
@@ -165,56 +209,53 @@ module _ {library user row : List ℕ} {p : Checked} (e : (p ≡ checkedOf (pass
     pub check-indexed : Indexed library user k m row
     check-indexed = rw (all-passed .1 .0, all-passed .1 .1) (e .1 .indexed (all-passed .0))
 
-    pub check-later : {r : Checked} {memo : List ℕ} → (r ≡ checkedOf (laterRefusal library user) k m) × Right (group library user) memo
-        → (r ≡ checkedOf (sheetRefusal library user) (classCount library) (total library user)) × Ready library user row memo
+    pub check-later : {r : Checked} {memo : List ℕ} → (r ≡ checkedOf (laterRefusal library user) k m) × Ready (laterRefusal library user) library user row memo
+        → (r ≡ checkedOf (sheetRefusal library user) (classCount library) (total library user)) × Ready (sheetRefusal library user) library user row memo
     check-later {r} h =
-        let o : sheetRefusal library user ≡ laterRefusal library user = sheet-parts library user ∙ first-past _ _ (all-passed .0) in (
-          rw (o, ← (all-passed .1 .0), ← (all-passed .1 .1)) (h .0),
-          record { long = e .1 .long; indexed = λ _. e .1 .indexed (all-passed .0); right = λ _. h .1 },
-        )
+        let o : sheetRefusal library user ≡ laterRefusal library user = sheet-parts library user ∙ first-past _ _ (all-passed .0) in
+        (rw (o, ← (all-passed .1 .0), ← (all-passed .1 .1)) (h .0), rw o (h .1))
 
-  pub check-passed : {number sheet byte : ℕ} (memo : List ℕ) → p ≡ Refused number sheet byte
-      → (p ≡ checkedOf (sheetRefusal library user) (classCount library) (total library user)) × Ready library user row memo
-  check-passed memo f =
+  pub check-passed : {number sheet byte : ℕ} {memo : List ℕ} → p ≡ Refused number sheet byte → memo ≡ replicate 256 65535
+      → (p ≡ checkedOf (sheetRefusal library user) (classCount library) (total library user)) × Ready (sheetRefusal library user) library user row memo
+  check-passed f m =
       let q = refused-is (passesRefusal library user) (classCount library) (total library user) (sym f ∙ e .0) in
-      let o = sheet-parts library user ∙ first-some _ q in (
-        e .0 ∙ rw (q, o),
-        record { long = e .1 .long; indexed = λ n. absurd (some≢none _ (sym o ∙ n)); right = λ n. absurd (some≢none _ (sym o ∙ n)) },
-      )
+      let o = sheet-parts library user ∙ first-some _ q in
+      (e .0 ∙ rw (q, o), ready-fresh o (e .1 .long, m))
 
 -- ---- present: 1 to 11
 
 module _ (library user : List ℕ) (used : ℕ) where
-  -- what a call of the present sheets answers
+  -- what a call of the present sheets promises
   abbrev pub Presents : Checked → List ℕ → List ℕ → Type 0
   Presents p row memo =
       (p ≡ checkedOf (presentRefusal library user used) (classCount library) (total library (take used user)))
-      × (presentRefusal library user used ≡ none → Ready library (take used user) row memo)
-
-  refused : {r : Refusal} {row memo : List ℕ} → presentRefusal library user used ≡ some r → Presents (Refused (r .number) (r .sheet) (r .byte)) row memo
-  refused o = (rw o, λ n. absurd (some≢none _ (sym o ∙ n)))
+      × Ready (presentRefusal library user used) library (take used user) row memo
 
   size-first : {r : Refusal} → sizeRefusal library user used ≡ some r → presentRefusal library user used ≡ some r
   unfolding presentRefusal
   size-first e = first-some _ e
 
-  pub library-long : {row memo : List ℕ} → 32768 < length library → Presents (Refused 1 0 0) row memo
-  unfolding sizeRefusal refuseIf firstOf
-  library-long h = refused (size-first (let o : sizeRefusal library user used ≡ some (record { number = 1; sheet = 0; byte = 0 }) = rw (lt-ltb 32768 (length library) h) in o))
+  module _ {row memo : List ℕ} (rows : Fresh row memo) where
+    refused : {r : Refusal} → sizeRefusal library user used ≡ some r → Presents (Refused (r .number) (r .sheet) (r .byte)) row memo
+    refused e = let o = size-first e in (rw o, ready-fresh o rows)
+
+    pub library-long : 32768 < length library → Presents (Refused 1 0 0) row memo
+    unfolding sizeRefusal refuseIf firstOf
+    library-long h = refused (let o : sizeRefusal library user used ≡ some (record { number = 1; sheet = 0; byte = 0 }) = rw (lt-ltb 32768 (length library) h) in o)
 
   module _ (l : 32768 < length library → ⊥) where
     user-size : (b : Bool) → (ltb 32768 used || ltb (length user) used) ≡ b → sizeRefusal library user used ≡ refuseIf b 1 1 0
     unfolding sizeRefusal
     user-size b e = first-past _ _ (none-if (ltb 32768 (length library)) 1 0 0 (nltb 32768 (length library) (omega arith))) ∙ rw e
 
-    pub used-long : {row memo : List ℕ} → 32768 < used → Presents (Refused 1 1 0) row memo
+    pub used-long : {row memo : List ℕ} → Fresh row memo → 32768 < used → Presents (Refused 1 1 0) row memo
     unfolding refuseIf
-    used-long h = refused (size-first (user-size true (rw (lt-ltb 32768 used h))))
+    used-long rows h = refused rows (user-size true (rw (lt-ltb 32768 used h)))
 
     module _ (u : 32768 < used → ⊥) where
-      pub used-past : {row memo : List ℕ} → length user < used → Presents (Refused 1 1 0) row memo
+      pub used-past : {row memo : List ℕ} → Fresh row memo → length user < used → Presents (Refused 1 1 0) row memo
       unfolding refuseIf
-      used-past h = refused (size-first (user-size true (rw (le-ltb 32768 used (omega arith), lt-ltb (length user) used h))))
+      used-past rows h = refused rows (user-size true (rw (le-ltb 32768 used (omega arith), lt-ltb (length user) used h)))
 
       module _ (t : length user < used → ⊥) where
         size-none : presentRefusal library user used ≡ sheetRefusal library (take used user)
@@ -222,7 +263,7 @@ module _ (library user : List ℕ) (used : ℕ) where
         size-none = first-past _ _ (user-size false (rw (le-ltb 32768 used (omega arith), le-ltb (length user) used (omega arith))))
 
         pub present-is : {p : Checked} {row memo : List ℕ} (s : List ℕ) → s ≡ take used user
-            → (p ≡ checkedOf (sheetRefusal library s) (classCount library) (total library s)) × Ready library s row memo → Presents p row memo
+            → (p ≡ checkedOf (sheetRefusal library s) (classCount library) (total library s)) × Ready (sheetRefusal library s) library s row memo → Presents p row memo
         present-is {p} {row} {memo} s e h =
-            let q = subst (λ (v : List ℕ). (p ≡ checkedOf (sheetRefusal library v) (classCount library) (total library v)) × Ready library v row memo) e h in
-            (q .0 ∙ rw size-none, λ _. q .1)
+            let q = subst (λ (v : List ℕ). (p ≡ checkedOf (sheetRefusal library v) (classCount library) (total library v)) × Ready (sheetRefusal library v) library v row memo) e h in
+            (q .0 ∙ rw size-none, rw size-none (q .1))

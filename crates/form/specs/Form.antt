@@ -11,9 +11,9 @@ use Rattle.spec.specs.Lists.{firstOf}
 use Rattle.spec.specs.Sheet.{Group, classCount, total, group}
 use Rattle.spec.specs.Markers.{clash}
 use Rattle.spec.specs.Classes.{overlay}
-use Rattle.spec.specs.Refusals.{Refusal, recordRefusal, tornRefusal, noClassRefusal, formRefusal, deemedRefusal, sheetRefusal}
+use Rattle.spec.specs.Refusals.{Refusal, recordRefusal, tornRefusal, noClassRefusal, formRefusal, deemedRefusal}
 use Rattle.groups.specs.Groups.{Indexed}
-use Rattle.overlay.specs.Memo.{Right}
+use Rattle.overlay.specs.Memo.{memoOf}
 use Rattle.form.specs.declared.Checked.{Checked}
 use Rattle.form.specs.declared.Checked.the-variants.{Fine, Refused}
 
@@ -50,11 +50,15 @@ pub record Starts (library user row : List ℕ) : Type 0 where
   pub long : length row ≡ 256
   pub indexed : passesRefusal library user ≡ none → Indexed library user (classCount library) (total library user) row
 
--- where nothing is refused, row and memo are right
-pub record Ready (library user row memo : List ℕ) : Type 0 where
+-- the rows after a check that ends with o: the memo knows the classes below `asked` and no other; where nothing is refused those are the library's, and the
+-- starts are right
+pub record Ready (o : Option Refusal) (library user row memo : List ℕ) : Type 0 where
   pub long : length row ≡ 256
-  pub indexed : sheetRefusal library user ≡ none → Indexed library user (classCount library) (total library user) row
-  pub right : sheetRefusal library user ≡ none → Right (group library user) memo
+  pub memo-long : length memo ≡ 256
+  pub asked : ℕ
+  pub memo-asked : memo ≡ memoOf (group library user) asked
+  pub all-asked : o ≡ none → asked ≡ classCount library
+  pub indexed : o ≡ none → Indexed library user (classCount library) (total library user) row
 
 abbrev pub checkedOf : Option Refusal → ℕ → ℕ → Checked
 checkedOf none nlib n = Fine nlib n

@@ -9,16 +9,16 @@ use second::counts;
 use second::second_pass;
 use view::Cut;
 ghost use mathlib.Core.Path.{_≡_};
-ghost use mathlib.Core.Option.{none};
-ghost use Prim.Native.Nat.{_+_, _≤_};
+ghost use mathlib.Core.List.{List};
+ghost use Prim.Native.Nat.{ℕ, _+_, _≤_, min};
 ghost use lib.ListN.{length, take, replicate};
-ghost use Rattle.spec.specs.Sheet.{group as groupOf, classCount, total};
+ghost use Rattle.spec.specs.Sheet.{Group, group as groupOf, classCount, total};
 ghost use Rattle.spec.specs.Refusals.{sheetRefusal, presentRefusal};
 ghost use Rattle.theory.proofs.Falls.{Falls};
 ghost use Rattle.view.specs.View.{Fits, spliced};
 ghost use Rattle.pass.specs.Pass.{passRefusal, passOf, Filled};
 ghost use Rattle.groups.specs.Groups.{Indexed};
-ghost use Rattle.overlay.specs.Memo.{Right};
+ghost use Rattle.overlay.specs.Memo.{memoOf};
 ghost use Rattle.form.specs.Form.{deemedBreaks, firstDeemed, passesRefusal, laterRefusal, Starts, Ready, checkedOf};
 
 // The numbers of library classes and of all classes, or the refusal: number, sheet, byte.
@@ -51,12 +51,14 @@ fn deemed<'a>(
     n: usize,
     memo: &mut [u16],
 ) -> usize
-    requires { ⌜ Fits cut (now user) (now group) ⌝ }
-    requires { ⌜ Indexed (now library) (spliced (now user) (now group) cut) nlib n (now starts) ⌝ }
-    requires { ⌜ Falls (groupOf (now library) (spliced (now user) (now group) cut)) ⌝ }
-    requires { ⌜ Right (groupOf (now library) (spliced (now user) (now group) cut)) (now memo) ⌝ }
-    ensures class { λ r. ⌜ r ≡ firstDeemed (groupOf (now (library .entry)) (spliced (now (user .entry)) (now (group .entry)) cut)) nlib ⌝ }
-    ensures memo { λ r. ⌜ Right (groupOf (now (library .entry)) (spliced (now (user .entry)) (now (group .entry)) cut)) (now (memo .exit)) ⌝ }
+    ghost { ℕ → Group }
+    requires { λ g. ⌜ groupOf (now library) (spliced (now user) (now group) cut) ≡ g ⌝ }
+    requires { λ g. ⌜ Fits cut (now user) (now group) ⌝ }
+    requires { λ g. ⌜ Indexed (now library) (spliced (now user) (now group) cut) nlib n (now starts) ⌝ }
+    requires { λ g. ⌜ Falls g ⌝ }
+    requires { λ g. ⌜ now memo ≡ replicate 256 65535 ⌝ }
+    ensures class { λ g r. ⌜ r ≡ firstDeemed g nlib ⌝ }
+    ensures memo { λ g r. ⌜ now (memo .exit) ≡ memoOf g (min nlib (r + 1)) ⌝ }
 {
     let mut c = 0;
     while c < nlib {
@@ -76,7 +78,8 @@ fn view_pass<'a>(user: &'a [u8], group: &'a [u8], cut: Cut, base: usize, starts:
     requires { ⌜ length (spliced (now user) (now group) cut) ≤ 32768 ⌝ }
     requires { ⌜ (base ≤ 256) × (256 ≤ length (now starts)) ⌝ }
     ensures answer { λ r. ⌜ r ≡ passOf (passRefusal 1 base (spliced (now (user .entry)) (now (group .entry)) cut)) (base + classCount (spliced (now (user .entry)) (now (group .entry)) cut)) ⌝ }
-    ensures starts { λ r. ⌜ Filled (passRefusal 1 base (spliced (now (user .entry)) (now (group .entry)) cut)) base 0 (spliced (now (user .entry)) (now (group .entry)) cut) (now (starts .entry)) (now (starts .exit)) ⌝ }
+    ensures starts { λ r. ⌜ Filled (passRefusal 1 base (spliced (now (user .entry)) (now (group .entry)) cut)) base 0
+        (spliced (now (user .entry)) (now (group .entry)) cut) (now (starts .entry)) (now (starts .exit)) ⌝ }
 {
     let from = cut.from;
     let to = cut.to;
@@ -103,7 +106,8 @@ fn both_passes<'a>(
     requires { ⌜ Fits cut (now user) (now group) ⌝ }
     requires { ⌜ (length (now library) ≤ 32768) × (length (spliced (now user) (now group) cut) ≤ 32768) ⌝ }
     requires { ⌜ length (now starts) ≡ 256 ⌝ }
-    ensures answer { λ r. ⌜ r ≡ checkedOf (passesRefusal (now (library .entry)) (spliced (now (user .entry)) (now (group .entry)) cut)) (classCount (now (library .entry))) (total (now (library .entry)) (spliced (now (user .entry)) (now (group .entry)) cut)) ⌝ }
+    ensures answer { λ r. ⌜ r ≡ checkedOf (passesRefusal (now (library .entry)) (spliced (now (user .entry)) (now (group .entry)) cut))
+        (classCount (now (library .entry))) (total (now (library .entry)) (spliced (now (user .entry)) (now (group .entry)) cut)) ⌝ }
     ensures starts { λ r. ⌜ Starts (now (library .entry)) (spliced (now (user .entry)) (now (group .entry)) cut) (now (starts .exit)) ⌝ }
 {
     let first = first_pass(library, 0, 0, 0, starts);
@@ -134,11 +138,13 @@ fn later<'a>(
     n: usize,
     memo: &mut [u16],
 ) -> Checked
-    requires { ⌜ Fits cut (now user) (now group) ⌝ }
-    requires { ⌜ Indexed (now library) (spliced (now user) (now group) cut) nlib n (now starts) ⌝ }
-    requires { ⌜ Right (groupOf (now library) (spliced (now user) (now group) cut)) (now memo) ⌝ }
-    ensures answer { λ r. ⌜ r ≡ checkedOf (laterRefusal (now (library .entry)) (spliced (now (user .entry)) (now (group .entry)) cut)) nlib n ⌝ }
-    ensures memo { λ r. ⌜ Right (groupOf (now (library .entry)) (spliced (now (user .entry)) (now (group .entry)) cut)) (now (memo .exit)) ⌝ }
+    ghost { List ℕ }
+    requires { λ view. ⌜ spliced (now user) (now group) cut ≡ view ⌝ }
+    requires { λ view. ⌜ Fits cut (now user) (now group) ⌝ }
+    requires { λ view. ⌜ Indexed (now library) view nlib n (now starts) ⌝ }
+    requires { λ view. ⌜ now memo ≡ replicate 256 65535 ⌝ }
+    ensures answer { λ view r. ⌜ r ≡ checkedOf (laterRefusal (now (library .entry)) view) nlib n ⌝ }
+    ensures rows { λ view r. ⌜ Ready (laterRefusal (now (library .entry)) view) (now (library .entry)) view (now (starts .entry)) (now (memo .exit)) ⌝ }
 {
     let mut row = [0u16; 256];
     prints(library, user, group, cut, starts, nlib, n, &mut row);
@@ -163,7 +169,7 @@ fn later<'a>(
     Checked::Fine(nlib, n)
 }
 
-// All of 2 to 11 of a library sheet and a view. Where nothing is refused, the row of starts and the memo of overlay markers are right.
+// All of 2 to 11 of a library sheet and a view. Where nothing is refused, the row of starts is right and the memo knows the library's classes.
 pub fn check<'a>(
     library: &'a [u8],
     user: &'a [u8],
@@ -172,11 +178,13 @@ pub fn check<'a>(
     starts: &mut [u16],
     memo: &mut [u16],
 ) -> Checked
-    requires { ⌜ Fits cut (now user) (now group) ⌝ }
-    requires { ⌜ (length (now library) ≤ 32768) × (length (spliced (now user) (now group) cut) ≤ 32768) ⌝ }
-    requires { ⌜ (length (now starts) ≡ 256) × (now memo ≡ replicate 256 65535) ⌝ }
-    ensures answer { λ r. ⌜ r ≡ checkedOf (sheetRefusal (now (library .entry)) (spliced (now (user .entry)) (now (group .entry)) cut)) (classCount (now (library .entry))) (total (now (library .entry)) (spliced (now (user .entry)) (now (group .entry)) cut)) ⌝ }
-    ensures rows { λ r. ⌜ Ready (now (library .entry)) (spliced (now (user .entry)) (now (group .entry)) cut) (now (starts .exit)) (now (memo .exit)) ⌝ }
+    ghost { List ℕ }
+    requires { λ view. ⌜ spliced (now user) (now group) cut ≡ view ⌝ }
+    requires { λ view. ⌜ Fits cut (now user) (now group) ⌝ }
+    requires { λ view. ⌜ (length (now library) ≤ 32768) × (length view ≤ 32768) ⌝ }
+    requires { λ view. ⌜ (length (now starts) ≡ 256) × (now memo ≡ replicate 256 65535) ⌝ }
+    ensures answer { λ view r. ⌜ r ≡ checkedOf (sheetRefusal (now (library .entry)) view) (classCount (now (library .entry))) (total (now (library .entry)) view) ⌝ }
+    ensures rows { λ view r. ⌜ Ready (sheetRefusal (now (library .entry)) view) (now (library .entry)) view (now (starts .exit)) (now (memo .exit)) ⌝ }
 {
     let passed = both_passes(library, user, group, cut, starts);
     if let Checked::Fine(nlib, n) = passed {
@@ -194,8 +202,10 @@ pub fn present<'a>(
     memo: &mut [u16],
 ) -> Checked
     requires { ⌜ (length (now starts) ≡ 256) × (now memo ≡ replicate 256 65535) ⌝ }
-    ensures answer { λ r. ⌜ r ≡ checkedOf (presentRefusal (now (library .entry)) (now (user .entry)) used) (classCount (now (library .entry))) (total (now (library .entry)) (take used (now (user .entry)))) ⌝ }
-    ensures rows { λ r. ⌜ (presentRefusal (now (library .entry)) (now (user .entry)) used ≡ none → Ready (now (library .entry)) (take used (now (user .entry))) (now (starts .exit)) (now (memo .exit))) ⌝ }
+    ensures answer { λ r. ⌜ r ≡ checkedOf (presentRefusal (now (library .entry)) (now (user .entry)) used)
+        (classCount (now (library .entry))) (total (now (library .entry)) (take used (now (user .entry)))) ⌝ }
+    ensures rows { λ r. ⌜ Ready (presentRefusal (now (library .entry)) (now (user .entry)) used)
+        (now (library .entry)) (take used (now (user .entry))) (now (starts .exit)) (now (memo .exit)) ⌝ }
 {
     if 32768 < library.len() {
         return Checked::Refused(1, 0, 0);

@@ -1,15 +1,12 @@
--- The recursion over supertypes: what a class gathers from its superclass and its interfaces, a memo that stays right, and the walk over the interfaces.
+-- The recursion over supertypes: a class as seen from another, and what a class gathers from its superclass and its interfaces.
 -- Assumes nothing.
 use mathlib.Core.Path.{_≡_, refl, sym, ap, ap₂, _∙_, subst}
 use mathlib.Core.Bool.{Bool, true, false}
 use mathlib.Core.List.{List, [], _∷_, map, append-nil, map-append}
-use Prim.Native.Nat.{ℕ, zero, suc, _≤_, _<_}
-use native.Mathlib.Nat.{not-suc-le-zero, le-of-suc-le-suc, le-refl}
-use native.Mathlib.Decide.{ℕ-discrete}
+use Prim.Native.Nat.{ℕ, suc, _≤_, _<_}
+use native.Mathlib.Nat.{le-refl}
 use native.Mathlib.Omega.{arith}
 use lib.Dec.{T, eqb, eqb→eq}
-use lib.ListN.{length, getD, set, replicate, length-set, length-replicate}
-use lib.Seq.{getD-set-same, getD-set-other}
 use borrow.Author.Tests.{lt-ltb, le-ltb}
 use Rattle.spec.specs.Lists.{gather}
 use Rattle.spec.specs.Record.{u16, none16, IMPLEMENTS, ownMarkers, superclass, unlessNone}
@@ -21,7 +18,7 @@ use Rattle.theory.proofs.All.{map-cong}
 use Rattle.theory.proofs.Falls.{Falls}
 use Rattle.theory.proofs.Overlay.{gathered-enough, supertypes-lower}
 use Rattle.theory.proofs.Form.{one-record}
-use Rattle.overlay.specs.Memo.{raw, lowerRaw, withInterfaces, Right}
+use Rattle.overlay.specs.Memo.{raw, lowerRaw, withInterfaces}
 use Rattle.overlay.proofs.Unions.{union-assoc, union-zero, union-append}
 
 -- ---- a class as seen from another
@@ -33,35 +30,6 @@ lower-none g c i h = rw (le-ltb i c h, lowerRaw)
 pub lower-is : (g : ℕ → Group) (c i : ℕ) → i < c → raw g i ≡ lowerRaw g c i
 unfolding lowerRaw
 lower-is g c i h = rw (lt-ltb i c h, lowerRaw)
-
--- ---- the memo
-
-default : (l : List ℕ) (i d e : ℕ) → i < length l → getD l i d ≡ getD l i e
-default [] i d e h = absurd (not-suc-le-zero h)
-default (x ∷ l) zero d e h = refl
-default (x ∷ l) (suc i) d e h = default l i d e (le-of-suc-le-suc h)
-
-pub memo-known : (g : ℕ → Group) (memo : List ℕ) (c : ℕ) → Right g memo → c < 256 → getD memo c 0 < 256 → getD memo c 0 ≡ raw g c
-memo-known g memo c r h k =
-    let l : c < length memo = omega (arith, r .long) in
-    let e = default memo c 0 256 l in
-    e ∙ r .is c (subst (λ (x : ℕ). x < 256) e k)
-
-pub memo-set : (g : ℕ → Group) (memo : List ℕ) (c v : ℕ) → Right g memo → c < 256 → v ≡ raw g c → Right g (set memo c v)
-memo-set g memo c v r h e = record { long = length-set memo c v ∙ r .long; is = λ i k. go i k (ℕ-discrete i c) }
-  where
-    go : (i : ℕ) → getD (set memo c v) i 256 < 256 → Dec (i ≡ c) → getD (set memo c v) i 256 ≡ raw g i
-    go i k (yes q) = subst (λ (j : ℕ). getD (set memo c v) j 256 ≡ raw g j) (sym q) (getD-set-same memo c v 256 (omega (arith, r .long)) ∙ e)
-    go i k (no n) = let z = getD-set-other memo c i v 256 n in z ∙ r .is i (subst (λ (x : ℕ). x < 256) z k)
-
-all-big : (n i : ℕ) → getD (replicate n 65535) i 256 < 256 → ⊥
-all-big zero i h = omega arith
-all-big (suc n) zero h = omega arith
-all-big (suc n) (suc i) h = all-big n i h
-
--- nothing is known yet
-pub memo-new : (g : ℕ → Group) → Right g (replicate 256 65535)
-memo-new g = record { long = length-replicate {A = ℕ} 256 65535; is = λ i h. absurd (all-big 256 i h) }
 
 -- ---- what a class gathers
 

@@ -4,7 +4,7 @@ use mathlib.Core.Path.{_≡_, refl, sym, ap, _∙_, subst}
 use mathlib.Core.Logic.{_⊎_, inl, inr}
 use mathlib.Core.Bool.{Bool, true, false, not, _&&_, and-true}
 use mathlib.Core.List.{List, [], _∷_, map}
-use Prim.Native.Nat.{ℕ, _+_, _≤_, _<_}
+use Prim.Native.Nat.{ℕ, _+_, _≤_, _<_, min, max}
 use native.Mathlib.Nat.{zero-add}
 use native.Mathlib.Decide.{ℕ-discrete}
 use native.Mathlib.Omega.{arith}
@@ -13,7 +13,7 @@ use lib.ListN.{length, getD, set, length-set, List·getD-eq-default}
 use borrow.Author.Tests.{eq-eqb, ne-eqb}
 use Rattle.spec.specs.Lists.{all, keep, gather, span}
 use Rattle.spec.specs.Record.{u8, u16, bit, ownMarkers, Ty, tyAt, tyReferences}
-use Rattle.spec.specs.Sheet.{Group, group, classRecord, ofKind}
+use Rattle.spec.specs.Sheet.{Group, group, total, classRecord, ofKind}
 use Rattle.spec.specs.Markers.{union, unionAll, closures, closure}
 use Rattle.spec.specs.Classes.{superclasses, targets, supertypes, gathered, overlay, hasMarker, satisfies}
 use Rattle.theory.proofs.Bools.{decide, t-true, t-false}
@@ -22,7 +22,7 @@ use Rattle.theory.proofs.Closure.{bit-zero}
 use Rattle.theory.proofs.Rows.{set-below}
 use Rattle.groups.specs.Groups.{Indexed}
 use Rattle.groups.proofs.Few.{group-past}
-use Rattle.overlay.specs.Memo.{Right}
+use Rattle.overlay.specs.Memo.{memoOf}
 use Rattle.overlay.specs.Types.{Known, markersBy, typeMarkers, rowMarkers}
 use Rattle.overlay.proofs.Unions.{union-zero}
 
@@ -38,23 +38,28 @@ overlay-past {library} {user} x c h = empty-overlay (group library user) c (grou
 
 -- ---- the row of overlay sets
 
--- the entries below c are right, and the memo is
-pub record Filling (g : ℕ → Group) (memo row : List ℕ) (c : ℕ) : Type 0 where
+-- the entries below c are right, and the memo knows the classes asked and those of the library
+pub record Filling (g : ℕ → Group) (nlib n : ℕ) (memo row : List ℕ) (c : ℕ) : Type 0 where
   pub long : length row ≡ 256
   pub is : (i : ℕ) → i < c → getD row i 0 ≡ overlay g i
-  pub right : Right g memo
+  pub memo-is : memo ≡ memoOf g (max nlib (min c n))
 
-pub fill-start : {g : ℕ → Group} {memo row : List ℕ} → Right g memo → length row ≡ 256 → Filling g memo row 0
-fill-start r l = record { long = l; is = λ i h. absurd (omega arith); right = r }
+pub fill-start : {g : ℕ → Group} {nlib n : ℕ} {memo row : List ℕ} → memo ≡ memoOf g nlib → length row ≡ 256 → Filling g nlib n memo row 0
+fill-start {g} {nlib} {n} e l =
+    let z : nlib ≡ max nlib (min 0 n) = omega arith in record { long = l; is = λ i h. absurd (omega arith); memo-is = e ∙ ap (memoOf g) z }
 
-pub fill-next : {g : ℕ → Group} {memo row : List ℕ} {c : ℕ} → Filling g memo row c → c < 256 → {v : ℕ} → v ≡ overlay g c → {memo′ : List ℕ} → Right g memo′ → Filling g memo′ (set row c v) (c + 1)
+pub fill-next : {g : ℕ → Group} {nlib n : ℕ} {memo row : List ℕ} {c : ℕ} → Filling g nlib n memo row c → c < 256 → {v : ℕ} → v ≡ overlay g c → {memo′ : List ℕ}
+    → memo′ ≡ memoOf g (max nlib (min (c + 1) n)) → Filling g nlib n memo′ (set row c v) (c + 1)
 fill-next {g} {row = row} {c} f h {v} e r =
-    record { long = length-set row c v ∙ f .long; is = set-below (λ d x. x ≡ overlay g d) row c v (omega (arith, f .long)) (f .is) e; right = r }
+    record { long = length-set row c v ∙ f .long; is = set-below (λ d x. x ≡ overlay g d) row c v (omega (arith, f .long)) (f .is) e; memo-is = r }
 
 -- past the row there is no class
-pub fill-end : {library user : List ℕ} {nlib n : ℕ} {starts : List ℕ} → Indexed library user nlib n starts → {memo row : List ℕ} {c : ℕ} → Filling (group library user) memo row c → 256 ≤ c
-    → Known (group library user) row
-fill-end {library} {user} x {row = row} {c} f h = record { long = f .long; is = λ i. go i (decide (ltb i c)) }
+pub fill-end : {library user : List ℕ} {nlib n : ℕ} {starts : List ℕ} → Indexed library user nlib n starts → {memo row : List ℕ} {c : ℕ} → Filling (group library user) nlib n memo row c → 256 ≤ c
+    → Known (group library user) row × (memo ≡ memoOf (group library user) n)
+unfolding total
+fill-end {library} {user} {nlib} {n} x {row = row} {c} f h =
+    let z : max nlib (min c n) ≡ n = omega (arith, x .nlib-is, x .n-is, x .few) in
+    (record { long = f .long; is = λ i. go i (decide (ltb i c)) }, f .memo-is ∙ ap (memoOf (group library user)) z)
   where
     go : (i : ℕ) → T (ltb i c) ⊎ T (not (ltb i c)) → getD row i 0 ≡ overlay (group library user) i
     go i (inl t) = f .is i (ltb→lt i c t)

@@ -1,6 +1,6 @@
 -- The walk over a class's records that joins what is gathered for its interfaces.
 -- Assumes nothing.
-use mathlib.Core.Path.{_≡_, sym, ap, _∙_, subst}
+use mathlib.Core.Path.{_≡_, refl, sym, ap, _∙_, subst}
 use mathlib.Core.Bool.{true, false}
 use mathlib.Core.List.{List, _∷_, map}
 use Prim.Native.Nat.{ℕ, _+_, _≤_, _<_}
@@ -20,21 +20,21 @@ use Rattle.theory.proofs.References.{by-kind}
 use Rattle.groups.specs.Groups.{between, AtRecord, Carries}
 use Rattle.groups.proofs.Between.{tiled-end}
 use Rattle.groups.proofs.Walks.{walk-on, walk-here, size-here, walk-next}
-use Rattle.overlay.specs.Memo.{lowerRaw, withInterfaces, Right}
+use Rattle.overlay.specs.Memo.{lowerRaw, withInterfaces}
 use Rattle.overlay.proofs.Unions.{union-assoc, union-zero}
 
--- at a record of the group: the set so far, joined with what the interfaces from here on give, is the whole
-pub record Walking (g : ℕ → Group) (c mine : ℕ) (s memo : List ℕ) (at m : ℕ) : Type 0 where
+-- at a record of the group: the set so far, joined with what the interfaces from here on give, is the whole, and the memo is the one at the start
+pub record Walking (g : ℕ → Group) (c mine : ℕ) (s memo₀ memo : List ℕ) (at m : ℕ) : Type 0 where
   pub place : AtRecord s (length s) at
   pub rest : union m (unionAll (map (lowerRaw g c) (targets IMPLEMENTS (between s at (length s))))) ≡ withInterfaces g c mine
-  pub right : Right g memo
+  pub kept : memo ≡ memo₀
 
-pub walk-begin : (g : ℕ → Group) {c : ℕ} (mine : ℕ) {s memo : List ℕ} → Carries s (g c) → Right g memo → Walking g c mine s memo 0 mine
+pub walk-begin : (g : ℕ → Group) {c : ℕ} (mine : ℕ) {s : List ℕ} (memo : List ℕ) → Carries s (g c) → Walking g c mine s memo memo 0 mine
 unfolding withInterfaces
-walk-begin g {c} mine w r =
-    record { place = w .place; rest = ap (λ (rs : List (List ℕ)). union mine (unionAll (map (lowerRaw g c) (targets IMPLEMENTS rs)))) (w .records); right = r }
+walk-begin g {c} mine memo w =
+    record { place = w .place; rest = ap (λ (rs : List (List ℕ)). union mine (unionAll (map (lowerRaw g c) (targets IMPLEMENTS rs)))) (w .records); kept = refl }
 
-pub walk-end : {g : ℕ → Group} {c mine : ℕ} {s memo : List ℕ} {at m : ℕ} → Walking g c mine s memo at m → length s ≤ at → m ≡ withInterfaces g c mine
+pub walk-end : {g : ℕ → Group} {c mine : ℕ} {s memo₀ memo : List ℕ} {at m : ℕ} → Walking g c mine s memo₀ memo at m → length s ≤ at → m ≡ withInterfaces g c mine
 unfolding targets ofKind keep unionAll
 walk-end {g} {c} {mine} {s} {at = at} {m} w h =
     sym (union-zero m) ∙ sym (ap (λ (rs : List (List ℕ)). union m (unionAll (map (lowerRaw g c) (targets IMPLEMENTS rs)))) (tiled-end s at (length s) h)) ∙ w .rest
@@ -52,7 +52,7 @@ six : (r : List ℕ) → T (isKind IMPLEMENTS r) → T (lengthFits r) → length
 unfolding lengthFits
 six r t h = eqb→eq (length r) 6 (subst T (by-kind r false _ IMPLEMENTS t) h)
 
-module _ {g : ℕ → Group} {c mine : ℕ} {s memo : List ℕ} {at m : ℕ} (w : Walking g c mine s memo at m) (h : at < length s) where
+module _ {g : ℕ → Group} {c mine : ℕ} {s memo₀ memo : List ℕ} {at m : ℕ} (w : Walking g c mine s memo₀ memo at m) (h : at < length s) where
   abbrev record-here : List ℕ
   record-here = take (u16 s at) (drop at s)
 
@@ -72,8 +72,8 @@ module _ {g : ℕ → Group} {c mine : ℕ} {s memo : List ℕ} {at m : ℕ} (w 
   asks-room ek e = omega (arith, six-here ek e, walk-on (w .place) h)
 
   -- its class is asked
-  pub walk-asks : {l k i got m′ : ℕ} {memo′ memo″ : List ℕ} → l ≡ u16 s at → k ≡ u16 s (at + 2) → k ≡ 2 → i ≡ u16 s (at + 4) → got ≡ lowerRaw g c i → Right g memo′
-      → memo″ ≡ memo′ → m′ ≡ union m got → Walking g c mine s memo″ (at + l) m′
+  pub walk-asks : {l k i got m′ : ℕ} {memo′ memo″ : List ℕ} → l ≡ u16 s at → k ≡ u16 s (at + 2) → k ≡ 2 → i ≡ u16 s (at + 4) → got ≡ lowerRaw g c i → memo′ ≡ memo
+      → memo″ ≡ memo′ → m′ ≡ union m got → Walking g c mine s memo₀ memo″ (at + l) m′
   unfolding unionAll union target
   walk-asks {l} {k} {i} {got} {m′} {memo′} el ek e ei eg r er em =
       let t : isKind IMPLEMENTS record-here ≡ true = eq-eqb _ _ (kind-here ∙ sym ek ∙ e) in
@@ -86,11 +86,11 @@ module _ {g : ℕ → Group} {c mine : ℕ} {s memo : List ℕ} {at m : ℕ} (w 
         rest = union-assoc m got (unionAll (map (lowerRaw g c) (targets IMPLEMENTS rs)))
             ∙ ap (λ (x : ℕ). union m (union x (unionAll (map (lowerRaw g c) (targets IMPLEMENTS rs))))) (eg ∙ ap (lowerRaw g c) named)
             ∙ sym (ap (λ (ts : List ℕ). union m (unionAll (map (lowerRaw g c) ts))) (targets-implements record-here rs t)) ∙ rest-here;
-        right = r;
+        kept = r ∙ w .kept;
       })
 
   -- any other record
-  pub walk-passes : {l k m′ : ℕ} {memo′ : List ℕ} → l ≡ u16 s at → k ≡ u16 s (at + 2) → (k ≡ 2 → ⊥) → m′ ≡ m → memo′ ≡ memo → Walking g c mine s memo′ (at + l) m′
+  pub walk-passes : {l k m′ : ℕ} {memo′ : List ℕ} → l ≡ u16 s at → k ≡ u16 s (at + 2) → (k ≡ 2 → ⊥) → m′ ≡ m → memo′ ≡ memo → Walking g c mine s memo₀ memo′ (at + l) m′
   walk-passes {l} {k} {m′} {memo′} el ek n em er =
       let f : isKind IMPLEMENTS record-here ≡ false = ne-eqb _ _ (λ q. n (ek ∙ sym kind-here ∙ q)) in
       let rs : List (List ℕ) = between s (at + u16 s at) (length s) in
@@ -98,5 +98,5 @@ module _ {g : ℕ → Group} {c mine : ℕ} {s memo : List ℕ} {at m : ℕ} (w 
       (record {
         place = walk-next (w .place) h;
         rest = sym (ap (λ (ts : List ℕ). union m (unionAll (map (lowerRaw g c) ts))) (targets-other record-here rs f)) ∙ rest-here;
-        right = w .right;
+        kept = w .kept;
       })

@@ -1,20 +1,20 @@
-// Overlay markers: a class asks its superclass and its interfaces, and each interface asks those it extends. A memo row keeps what is known,
-// so that each class is computed once, whichever class is asked first.
+// Overlay markers: a class asks its superclass and its interfaces, and each interface asks those it extends. A memo row keeps what is known.
+// Classes are asked in rising order, so that a class finds its supertypes there: each is computed once, and no call is deep.
 use groups::class_bytes;
 use markers::closure;
 use markers::union;
 use view::Cut;
 use view::word_in;
 ghost use mathlib.Core.Path.{_≡_};
-ghost use Prim.Native.Nat.{_+_, _≤_, _<_};
-ghost use lib.ListN.{length, getD};
+ghost use Prim.Native.Nat.{ℕ, _+_, _≤_, _<_, min, max};
+ghost use lib.ListN.{length, getD, set};
 ghost use Rattle.spec.specs.Record.{tyAt};
-ghost use Rattle.spec.specs.Sheet.{group as groupOf};
+ghost use Rattle.spec.specs.Sheet.{Group, group as groupOf};
 ghost use Rattle.spec.specs.Classes.{overlay as overlayOf};
 ghost use Rattle.theory.proofs.Falls.{Falls};
 ghost use Rattle.view.specs.View.{Fits, spliced};
 ghost use Rattle.groups.specs.Groups.{Indexed};
-ghost use Rattle.overlay.specs.Memo.{raw, lowerRaw, withInterfaces, Right};
+ghost use Rattle.overlay.specs.Memo.{raw, lowerRaw, withInterfaces, memoOf, Knows};
 ghost use Rattle.overlay.specs.Types.{Known, rowMarkers};
 
 fn wide(x: u16) -> usize
@@ -36,13 +36,15 @@ fn lower<'a>(
     i: usize,
     memo: &mut [u16],
 ) -> u8
-    requires { ⌜ Fits cut (now user) (now group) ⌝ }
-    requires { ⌜ Indexed (now library) (spliced (now user) (now group) cut) nlib n (now starts) ⌝ }
-    requires { ⌜ Falls (groupOf (now library) (spliced (now user) (now group) cut)) ⌝ }
-    requires { ⌜ c < n ⌝ }
-    requires { ⌜ Right (groupOf (now library) (spliced (now user) (now group) cut)) (now memo) ⌝ }
-    ensures markers { λ r. ⌜ r ≡ lowerRaw (groupOf (now (library .entry)) (spliced (now (user .entry)) (now (group .entry)) cut)) c i ⌝ }
-    ensures memo { λ r. ⌜ Right (groupOf (now (library .entry)) (spliced (now (user .entry)) (now (group .entry)) cut)) (now (memo .exit)) ⌝ }
+    ghost { ℕ → Group }
+    requires { λ g. ⌜ groupOf (now library) (spliced (now user) (now group) cut) ≡ g ⌝ }
+    requires { λ g. ⌜ Fits cut (now user) (now group) ⌝ }
+    requires { λ g. ⌜ Indexed (now library) (spliced (now user) (now group) cut) nlib n (now starts) ⌝ }
+    requires { λ g. ⌜ Falls g ⌝ }
+    requires { λ g. ⌜ c < n ⌝ }
+    requires { λ g. ⌜ Knows g c (now memo) ⌝ }
+    ensures markers { λ g r. ⌜ r ≡ lowerRaw g c i ⌝ }
+    ensures memo { λ g r. ⌜ now (memo .exit) ≡ now (memo .entry) ⌝ }
 {
     if c <= i {
         return 0;
@@ -62,13 +64,15 @@ fn gathered<'a>(
     c: usize,
     memo: &mut [u16],
 ) -> u8
-    requires { ⌜ Fits cut (now user) (now group) ⌝ }
-    requires { ⌜ Indexed (now library) (spliced (now user) (now group) cut) nlib n (now starts) ⌝ }
-    requires { ⌜ Falls (groupOf (now library) (spliced (now user) (now group) cut)) ⌝ }
-    requires { ⌜ c < n ⌝ }
-    requires { ⌜ Right (groupOf (now library) (spliced (now user) (now group) cut)) (now memo) ⌝ }
-    ensures markers { λ r. ⌜ r ≡ raw (groupOf (now (library .entry)) (spliced (now (user .entry)) (now (group .entry)) cut)) c ⌝ }
-    ensures memo { λ r. ⌜ Right (groupOf (now (library .entry)) (spliced (now (user .entry)) (now (group .entry)) cut)) (now (memo .exit)) ⌝ }
+    ghost { ℕ → Group }
+    requires { λ g. ⌜ groupOf (now library) (spliced (now user) (now group) cut) ≡ g ⌝ }
+    requires { λ g. ⌜ Fits cut (now user) (now group) ⌝ }
+    requires { λ g. ⌜ Indexed (now library) (spliced (now user) (now group) cut) nlib n (now starts) ⌝ }
+    requires { λ g. ⌜ Falls g ⌝ }
+    requires { λ g. ⌜ c < n ⌝ }
+    requires { λ g. ⌜ Knows g c (now memo) ⌝ }
+    ensures markers { λ g r. ⌜ r ≡ raw g c ⌝ }
+    ensures memo { λ g r. ⌜ now (memo .exit) ≡ set (now (memo .entry)) c (raw g c) ⌝ }
 {
     let known = memo[c];
     if known < 256 {
@@ -107,13 +111,15 @@ fn interfaces<'a>(
     mine: u8,
     memo: &mut [u16],
 ) -> u8
-    requires { ⌜ Fits cut (now user) (now group) ⌝ }
-    requires { ⌜ Indexed (now library) (spliced (now user) (now group) cut) nlib n (now starts) ⌝ }
-    requires { ⌜ Falls (groupOf (now library) (spliced (now user) (now group) cut)) ⌝ }
-    requires { ⌜ c < n ⌝ }
-    requires { ⌜ Right (groupOf (now library) (spliced (now user) (now group) cut)) (now memo) ⌝ }
-    ensures markers { λ r. ⌜ r ≡ withInterfaces (groupOf (now (library .entry)) (spliced (now (user .entry)) (now (group .entry)) cut)) c mine ⌝ }
-    ensures memo { λ r. ⌜ Right (groupOf (now (library .entry)) (spliced (now (user .entry)) (now (group .entry)) cut)) (now (memo .exit)) ⌝ }
+    ghost { ℕ → Group }
+    requires { λ g. ⌜ groupOf (now library) (spliced (now user) (now group) cut) ≡ g ⌝ }
+    requires { λ g. ⌜ Fits cut (now user) (now group) ⌝ }
+    requires { λ g. ⌜ Indexed (now library) (spliced (now user) (now group) cut) nlib n (now starts) ⌝ }
+    requires { λ g. ⌜ Falls g ⌝ }
+    requires { λ g. ⌜ c < n ⌝ }
+    requires { λ g. ⌜ Knows g c (now memo) ⌝ }
+    ensures markers { λ g r. ⌜ r ≡ withInterfaces g c mine ⌝ }
+    ensures memo { λ g r. ⌜ now (memo .exit) ≡ now (memo .entry) ⌝ }
 {
     let bytes = class_bytes(library, user, group, cut, starts, nlib, n, c);
     let mut at = 0;
@@ -145,17 +151,50 @@ pub fn overlay<'a>(
     c: usize,
     memo: &mut [u16],
 ) -> u8
-    requires { ⌜ Fits cut (now user) (now group) ⌝ }
-    requires { ⌜ Indexed (now library) (spliced (now user) (now group) cut) nlib n (now starts) ⌝ }
-    requires { ⌜ Falls (groupOf (now library) (spliced (now user) (now group) cut)) ⌝ }
-    requires { ⌜ c < n ⌝ }
-    requires { ⌜ Right (groupOf (now library) (spliced (now user) (now group) cut)) (now memo) ⌝ }
-    ensures markers { λ r. ⌜ r ≡ overlayOf (groupOf (now (library .entry)) (spliced (now (user .entry)) (now (group .entry)) cut)) c ⌝ }
-    ensures memo { λ r. ⌜ Right (groupOf (now (library .entry)) (spliced (now (user .entry)) (now (group .entry)) cut)) (now (memo .exit)) ⌝ }
+    ghost { ℕ → Group }
+    requires { λ g. ⌜ groupOf (now library) (spliced (now user) (now group) cut) ≡ g ⌝ }
+    requires { λ g. ⌜ Fits cut (now user) (now group) ⌝ }
+    requires { λ g. ⌜ Indexed (now library) (spliced (now user) (now group) cut) nlib n (now starts) ⌝ }
+    requires { λ g. ⌜ Falls g ⌝ }
+    requires { λ g. ⌜ c < n ⌝ }
+    requires { λ g. ⌜ Knows g c (now memo) ⌝ }
+    ensures markers { λ g r. ⌜ r ≡ overlayOf g c ⌝ }
+    ensures memo { λ g r. ⌜ now (memo .exit) ≡ set (now (memo .entry)) c (raw g c) ⌝ }
 {
     let open = gathered(library, user, group, cut, starts, nlib, n, c, memo);
     let closed = closure(open);
     closed
+}
+
+// The overlay markers of class c, where the memo knows the library classes. The user classes below c are asked first, so that each finds its supertypes
+// in the memo and no call is deep.
+pub fn overlay_in_turn<'a>(
+    library: &'a [u8],
+    user: &'a [u8],
+    group: &'a [u8],
+    cut: Cut,
+    starts: &[u16],
+    nlib: usize,
+    n: usize,
+    c: usize,
+    memo: &mut [u16],
+) -> u8
+    ghost { ℕ → Group }
+    requires { λ g. ⌜ groupOf (now library) (spliced (now user) (now group) cut) ≡ g ⌝ }
+    requires { λ g. ⌜ Fits cut (now user) (now group) ⌝ }
+    requires { λ g. ⌜ Indexed (now library) (spliced (now user) (now group) cut) nlib n (now starts) ⌝ }
+    requires { λ g. ⌜ Falls g ⌝ }
+    requires { λ g. ⌜ c < n ⌝ }
+    requires { λ g. ⌜ now memo ≡ memoOf g nlib ⌝ }
+    ensures markers { λ g r. ⌜ r ≡ overlayOf g c ⌝ }
+    ensures memo { λ g r. ⌜ now (memo .exit) ≡ memoOf g (max nlib (c + 1)) ⌝ }
+{
+    let mut d = nlib;
+    while d < c {
+        gathered(library, user, group, cut, starts, nlib, n, d, memo);
+        d += 1;
+    }
+    overlay(library, user, group, cut, starts, nlib, n, c, memo)
 }
 
 // The overlay markers of class c, none if there is no such class.
@@ -170,12 +209,14 @@ fn overlay_or_none<'a>(
     c: usize,
     memo: &mut [u16],
 ) -> u8
-    requires { ⌜ Fits cut (now user) (now group) ⌝ }
-    requires { ⌜ Indexed (now library) (spliced (now user) (now group) cut) nlib n (now starts) ⌝ }
-    requires { ⌜ Falls (groupOf (now library) (spliced (now user) (now group) cut)) ⌝ }
-    requires { ⌜ Right (groupOf (now library) (spliced (now user) (now group) cut)) (now memo) ⌝ }
-    ensures markers { λ r. ⌜ r ≡ overlayOf (groupOf (now (library .entry)) (spliced (now (user .entry)) (now (group .entry)) cut)) c ⌝ }
-    ensures memo { λ r. ⌜ Right (groupOf (now (library .entry)) (spliced (now (user .entry)) (now (group .entry)) cut)) (now (memo .exit)) ⌝ }
+    ghost { ℕ → Group }
+    requires { λ g. ⌜ groupOf (now library) (spliced (now user) (now group) cut) ≡ g ⌝ }
+    requires { λ g. ⌜ Fits cut (now user) (now group) ⌝ }
+    requires { λ g. ⌜ Indexed (now library) (spliced (now user) (now group) cut) nlib n (now starts) ⌝ }
+    requires { λ g. ⌜ Falls g ⌝ }
+    requires { λ g. ⌜ now memo ≡ memoOf g (max nlib (min c n)) ⌝ }
+    ensures markers { λ g r. ⌜ r ≡ overlayOf g c ⌝ }
+    ensures memo { λ g r. ⌜ now (memo .exit) ≡ memoOf g (max nlib (min (c + 1) n)) ⌝ }
 {
     if n <= c {
         return 0;
@@ -195,13 +236,15 @@ pub fn overlays<'a>(
     memo: &mut [u16],
     row: &mut [u8],
 )
-    requires { ⌜ Fits cut (now user) (now group) ⌝ }
-    requires { ⌜ Indexed (now library) (spliced (now user) (now group) cut) nlib n (now starts) ⌝ }
-    requires { ⌜ Falls (groupOf (now library) (spliced (now user) (now group) cut)) ⌝ }
-    requires { ⌜ Right (groupOf (now library) (spliced (now user) (now group) cut)) (now memo) ⌝ }
-    requires { ⌜ length (now row) ≡ 256 ⌝ }
-    ensures row { λ r. ⌜ Known (groupOf (now (library .entry)) (spliced (now (user .entry)) (now (group .entry)) cut)) (now (row .exit)) ⌝ }
-    ensures memo { λ r. ⌜ Right (groupOf (now (library .entry)) (spliced (now (user .entry)) (now (group .entry)) cut)) (now (memo .exit)) ⌝ }
+    ghost { ℕ → Group }
+    requires { λ g. ⌜ groupOf (now library) (spliced (now user) (now group) cut) ≡ g ⌝ }
+    requires { λ g. ⌜ Fits cut (now user) (now group) ⌝ }
+    requires { λ g. ⌜ Indexed (now library) (spliced (now user) (now group) cut) nlib n (now starts) ⌝ }
+    requires { λ g. ⌜ Falls g ⌝ }
+    requires { λ g. ⌜ now memo ≡ memoOf g nlib ⌝ }
+    requires { λ g. ⌜ length (now row) ≡ 256 ⌝ }
+    ensures row { λ g r. ⌜ Known g (now (row .exit)) ⌝ }
+    ensures memo { λ g r. ⌜ now (memo .exit) ≡ memoOf g n ⌝ }
 {
     let mut c = 0;
     while c < 256 {

@@ -22,10 +22,10 @@ use Rattle.theory.proofs.Falls.{Falls, falls}
 use Rattle.view.specs.View.{Fits}
 use Rattle.view.proofs.Splice.{plain-fits}
 use Rattle.groups.specs.Groups.{Indexed, startOf}
-use Rattle.overlay.specs.Memo.{Right}
+use Rattle.overlay.specs.Memo.{memoOf}
 use Rattle.form.specs.declared.Checked.{Checked}
 use Rattle.form.specs.declared.Checked.the-variants.{Fine, Refused}
-use Rattle.form.proofs.Accepting.{Presents, fine-none, refused-is}
+use Rattle.form.proofs.Accepting.{ready-memo, Presents, fine-none, refused-is}
 
 -- ---- answers
 
@@ -111,10 +111,10 @@ module _ (library user : List ℕ) (used : ℕ) {p : Checked} {row memo : List �
 
     module _ {s : List ℕ} (q : s ≡ take used user) where
       pub indexed : Indexed library s nlib n row
-      indexed = rw (q, told .1 .0, told .1 .1) (a .1 (told .0) .indexed (sheet-fine library user used (told .0)))
+      indexed = rw (q, told .1 .0, told .1 .1) (a .1 .indexed (told .0))
 
-      pub right : Right (group library s) memo
-      right = rw q (a .1 (told .0) .right (sheet-fine library user used (told .0)))
+      pub memo-is : memo ≡ memoOf (group library s) nlib
+      memo-is = rw (q, told .1 .0) (ready-memo (a .1) (told .0))
 
       pub form-fine : formRefusal library s ≡ none
       unfolding sheetRefusal

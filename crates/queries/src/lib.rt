@@ -4,7 +4,7 @@ use form::present;
 use groups::class_word;
 use groups::group_start;
 use groups::sheet_of;
-use overlay::overlay;
+use overlay::overlay_in_turn;
 use view::Cut;
 ghost use Rattle.spec.specs.Promises.{Marks, Places, Names};
 ghost use Rattle.queries.specs.Answers.{markedAnswer, placedAnswer};
@@ -39,7 +39,7 @@ pub fn marks<'a>(library: &'a [u8], user: &'a [u8], used: usize, class: usize) -
                 to: used,
                 used: used,
             };
-            let set = overlay(
+            let set = overlay_in_turn(
                 library,
                 user,
                 &library[0..0],

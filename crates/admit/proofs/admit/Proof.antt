@@ -1,37 +1,39 @@
 -- `admit::admit`.
 -- Assumes nothing.
-use mathlib.Core.List.{List}
-use Prim.Native.Nat.{ℕ}
 use native.Mathlib.Omega.{arith}
-use Rattle.view.specs.View.{spliced}
 use Rattle.admit.proofs.Turning.{group-fits, not-whole, over-buffer, over-limit, sheet-refused, admit-ordered, few-lines, short-scratch, admitted}
 use borrow.Author.Needs.{needs}
 use Rattle.admit.proofs.admit.Statement.{statement}
 use Rattle.admit.proofs.admit.Tie as tie
 
--- the sheet that the parameters stand for
-abbrev new : tie.Start → List ℕ
-new c = spliced (c .args .user .now) (c .args .group .now) (c .args .cut)
+-- the start, from the place past the check
+abbrev start : tie.After-check → tie.Start
+start c = c .before .before .before .before .before .before .before .before .before .before .before .before .before
 
 whole-group-requires : tie.Need-whole-group-requires
 whole-group-requires c κs = search needs
 
 returns : tie.Need-returns
-returns c = not-whole (c .before .before .before .before .before .before .before .args .library .now) (c .before .before .before .before .before .before .before .args .user .now) (c .before .before .before .before .before .before .before .args .group .now) (new (c .before .before .before .before .before .before .before)) (c .before .before .before .before .before .before .before .args .lines) (c .before .before .before .before .before .before .before .args .scratch) (c .before .whole-group .ensures) (c .if1 .taken)
+returns c = not-whole _ _ _ _ _ _ (c .before .before .before .before .before .before .before .pre .1 .1 .0) (c .before .whole-group .ensures) (c .if1 .taken)
 
 view-len-requires : tie.Need-view-len-requires
 view-len-requires c κs = group-fits (c .before .before .before .before .before .before .before .pre .0) (c .before .whole-group .ensures) (c .if1 .left)
 
 returns-2 : tie.Need-returns-2
-returns-2 c = over-buffer (c .before .before .before .before .before .before .before .before .before .args .library .now) (c .before .before .before .before .before .before .before .before .before .args .user .now) (c .before .before .before .before .before .before .before .before .before .args .group .now) (new (c .before .before .before .before .before .before .before .before .before)) (c .before .before .before .before .before .before .before .before .before .args .lines) (c .before .before .before .before .before .before .before .before .before .args .scratch) (c .before .before .before .whole-group .ensures) (c .before .before .if1 .left) (c .before .view-len .ensures) (omega arith)
+returns-2 c =
+    over-buffer _ _ _ _ _ _ (c .before .before .before .whole-group .ensures) (c .before .before .if1 .left) (c .before .before .before .before .before .before .before .before .before .pre .1 .1 .0)
+    (c .before .view-len .ensures) (omega arith)
 
 returns-3 : tie.Need-returns-3
-returns-3 c = over-limit (c .before .before .before .before .before .before .before .before .before .before .args .library .now) (c .before .before .before .before .before .before .before .before .before .before .args .user .now) (c .before .before .before .before .before .before .before .before .before .before .args .group .now) (new (c .before .before .before .before .before .before .before .before .before .before)) (c .before .before .before .before .before .before .before .before .before .before .args .lines) (c .before .before .before .before .before .before .before .before .before .before .args .scratch) (c .before .before .before .before .whole-group .ensures) (c .before .before .before .if1 .left) (c .before .before .view-len .ensures) (omega arith) (omega arith)
+returns-3 c =
+    over-limit _ _ _ _ _ _ (c .before .before .before .before .whole-group .ensures) (c .before .before .before .if1 .left)
+    (c .before .before .before .before .before .before .before .before .before .before .pre .1 .1 .0) (c .before .before .view-len .ensures) (omega arith) (omega arith)
 
 check-requires : tie.Need-check-requires
 check-requires c κs =
     let p = c .before .before .before .before .before .before .before .before .before .before .before .before .pre in
-    (group-fits (p .0) (c .before .before .before .before .before .before .whole-group .ensures) (c .before .before .before .before .before .if1 .left), ((p .1 .0, omega (arith, c .before .before .before .before .view-len .ensures)), p .1 .1 .0))
+    let fits = group-fits (p .0) (c .before .before .before .before .before .before .whole-group .ensures) (c .before .before .before .before .before .if1 .left) in
+    (fits, ((p .1 .0, omega (arith, c .before .before .before .before .view-len .ensures)), p .1 .1 .0))
 
 enum-known-checked : tie.Need-enum-known-checked
 enum-known-checked c = search needs
@@ -46,10 +48,14 @@ same-length-2 : tie.Need-same-length-2
 same-length-2 c = search needs
 
 returns-4 : tie.Need-returns-4
-returns-4 c = sheet-refused (c .before .before .before .before .before .before .before .before .before .before .before .before .before .before .before .before .before .before .before .args .library .now) (c .before .before .before .before .before .before .before .before .before .before .before .before .before .before .before .before .before .before .before .args .user .now) (c .before .before .before .before .before .before .before .before .before .before .before .before .before .before .before .before .before .before .before .args .group .now) (new (c .before .before .before .before .before .before .before .before .before .before .before .before .before .before .before .before .before .before .before)) (c .before .before .before .before .before .before .before .before .before .before .before .before .before .before .before .before .before .before .before .args .lines) (c .before .before .before .before .before .before .before .before .before .before .before .before .before .before .before .before .before .before .before .args .scratch) (c .before .before .before .before .before .before .before .before .before .before .before .before .before .whole-group .ensures) (c .before .before .before .before .before .before .before .before .before .before .before .before .if1 .left) (c .before .before .before .before .before .before .before .before .before .before .before .view-len .ensures) (omega arith) (omega arith) (c .before .before .before .before .before .before .before .before .before .before .before .before .before .before .before .before .before .before .before .pre .1 .1 .1) (c .before .before .before .before .before .before .check .ensures) (c .enum-told .given .1)
+returns-4 c =
+    let w = c .before .before .before .before .before .before in
+    let v = w .before .before .before .before .before in
+    sheet-refused _ _ _ _ _ _ (v .before .before .whole-group .ensures) (v .before .if1 .left) (v .view-len .ensures) (omega arith) (omega arith)
+    (start w .pre .1 .1 .1) (w .check .ensures) (c .enum-told .given .1)
 
 sub-if4 : tie.Need-sub-if4
-sub-if4 c = omega (arith, admit-ordered (c .before .before .before .before .before .before .before .before .before .before .before .before .before .before .before .before .before .before .before .before .args .library .now) (c .before .before .before .before .before .before .before .before .before .before .before .before .before .before .before .before .before .before .before .before .args .user .now) (c .before .before .before .before .before .before .before .before .before .before .before .before .before .before .before .before .before .before .before .before .args .group .now) (new (c .before .before .before .before .before .before .before .before .before .before .before .before .before .before .before .before .before .before .before .before)) (c .before .before .before .before .before .before .before .before .before .before .before .before .before .before .before .before .before .before .before .before .args .lines) (c .before .before .before .before .before .before .before .before .before .before .before .before .before .before .before .before .before .before .before .before .args .scratch) (c .before .before .before .before .before .before .before .before .before .before .before .before .before .before .whole-group .ensures) (c .before .before .before .before .before .before .before .before .before .before .before .before .before .if1 .left) (c .before .before .before .before .before .before .before .before .before .before .before .before .view-len .ensures) (omega arith) (omega arith) (c .before .before .before .before .before .before .before .before .before .before .before .before .before .before .before .before .before .before .before .before .pre .1 .1 .1) (c .before .before .before .before .before .before .before .check .ensures) (c .before .checked .given .1))
+sub-if4 c = omega (arith, admit-ordered _ _ (c .before .before .before .before .before .before .before .check .ensures .0) (c .before .checked .given .1))
 
 same-length-3 : tie.Need-same-length-3
 same-length-3 c = search needs
@@ -58,7 +64,11 @@ same-length-4 : tie.Need-same-length-4
 same-length-4 c = search needs
 
 returns-5 : tie.Need-returns-5
-returns-5 c = few-lines (c .before .before .before .before .before .before .before .before .before .before .before .before .before .before .before .before .before .before .before .before .before .args .library .now) (c .before .before .before .before .before .before .before .before .before .before .before .before .before .before .before .before .before .before .before .before .before .args .user .now) (c .before .before .before .before .before .before .before .before .before .before .before .before .before .before .before .before .before .before .before .before .before .args .group .now) (new (c .before .before .before .before .before .before .before .before .before .before .before .before .before .before .before .before .before .before .before .before .before)) (c .before .before .before .before .before .before .before .before .before .before .before .before .before .before .before .before .before .before .before .before .before .args .lines) (c .before .before .before .before .before .before .before .before .before .before .before .before .before .before .before .before .before .before .before .before .before .args .scratch) (c .before .before .before .before .before .before .before .before .before .before .before .before .before .before .before .whole-group .ensures) (c .before .before .before .before .before .before .before .before .before .before .before .before .before .before .if1 .left) (c .before .before .before .before .before .before .before .before .before .before .before .before .before .view-len .ensures) (omega arith) (omega arith) (c .before .before .before .before .before .before .before .before .before .before .before .before .before .before .before .before .before .before .before .before .before .pre .1 .1 .1) (c .before .before .before .before .before .before .before .before .check .ensures) (c .before .before .checked .given .1) (omega arith)
+returns-5 c =
+    let w = c .before .before .before .before .before .before .before .before in
+    let v = w .before .before .before .before .before in
+    few-lines _ _ _ _ _ _ (v .before .before .whole-group .ensures) (v .before .if1 .left) (v .view-len .ensures) (omega arith) (omega arith)
+    (start w .pre .1 .1 .1) (w .check .ensures) (c .before .before .checked .given .1) (omega arith)
 
 same-length-5 : tie.Need-same-length-5
 same-length-5 c = search needs
@@ -67,7 +77,11 @@ same-length-6 : tie.Need-same-length-6
 same-length-6 c = search needs
 
 returns-6 : tie.Need-returns-6
-returns-6 c = short-scratch (c .before .before .before .before .before .before .before .before .before .before .before .before .before .before .before .before .before .before .before .before .before .before .args .library .now) (c .before .before .before .before .before .before .before .before .before .before .before .before .before .before .before .before .before .before .before .before .before .before .args .user .now) (c .before .before .before .before .before .before .before .before .before .before .before .before .before .before .before .before .before .before .before .before .before .before .args .group .now) (new (c .before .before .before .before .before .before .before .before .before .before .before .before .before .before .before .before .before .before .before .before .before .before)) (c .before .before .before .before .before .before .before .before .before .before .before .before .before .before .before .before .before .before .before .before .before .before .args .lines) (c .before .before .before .before .before .before .before .before .before .before .before .before .before .before .before .before .before .before .before .before .before .before .args .scratch) (c .before .before .before .before .before .before .before .before .before .before .before .before .before .before .before .before .whole-group .ensures) (c .before .before .before .before .before .before .before .before .before .before .before .before .before .before .before .if1 .left) (c .before .before .before .before .before .before .before .before .before .before .before .before .before .before .view-len .ensures) (omega arith) (omega arith) (c .before .before .before .before .before .before .before .before .before .before .before .before .before .before .before .before .before .before .before .before .before .before .pre .1 .1 .1) (c .before .before .before .before .before .before .before .before .before .check .ensures) (c .before .before .before .checked .given .1) (omega arith) (omega arith)
+returns-6 c =
+    let w = c .before .before .before .before .before .before .before .before .before in
+    let v = w .before .before .before .before .before in
+    short-scratch _ _ _ _ _ _ (v .before .before .whole-group .ensures) (v .before .if1 .left) (v .view-len .ensures) (omega arith) (omega arith)
+    (start w .pre .1 .1 .1) (w .check .ensures) (c .before .before .before .checked .given .1) (omega arith) (omega arith)
 
 same-length-7 : tie.Need-same-length-7
 same-length-7 c = search needs
@@ -76,7 +90,11 @@ same-length-8 : tie.Need-same-length-8
 same-length-8 c = search needs
 
 returns-7 : tie.Need-returns-7
-returns-7 c = admitted (c .before .before .before .before .before .before .before .before .before .before .before .before .before .before .before .before .before .before .before .before .before .before .args .library .now) (c .before .before .before .before .before .before .before .before .before .before .before .before .before .before .before .before .before .before .before .before .before .before .args .user .now) (c .before .before .before .before .before .before .before .before .before .before .before .before .before .before .before .before .before .before .before .before .before .before .args .group .now) (new (c .before .before .before .before .before .before .before .before .before .before .before .before .before .before .before .before .before .before .before .before .before .before)) (c .before .before .before .before .before .before .before .before .before .before .before .before .before .before .before .before .before .before .before .before .before .before .args .lines) (c .before .before .before .before .before .before .before .before .before .before .before .before .before .before .before .before .before .before .before .before .before .before .args .scratch) (c .before .before .before .before .before .before .before .before .before .before .before .before .before .before .before .before .whole-group .ensures) (c .before .before .before .before .before .before .before .before .before .before .before .before .before .before .before .if1 .left) (c .before .before .before .before .before .before .before .before .before .before .before .before .before .before .view-len .ensures) (omega arith) (omega arith) (c .before .before .before .before .before .before .before .before .before .before .before .before .before .before .before .before .before .before .before .before .before .before .pre .1 .1 .1) (c .before .before .before .before .before .before .before .before .before .check .ensures) (c .before .before .before .checked .given .1) (omega arith) (omega arith)
+returns-7 c =
+    let w = c .before .before .before .before .before .before .before .before .before in
+    let v = w .before .before .before .before .before in
+    admitted _ _ _ _ _ _ (v .before .before .whole-group .ensures) (v .before .if1 .left) (v .view-len .ensures) (omega arith) (omega arith)
+    (start w .pre .1 .1 .1) (w .check .ensures) (c .before .before .before .checked .given .1) (omega arith) (omega arith)
 
 pub admit-spec : {M : Type 1} → statement M
 admit-spec =

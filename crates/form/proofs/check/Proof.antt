@@ -4,7 +4,7 @@ use borrow.Author.Needs.{needs}
 use mathlib.Core.List.{List}
 use Prim.Native.Nat.{ℕ}
 use Rattle.view.specs.View.{spliced}
-use Rattle.form.proofs.Accepting.{memo-fresh, check-indexed, check-later, check-passed}
+use Rattle.form.proofs.Accepting.{check-indexed, check-later, check-passed}
 use Rattle.form.proofs.check.Statement.{statement}
 use Rattle.form.proofs.check.Tie as tie
 
@@ -20,8 +20,8 @@ user-sheet c = spliced (c .args .user .now) (c .args .group .now) (c .args .cut)
 
 later-requires : tie.Need-later-requires
 later-requires c κs =
-    let p = c .before .before .before .before .before .before .before .before .before .before .before .before .before .before .pre in
-    (p .0, (check-indexed {user = user-sheet (c .before .before .before .before .before .before .before .before .before .before .before .before .before .before)} (c .before .before .before .before .before .before .before .both-passes .ensures) (c .before .before .before .passed .given .1), memo-fresh _ (p .1 .1 .1)))
+    let s = c .before .before .before .before .before .before .before .before .before .before .before .before .before .before in
+    (s .pre .0, (check-indexed {user = user-sheet s} (c .before .before .before .before .before .before .before .both-passes .ensures) (c .before .before .before .passed .given .1), s .pre .1 .1 .1))
 
 same-length : tie.Need-same-length
 same-length c = search needs
@@ -30,7 +30,9 @@ same-length-2 : tie.Need-same-length-2
 same-length-2 c = search needs
 
 returns : tie.Need-returns
-returns c = check-later (c .before .before .before .before .before .before .before .before .before .before .both-passes .ensures) (c .before .before .before .before .before .before .passed .given .1) (c .before .before .later .ensures)
+returns c =
+    let w = c .before .before .before .before .before .before in
+    check-later (w .before .before .before .before .both-passes .ensures) (w .passed .given .1) (c .before .before .later .ensures)
 
 enum-told : tie.Need-enum-told
 enum-told c = search needs
@@ -39,7 +41,9 @@ same-length-3 : tie.Need-same-length-3
 same-length-3 c = search needs
 
 returns-2 : tie.Need-returns-2
-returns-2 c = check-passed (c .before .before .before .before .both-passes .ensures) _ (c .enum-told .given .1)
+returns-2 c =
+    let w = c .before .before .before .before in
+    check-passed (w .both-passes .ensures) (c .enum-told .given .1) (w .before .before .before .before .before .before .before .pre .1 .1 .1)
 
 pub check-spec : {M : Type 1} → statement M
 check-spec =

@@ -10,13 +10,13 @@ use Rattle.form.proofs.present.Statement.{statement}
 use Rattle.form.proofs.present.Tie as tie
 
 returns : tie.Need-returns
-returns c = library-long _ _ _ (omega arith)
+returns c = library-long _ _ _ (c .before .before .before .before .before .pre) (omega arith)
 
 returns-2 : tie.Need-returns-2
-returns-2 c = used-long _ _ _ (omega arith) (omega arith)
+returns-2 c = used-long _ _ _ (omega arith) (c .before .before .before .before .before .before .pre) (omega arith)
 
 returns-3 : tie.Need-returns-3
-returns-3 c = used-past _ _ _ (omega arith) (omega arith) (omega arith)
+returns-3 c = used-past _ _ _ (omega arith) (omega arith) (c .before .before .before .before .before .before .before .pre) (omega arith)
 
 sub-check : tie.Need-sub-check
 sub-check c = search needs
@@ -29,9 +29,10 @@ part-check-end c = search needs
 
 check-requires : tie.Need-check-requires
 check-requires c κs =
-    let u = c .before .before .before .before .before .before .before .before .before .before .args .user .now in
-    let p = c .before .before .before .before .before .before .before .before .before .before .pre in
-    (plain-fits _ _ (omega arith), ((omega arith, omega (arith, ap length (plain u (c .before .before .before .before .before .before .before .before .before .before .args .used)), length-take (c .before .before .before .before .before .before .before .before .before .before .args .used) u)), (p .0, p .1)))
+    let s = c .before .before .before .before .before .before .before .before .before .before in
+    let u = s .args .user .now in
+    let k = s .args .used in
+    (plain-fits _ _ (omega arith), ((omega arith, omega (arith, ap length (plain u k), length-take k u)), s .pre))
 
 same-length : tie.Need-same-length
 same-length c = search needs
@@ -40,7 +41,10 @@ same-length-2 : tie.Need-same-length-2
 same-length-2 c = search needs
 
 returns-4 : tie.Need-returns-4
-returns-4 c = present-is _ _ _ (omega arith) (omega arith) (omega arith) _ (plain (c .before .before .before .before .before .before .before .before .before .before .before .before .before .before .before .args .user .now) (c .before .before .before .before .before .before .before .before .before .before .before .before .before .before .before .args .used)) (c .before .before .before .before .check .ensures)
+returns-4 c =
+    let w = c .before .before .before .before in
+    let s = w .before .before .before .before .before .before .before .before .before .before .before in
+    present-is _ _ _ (omega arith) (omega arith) (omega arith) _ (plain (s .args .user .now) (s .args .used)) (w .check .ensures)
 
 pub present-spec : {M : Type 1} → statement M
 present-spec =

@@ -1,9 +1,10 @@
--- Each call asks lower numbers only, and what the memo gains is right.
+-- Each call asks lower numbers only, which the memo knows: so just the class that is asked is put into it.
 -- Assumes nothing.
 use borrow.Author.Needs.{needs}
-use mathlib.Core.Path.{sym, _∙_}
+use mathlib.Core.Path.{refl, sym, ap, ap₂, _∙_}
+use mathlib.Core.List.{List}
 use mathlib.Core.Logic.{⊎-elim}
-use lib.ListN.{length, length-set}
+use lib.ListN.{length, set, length-set}
 use Rattle.spec.specs.Record.{u8, ownMarkers}
 use Rattle.spec.specs.Sheet.{group as groupOf}
 use Rattle.theory.proofs.Form.{group-one-class}
@@ -12,7 +13,8 @@ use Rattle.groups.proofs.Between.{tiled-room}
 use Rattle.groups.proofs.Classes.{class-long}
 use Rattle.groups.proofs.Bytes.{class-within, class-byte-in, class-word-in}
 use Rattle.groups.proofs.Walks.{walk-on}
-use Rattle.overlay.proofs.Recursion.{lower-none, lower-is, memo-known, memo-set, raw-is}
+use Rattle.overlay.proofs.Memos.{knows-lower, set-known}
+use Rattle.overlay.proofs.Recursion.{lower-none, lower-is, raw-is}
 use Rattle.overlay.proofs.Walking.{Walking, walk-begin, asks-room, walk-asks, walk-passes, walk-end}
 use native.Mathlib.Omega.{arith}
 use Prim.Native.Nat.{ℕ, _<_, _+_, _*_, _-_}
@@ -65,10 +67,34 @@ abbrev lower-below : ℕ → In 3 lower-kinds.ps
 lower-below t = and 3 lower-kinds.ps (falls 3 lower-kinds.ps _<_ μ-lower t) lower.Pre
 
 abbrev claims-gathered : ℕ → gathered-lts.Claims
-claims-gathered t = (class-bytes-reads.Asked, class-bytes-reads.Learnt, word-in-reads.Asked, word-in-reads.Learnt, wide-reads.Asked, wide-reads.Learnt, lower-below t, lower.Post, union-reads.Asked, union-reads.Learnt, interfaces-below t, interfaces.Post)
+claims-gathered t = (
+  class-bytes-reads.Asked,
+  class-bytes-reads.Learnt,
+  word-in-reads.Asked,
+  word-in-reads.Learnt,
+  wide-reads.Asked,
+  wide-reads.Learnt,
+  lower-below t,
+  lower.Post,
+  union-reads.Asked,
+  union-reads.Learnt,
+  interfaces-below t,
+  interfaces.Post,
+)
 
 abbrev claims-interfaces : ℕ → interfaces-lts.Claims
-claims-interfaces t = (class-bytes-reads.Asked, class-bytes-reads.Learnt, word-in-reads.Asked, word-in-reads.Learnt, wide-reads.Asked, wide-reads.Learnt, lower-below t, lower.Post, union-reads.Asked, union-reads.Learnt)
+claims-interfaces t = (
+  class-bytes-reads.Asked,
+  class-bytes-reads.Learnt,
+  word-in-reads.Asked,
+  word-in-reads.Learnt,
+  wide-reads.Asked,
+  wide-reads.Learnt,
+  lower-below t,
+  lower.Post,
+  union-reads.Asked,
+  union-reads.Learnt,
+)
 
 abbrev claims-lower : ℕ → lower-lts.Claims
 claims-lower t = (gathered-below t, gathered.Post)
@@ -83,54 +109,70 @@ gathered-cast-result : (t : ℕ) → gathered-lts.Need-cast-result (claims-gathe
 gathered-cast-result t c = omega arith
 
 gathered-returns : (t : ℕ) → gathered-lts.Need-returns (claims-gathered t) (gathered-at t) gathered.Post
-gathered-returns t c = let p = c .before .before .before .before .before .before .before .pre .1 in (memo-known _ _ _ (p .1 .1 .1 .1) (omega (arith, p .1 .1 .1 .0, p .1 .0 .few)) (omega arith), p .1 .1 .1 .1)
+gathered-returns t c = let p = c .before .before .before .before .before .before .before .pre .1 in let e = p .1 .1 .1 .1 .here (omega arith) in (e, sym (set-known _ _ e))
 
 gathered-class-bytes-requires : (t : ℕ) → gathered-lts.Need-class-bytes-requires (claims-gathered t) (gathered-at t) gathered.Post
 gathered-class-bytes-requires t c κs = let p = c .before .before .before .before .before .before .before .pre .1 in (p .0, (p .1 .0, p .1 .1 .1 .0))
 
 gathered-shared-slice-read-own : (t : ℕ) → gathered-lts.Need-shared-slice-read-own (claims-gathered t) (gathered-at t) gathered.Post
-gathered-shared-slice-read-own t c = let p = c .before .before .before .before .before .before .before .before .before .pre .1 in omega (arith, class-within (c .before .class-bytes .ensures) (class-long (p .1 .0) (p .1 .1 .1 .0)))
+gathered-shared-slice-read-own t c =
+    let p = c .before .before .before .before .before .before .before .before .before .pre .1 in
+    omega (arith, class-within (c .before .class-bytes .ensures) (class-long (p .1 .0) (p .1 .1 .1 .0)))
 
 gathered-word-in-requires : (t : ℕ) → gathered-lts.Need-word-in-requires (claims-gathered t) (gathered-at t) gathered.Post
-gathered-word-in-requires t c κs = let p = c .before .before .before .before .before .before .before .before .before .pre .1 in omega (arith, class-within (c .before .class-bytes .ensures) (class-long (p .1 .0) (p .1 .1 .1 .0)))
+gathered-word-in-requires t c κs =
+    let p = c .before .before .before .before .before .before .before .before .before .pre .1 in
+    omega (arith, class-within (c .before .class-bytes .ensures) (class-long (p .1 .0) (p .1 .1 .1 .0)))
 
 gathered-wide-requires : (t : ℕ) → gathered-lts.Need-wide-requires (claims-gathered t) (gathered-at t) gathered.Post
 gathered-wide-requires t c κs = search needs
 
 gathered-lower-requires : (t : ℕ) → gathered-lts.Need-lower-requires (claims-gathered t) (gathered-at t) gathered.Post
-gathered-lower-requires t c κs = let p = c .before .before .before .before .before .before .before .before .before .before .before .before .pre .1 in (omega arith, (p .0, (p .1 .0, (p .1 .1 .0, (p .1 .1 .1 .0, p .1 .1 .1 .1)))))
+gathered-lower-requires t c κs =
+    let p = c .before .before .before .before .before .before .before .before .before .before .before .before .pre .1 in
+    (omega arith, (p .0, (p .1 .0, (p .1 .1 .0, (p .1 .1 .1 .0, p .1 .1 .1 .1)))))
 
 gathered-union-requires : (t : ℕ) → gathered-lts.Need-union-requires (claims-gathered t) (gathered-at t) gathered.Post
 gathered-union-requires t c κs = search needs
 
 gathered-interfaces-requires : (t : ℕ) → gathered-lts.Need-interfaces-requires (claims-gathered t) (gathered-at t) gathered.Post
-gathered-interfaces-requires t c κs = let p = c .before .before .before .before .before .before .before .before .before .before .before .before .before .before .before .before .before .pre .1 in (omega arith, (p .0, (p .1 .0, (p .1 .1 .0, (p .1 .1 .1 .0, c .before .before .before .before .lower .ensures .1)))))
+gathered-interfaces-requires t c κs =
+    let p = c .before .before .before .before .before .before .before .before .before .before .before .before .before .before .before .before .before .pre .1 in
+    (omega arith, (p .0, (p .1 .0, (p .1 .1 .0, (p .1 .1 .1 .0, rw (c .before .before .before .before .lower .ensures .1) (p .1 .1 .1 .1))))))
 
 gathered-cast-memo : (t : ℕ) → gathered-lts.Need-cast-memo (claims-gathered t) (gathered-at t) gathered.Post
 gathered-cast-memo t c = omega arith
 
 gathered-mul-memo : (t : ℕ) → gathered-lts.Need-mul-memo (claims-gathered t) (gathered-at t) gathered.Post
-gathered-mul-memo t c = let p = c .before .before .before .before .before .before .before .before .before .before .before .before .before .before .before .before .before .before .before .before .pre .1 in omega (arith, p .1 .1 .1 .0, p .1 .0 .few)
+gathered-mul-memo t c =
+    let p = c .before .before .before .before .before .before .before .before .before .before .before .before .before .before .before .before .before .before .before .before .pre .1 in
+    omega (arith, p .1 .1 .1 .0, p .1 .0 .few)
 
 gathered-slice-write-memo : (t : ℕ) → gathered-lts.Need-slice-write-memo (claims-gathered t) (gathered-at t) gathered.Post
-gathered-slice-write-memo t c = let p = c .before .before .before .before .before .before .before .before .before .before .before .before .before .before .before .before .before .before .before .before .pre .1 in omega (arith, p .1 .1 .1 .0, p .1 .0 .few, c .before .before .interfaces .ensures .1 .long)
+gathered-slice-write-memo t c =
+    let p = c .before .before .before .before .before .before .before .before .before .before .before .before .before .before .before .before .before .before .before .before .pre .1 in
+    let kept = c .before .before .interfaces .ensures .1 ∙ c .before .before .before .before .before .before .before .lower .ensures .1 in
+    omega (arith, p .1 .1 .1 .0, p .1 .0 .few, p .1 .1 .1 .1 .long, ap length kept)
 
 gathered-same-length : (t : ℕ) → gathered-lts.Need-same-length (claims-gathered t) (gathered-at t) gathered.Post
-gathered-same-length t c = let p = c .before .before .before .before .before .before .before .before .before .before .before .before .before .before .before .before .before .before .before .before .pre .1 in simp length-set (c .before .before .interfaces .ensures .1 .long ∙ sym (p .1 .1 .1 .1 .long))
+gathered-same-length t c = simp length-set (ap length (c .before .before .interfaces .ensures .1 ∙ c .before .before .before .before .before .before .before .lower .ensures .1))
 
 gathered-returns-2 : (t : ℕ) → gathered-lts.Need-returns-2 (claims-gathered t) (gathered-at t) gathered.Post
 unfolding ownMarkers u8
 gathered-returns-2 t c =
-    let p = c .before .before .before .before .before .before .before .before .before .before .before .before .before .before .before .before .before .before .before .before .pre .1 in
+    let l = c .before .before .before .before .before .before .before in
+    let s = l .before .before .before .before .before .before .before .before .before .before .before .before .before in
+    let p = s .pre .1 in
+    let bytes = l .before .before .before .before .before .class-bytes .ensures in
     let long = class-long (p .1 .0) (p .1 .1 .1 .0) in
     let e = raw-is _ (p .1 .1 .0) _ (omega (arith, p .1 .1 .1 .0, p .1 .0 .few)) (group-one-class _ _ _ (omega (arith, p .1 .1 .1 .0, p .1 .0 .n-is)))
-    (class-byte-in (c .before .before .before .before .before .before .before .before .before .before .before .before .class-bytes .ensures) long 6 (omega arith))
-    (c .before .before .before .before .before .before .before .before .before .wide .ensures .0 ∙ c .before .before .before .before .before .before .before .before .before .before .word-in .ensures ∙ class-word-in (c .before .before .before .before .before .before .before .before .before .before .before .before .class-bytes .ensures) long 8 (omega arith))
-    (c .before .before .before .before .before .before .before .lower .ensures .0) (c .before .before .before .before .union .ensures) (c .before .before .interfaces .ensures .0) in
-    (e, memo-set _ _ _ _ (c .before .before .interfaces .ensures .1) (omega (arith, p .1 .1 .1 .0, p .1 .0 .few)) e)
+    (class-byte-in bytes long 6 (omega arith))
+    (l .before .before .wide .ensures .0 ∙ l .before .before .before .word-in .ensures ∙ class-word-in bytes long 8 (omega arith))
+    (l .lower .ensures .0) (c .before .before .before .before .union .ensures) (c .before .before .interfaces .ensures .0) in
+    (e, ap₂ (λ (m : List ℕ) (v : ℕ). set m (s .args .c) v) (c .before .before .interfaces .ensures .1 ∙ l .lower .ensures .1) e)
 
 abbrev interfaces-Inv-loop : interfaces-lts.InvT-loop
-interfaces-Inv-loop library user group cut starts nlib n c mine memo₀ bytes at₀ m₀ memo at m = Walking (groupOf library (spliced user group cut)) c mine bytes memo at m
+interfaces-Inv-loop library user group cut starts nlib n c mine memo₀ bytes at₀ m₀ memo at m = Walking (groupOf library (spliced user group cut)) c mine bytes memo₀ memo at m
 
 abbrev interfaces-μ-loop : interfaces-lts.MeasureT-loop
 interfaces-μ-loop library user group cut starts nlib n c mine memo₀ bytes at₀ m₀ memo at m = length bytes - at
@@ -139,7 +181,7 @@ interfaces-class-bytes-requires : (t : ℕ) → interfaces-lts.Need-class-bytes-
 interfaces-class-bytes-requires t c κs = let p = c .before .before .before .before .before .pre .1 in (p .0, (p .1 .0, p .1 .1 .1 .0))
 
 interfaces-loop-holds : (t : ℕ) → interfaces-lts.Need-loop-holds (claims-interfaces t) (interfaces-at t) interfaces.Post interfaces-Inv-loop interfaces-μ-loop
-interfaces-loop-holds t c = walk-begin _ _ (c .class-bytes .ensures) (c .before .before .before .before .before .before .pre .1 .1 .1 .1 .1)
+interfaces-loop-holds t c = walk-begin _ _ _ (c .class-bytes .ensures)
 
 interfaces-word-in-requires : (t : ℕ) → interfaces-lts.Need-word-in-requires (claims-interfaces t) (interfaces-at t) interfaces.Post interfaces-Inv-loop interfaces-μ-loop
 interfaces-word-in-requires t c κs = omega (arith, tiled-room (c .before .loop .inv .place .tiled) (c .loop-test .taken))
@@ -157,13 +199,16 @@ interfaces-add-word-in-2 : (t : ℕ) → interfaces-lts.Need-add-word-in-2 (clai
 interfaces-add-word-in-2 t c = omega (arith, c .before .before .before .before .before .loop .inv .place .small)
 
 interfaces-word-in-requires-3 : (t : ℕ) → interfaces-lts.Need-word-in-requires-3 (claims-interfaces t) (interfaces-at t) interfaces.Post interfaces-Inv-loop interfaces-μ-loop
-interfaces-word-in-requires-3 t c κs = omega (arith, asks-room (c .before .before .before .before .before .loop .inv) (c .before .before .before .before .loop-test .taken) (c .before .word-in2 .ensures) (c .if1 .taken))
+interfaces-word-in-requires-3 t c κs =
+    omega (arith, asks-room (c .before .before .before .before .before .loop .inv) (c .before .before .before .before .loop-test .taken) (c .before .word-in2 .ensures) (c .if1 .taken))
 
 interfaces-wide-requires-2 : (t : ℕ) → interfaces-lts.Need-wide-requires-2 (claims-interfaces t) (interfaces-at t) interfaces.Post interfaces-Inv-loop interfaces-μ-loop
 interfaces-wide-requires-2 t c κs = search needs
 
 interfaces-lower-requires : (t : ℕ) → interfaces-lts.Need-lower-requires (claims-interfaces t) (interfaces-at t) interfaces.Post interfaces-Inv-loop interfaces-μ-loop
-interfaces-lower-requires t c κs = let p = c .before .before .before .before .before .before .before .before .before .before .before .before .before .before .before .pre .1 in (omega arith, (p .0, (p .1 .0, (p .1 .1 .0, (p .1 .1 .1 .0, c .before .before .before .before .before .before .before .before .loop .inv .right)))))
+interfaces-lower-requires t c κs =
+    let p = c .before .before .before .before .before .before .before .before .before .before .before .before .before .before .before .pre .1 in
+    (omega arith, (p .0, (p .1 .0, (p .1 .1 .0, (p .1 .1 .1 .0, rw (c .before .before .before .before .before .before .before .before .loop .inv .kept) (p .1 .1 .1 .1))))))
 
 interfaces-union-requires : (t : ℕ) → interfaces-lts.Need-union-requires (claims-interfaces t) (interfaces-at t) interfaces.Post interfaces-Inv-loop interfaces-μ-loop
 interfaces-union-requires t c κs = search needs
@@ -172,7 +217,9 @@ interfaces-add-at : (t : ℕ) → interfaces-lts.Need-add-at (claims-interfaces 
 interfaces-add-at t c = omega (arith, c .before .before .before .before .before .loop .inv .place .small, c .before .before .wide .ensures .1)
 
 interfaces-loop-less : (t : ℕ) → interfaces-lts.Need-loop-less (claims-interfaces t) (interfaces-at t) interfaces.Post interfaces-Inv-loop interfaces-μ-loop
-interfaces-loop-less t c = omega (arith, walk-on (c .before .before .before .before .before .loop .inv .place) (c .before .before .before .before .loop-test .taken) .0, c .before .before .wide .ensures .0, c .before .before .before .word-in .ensures)
+interfaces-loop-less t c =
+    let w = walk-on (c .before .before .before .before .before .loop .inv .place) (c .before .before .before .before .loop-test .taken) in
+    omega (arith, w .0, c .before .before .wide .ensures .0, c .before .before .before .word-in .ensures)
 
 interfaces-loop-again : (t : ℕ) → interfaces-lts.Need-loop-again (claims-interfaces t) (interfaces-at t) interfaces.Post interfaces-Inv-loop interfaces-μ-loop
 interfaces-loop-again t c =
@@ -186,25 +233,29 @@ interfaces-loop-again t c =
     (c .if1 .came)
 
 interfaces-same-length : (t : ℕ) → interfaces-lts.Need-same-length (claims-interfaces t) (interfaces-at t) interfaces.Post interfaces-Inv-loop interfaces-μ-loop
-interfaces-same-length t c = c .before .loop .inv .right .long ∙ sym (c .before .before .before .before .before .before .before .before .pre .1 .1 .1 .1 .1 .long)
+interfaces-same-length t c = ap length (c .before .loop .inv .kept)
 
 interfaces-returns : (t : ℕ) → interfaces-lts.Need-returns (claims-interfaces t) (interfaces-at t) interfaces.Post interfaces-Inv-loop interfaces-μ-loop
-interfaces-returns t c = (walk-end (c .before .loop .inv) (c .loop-test .left), c .before .loop .inv .right)
+interfaces-returns t c = (walk-end (c .before .loop .inv) (c .loop-test .left), c .before .loop .inv .kept)
 
 lower-returns :
     (t : ℕ) → lower-lts.Need-returns (claims-lower t) (lower-at t) lower.Post
-lower-returns t c = (lower-none _ _ _ (c .if1 .taken), c .before .before .before .before .before .before .pre .1 .1 .1 .1 .1)
+lower-returns t c = (lower-none _ _ _ (c .if1 .taken), refl)
 
 lower-gathered-requires : (t : ℕ) → lower-lts.Need-gathered-requires (claims-lower t) (lower-at t) lower.Post
-lower-gathered-requires t c κs = let p = c .before .before .before .before .before .before .before .pre .1 in (omega arith, (p .0, (p .1 .0, (p .1 .1 .0, (omega (arith, p .1 .1 .1 .0), p .1 .1 .1 .1)))))
+lower-gathered-requires t c κs =
+    let p = c .before .before .before .before .before .before .before .pre .1 in
+    (omega arith, (p .0, (p .1 .0, (p .1 .1 .0, (omega (arith, p .1 .1 .1 .0), knows-lower (p .1 .1 .1 .1) (omega arith))))))
 
 lower-same-length :
     (t : ℕ) → lower-lts.Need-same-length (claims-lower t) (lower-at t) lower.Post
-lower-same-length t c = c .before .before .gathered .ensures .1 .long ∙ sym (c .before .before .before .before .before .before .before .before .before .before .pre .1 .1 .1 .1 .1 .long)
+lower-same-length t c = ap length (c .before .before .gathered .ensures .1) ∙ simp length-set
 
 lower-returns-2 :
     (t : ℕ) → lower-lts.Need-returns-2 (claims-lower t) (lower-at t) lower.Post
-lower-returns-2 t c = (c .before .before .gathered .ensures .0 ∙ lower-is _ _ _ (omega arith), c .before .before .gathered .ensures .1)
+lower-returns-2 t c =
+    let e = c .before .before .gathered .ensures in
+    (e .0 ∙ lower-is _ _ _ (omega arith), e .1 ∙ set-known _ _ (c .before .before .before .before .before .before .before .before .before .before .pre .1 .1 .1 .1 .1 .lower _ (omega arith)))
 
 pub +gathered+interfaces+lower-spec : {M : Type 1} → statement M
 +gathered+interfaces+lower-spec = close μ-gathered μ-interfaces μ-lower (λ t. gathered-lts.spec (claims-gathered t)

@@ -34,7 +34,9 @@ known-requires : tie.Need-known-requires
 known-requires c κs = search needs
 
 returns-3 : tie.Need-returns-3
-returns-3 c = type-class _ _ (c .before .before .before .before .before .before .before .before .before .args .i) (c .before .before .before .before .before .if1 .left) (c .before .before .before .if2 .left) (c .before .wide .ensures .0 ∙ c .before .before .word-in .ensures) (c .known .ensures)
+returns-3 c =
+    type-class _ _ (c .before .before .before .before .before .before .before .before .before .args .i) (c .before .before .before .before .before .if1 .left) (c .before .before .before .if2 .left)
+    (c .before .wide .ensures .0 ∙ c .before .before .word-in .ensures) (c .known .ensures)
 
 pub type-markers-spec : {M : Type 1} → statement M
 type-markers-spec =

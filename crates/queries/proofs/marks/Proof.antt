@@ -6,7 +6,7 @@ use Rattle.spec.specs.Sheet.{group as groupOf}
 use Rattle.spec.specs.Promises.{accepted}
 use Rattle.spec.specs.Classes.{overlay as overlayOf}
 use Rattle.view.proofs.Splice.{plain}
-use Rattle.queries.proofs.Asking.{answer-refused, answer-fine, sheets-refused, class-unused, class-used, fits, indexed, right, lower-numbers}
+use Rattle.queries.proofs.Asking.{answer-refused, answer-fine, sheets-refused, class-unused, class-used, fits, indexed, memo-is, lower-numbers}
 use borrow.Author.Needs.{needs}
 use Rattle.queries.proofs.marks.Statement.{statement}
 use Rattle.queries.proofs.marks.Tie as tie
@@ -26,37 +26,61 @@ enum-known-checked c = search needs
 enum-known-checked-2 : tie.Need-enum-known-checked-2
 enum-known-checked-2 c = search needs
 
+-- the start, from the place past the check of the sheets
+abbrev start : tie.After-present → tie.Start
+start c = c .before .before .before .before .before
+
 returns : tie.Need-returns
-returns c = record { answered = answer-refused _ (class-unused (c .before .before .before .before .before .before .before .before .before .before .before .args .library .now) (c .before .before .before .before .before .before .before .before .before .before .before .args .user .now) (c .before .before .before .before .before .before .before .before .before .before .before .args .used) (c .before .before .before .before .before .before .before .before .before .before .before .args .class) (c .before .before .before .before .before .before .present .ensures) (c .before .before .checked2 .given .1) (omega (arith, c .if1 .taken))) }
+returns c =
+    let w = c .before .before .before .before .before .before in
+    let a = start w .args in
+    record { answered = answer-refused _ (class-unused (a .library .now) (a .user .now) (a .used) (a .class) (w .present .ensures) (c .before .before .checked2 .given .1) (omega arith)) }
 
-sub-overlay : tie.Need-sub-overlay
-sub-overlay c = search needs
+sub-overlay-in-turn : tie.Need-sub-overlay-in-turn
+sub-overlay-in-turn c = search needs
 
-part-overlay-start : tie.Need-part-overlay-start
-part-overlay-start c = search needs
+part-overlay-in-turn-start : tie.Need-part-overlay-in-turn-start
+part-overlay-in-turn-start c = search needs
 
-part-overlay-end : tie.Need-part-overlay-end
-part-overlay-end c = search needs
+part-overlay-in-turn-end : tie.Need-part-overlay-in-turn-end
+part-overlay-in-turn-end c = search needs
 
-slice-aggregate-overlay : tie.Need-slice-aggregate-overlay
-slice-aggregate-overlay c = search needs
+slice-aggregate-overlay-in-turn : tie.Need-slice-aggregate-overlay-in-turn
+slice-aggregate-overlay-in-turn c = search needs
 
-slice-aggregate-overlay-2 : tie.Need-slice-aggregate-overlay-2
-slice-aggregate-overlay-2 c = search needs
+slice-aggregate-overlay-in-turn-2 : tie.Need-slice-aggregate-overlay-in-turn-2
+slice-aggregate-overlay-in-turn-2 c = search needs
 
-overlay-requires : tie.Need-overlay-requires
-overlay-requires c κs =
-    let q = plain (c .before .before .before .before .before .before .before .before .before .before .before .before .before .before .args .user .now) (c .before .before .before .before .before .before .before .before .before .before .before .before .before .before .args .used) in
-    (fits (c .before .before .before .before .before .before .before .before .before .before .before .before .before .before .args .library .now) (c .before .before .before .before .before .before .before .before .before .before .before .before .before .before .args .user .now) (c .before .before .before .before .before .before .before .before .before .before .before .before .before .before .args .used) (c .before .before .before .before .before .before .before .before .before .present .ensures) (c .before .before .before .before .before .checked2 .given .1), (indexed (c .before .before .before .before .before .before .before .before .before .before .before .before .before .before .args .library .now) (c .before .before .before .before .before .before .before .before .before .before .before .before .before .before .args .user .now) (c .before .before .before .before .before .before .before .before .before .before .before .before .before .before .args .used) (c .before .before .before .before .before .before .before .before .before .present .ensures) (c .before .before .before .before .before .checked2 .given .1) q, (lower-numbers (c .before .before .before .before .before .before .before .before .before .before .before .before .before .before .args .library .now) (c .before .before .before .before .before .before .before .before .before .before .before .before .before .before .args .user .now) (c .before .before .before .before .before .before .before .before .before .before .before .before .before .before .args .used) (c .before .before .before .before .before .before .before .before .before .present .ensures) (c .before .before .before .before .before .checked2 .given .1) q, (omega (arith, c .before .before .before .if1 .left), right (c .before .before .before .before .before .before .before .before .before .before .before .before .before .before .args .library .now) (c .before .before .before .before .before .before .before .before .before .before .before .before .before .before .args .user .now) (c .before .before .before .before .before .before .before .before .before .before .before .before .before .before .args .used) (c .before .before .before .before .before .before .before .before .before .present .ensures) (c .before .before .before .before .before .checked2 .given .1) q))))
+overlay-in-turn-requires : tie.Need-overlay-in-turn-requires
+overlay-in-turn-requires c κs =
+    let w = c .before .before .before .before .before .before .before .before .before in
+    let a = start w .args in
+    let e = w .present .ensures in
+    let f = c .before .before .before .before .before .checked2 .given .1 in
+    let q = plain (a .user .now) (a .used) in (
+      fits (a .library .now) (a .user .now) (a .used) e f,
+      (
+        indexed (a .library .now) (a .user .now) (a .used) e f q,
+        (lower-numbers (a .library .now) (a .user .now) (a .used) e f q, (omega arith, memo-is (a .library .now) (a .user .now) (a .used) e f q)),
+      ),
+    )
 
 returns-2 : tie.Need-returns-2
-returns-2 c = record { answered = answer-refused _ (sheets-refused (c .before .before .before .before .before .before .before .before .before .before .args .library .now) (c .before .before .before .before .before .before .before .before .before .before .args .user .now) (c .before .before .before .before .before .before .before .before .before .before .args .used) (c .before .before .before .before .before .before .before .before .before .before .args .class) (c .before .before .before .before .before .present .ensures) (c .before .checked .given .1)) }
+returns-2 c =
+    let w = c .before .before .before .before .before in
+    let a = start w .args in
+    record { answered = answer-refused _ (sheets-refused (a .library .now) (a .user .now) (a .used) (a .class) (w .present .ensures) (c .before .checked .given .1)) }
 
 returns-3 : tie.Need-returns-3
-returns-3 c = record {
-  answered = ap accepted (c .before .overlay .ensures .0 ∙ ap (λ s. overlayOf (groupOf (c .before .before .before .before .before .before .before .before .before .before .before .before .before .before .before .before .args .library .now) s) (c .before .before .before .before .before .before .before .before .before .before .before .before .before .before .before .before .args .class)) (plain (c .before .before .before .before .before .before .before .before .before .before .before .before .before .before .before .before .args .user .now) (c .before .before .before .before .before .before .before .before .before .before .before .before .before .before .before .before .args .used)))
-      ∙ answer-fine _ (class-used (c .before .before .before .before .before .before .before .before .before .before .before .before .before .before .before .before .args .library .now) (c .before .before .before .before .before .before .before .before .before .before .before .before .before .before .before .before .args .user .now) (c .before .before .before .before .before .before .before .before .before .before .before .before .before .before .before .before .args .used) (c .before .before .before .before .before .before .before .before .before .before .before .before .before .before .before .before .args .class) (c .before .before .before .before .before .before .before .before .before .before .before .present .ensures) (c .before .before .before .before .before .before .before .checked2 .given .1) (omega (arith, c .before .before .before .before .before .if1 .left)));
-}
+returns-3 c =
+    let w = c .before .before .before .before .before .before .before .before .before .before .before in
+    let a = start w .args in
+    let f = c .before .before .before .before .before .before .before .checked2 .given .1 in
+    let q = plain (a .user .now) (a .used) in
+    record {
+      answered = ap accepted (c .before .overlay-in-turn .ensures .0 ∙ ap (λ s. overlayOf (groupOf (a .library .now) s) (a .class)) q)
+          ∙ answer-fine _ (class-used (a .library .now) (a .user .now) (a .used) (a .class) (w .present .ensures) f (omega arith));
+    }
 
 pub marks-spec : {M : Type 1} → statement M
 marks-spec =
@@ -68,11 +92,11 @@ marks-spec =
     enum-known-checked
     enum-known-checked-2
     returns
-    sub-overlay
-    part-overlay-start
-    part-overlay-end
-    slice-aggregate-overlay
-    slice-aggregate-overlay-2
-    overlay-requires
+    sub-overlay-in-turn
+    part-overlay-in-turn-start
+    part-overlay-in-turn-end
+    slice-aggregate-overlay-in-turn
+    slice-aggregate-overlay-in-turn-2
+    overlay-in-turn-requires
     returns-2
     returns-3)

@@ -54,7 +54,7 @@ admit-requires c κs =
     let f = c .before .before .before .enum-told .given .1 in
     let o = told (a .library .now) (a .user .now) (a .used .now) e f .0 in
     let q = added-is (a .library .now) (a .user .now) (a .used .now) (a .verdicts .now) (a .scratch .now) (a .group .now) o in
-    (add-sits (a .library .now) (a .user .now) (a .used .now) (a .verdicts .now) (a .scratch .now) (a .group .now) o, (indexed (a .library .now) (a .user .now) (a .used .now) e f (plain (a .user .now) (a .used .now)) .library-size, ((e .1 o .long, refl), add-plain (a .library .now) (a .user .now) (a .used .now) (a .verdicts .now) (a .scratch .now) (a .group .now) o q)))
+    (add-sits (a .library .now) (a .user .now) (a .used .now) (a .verdicts .now) (a .scratch .now) (a .group .now) o, (indexed (a .library .now) (a .user .now) (a .used .now) e f (plain (a .user .now) (a .used .now)) .library-size, ((e .1 .long, refl), add-plain (a .library .now) (a .user .now) (a .used .now) (a .verdicts .now) (a .scratch .now) (a .group .now) o q)))
 
 enum-known-admitted : tie.Need-enum-known-admitted
 enum-known-admitted c = search needs
@@ -99,7 +99,7 @@ rejudge-requires c κs =
     let o = told (a .library .now) (a .user .now) (a .used .now) e f .0 in
     let q = added-is (a .library .now) (a .user .now) (a .used .now) (a .verdicts .now) (a .scratch .now) (a .group .now) o in
     let w = admit-facts (a .library .now) (a .user .now) (a .group .now) (new (c .before .before .before .before .before .before .before .before .before .before .before .before .before .before .before .before .before .before .before .before .before .before .before .before .before .before .before .before .before)) (length (a .verdicts .now) / 2) (length (a .scratch .now)) (add-plain (a .library .now) (a .user .now) (a .used .now) (a .verdicts .now) (a .scratch .now) (a .group .now) o q) (c .before .before .before .before .before .before .before .before .before .before .before .admit .ensures) (c .before .before .before .before .before .before .before .admitted2 .given .1) in
-    (admitted-fits (add-sits (a .library .now) (a .user .now) (a .used .now) (a .verdicts .now) (a .scratch .now) (a .group .now) o) w, (w .indexed, (w .form, (w .right, (marks-long (c .before .before .before .before .before .before .before .admitted2 .given .0 .1 .0 - 1), lines-room _ (w .room), w .enough)))))
+    (admitted-fits (add-sits (a .library .now) (a .user .now) (a .used .now) (a .verdicts .now) (a .scratch .now) (a .group .now) o) w, (w .indexed, (w .form, (w .memo-is, (marks-long (c .before .before .before .before .before .before .before .admitted2 .given .0 .1 .0 - 1), lines-room _ (w .room), w .enough)))))
 
 write-requires : tie.Need-write-requires
 write-requires c κs =

@@ -3,7 +3,7 @@
 use native.Mathlib.Omega.{arith}
 use Rattle.view.proofs.Splice.{plain}
 use Rattle.lanes.proofs.Rows.{zeros}
-use Rattle.queries.proofs.Asking.{fits, indexed, right, form-fine}
+use Rattle.queries.proofs.Asking.{fits, indexed, memo-is, form-fine}
 use Rattle.verifier.proofs.Verdicts.{sheets-stop, classes-ordered, row-stop, scratch-stop, room-is, judged-all}
 use borrow.Author.Needs.{needs}
 use Rattle.verifier.proofs.judge.Statement.{statement}
@@ -63,7 +63,7 @@ rejudge-requires c κs =
     let q = plain (a .user .now) (a .used) in
     let e = c .before .before .before .before .before .before .before .before .before .before .before .before .before .present .ensures in
     let f = c .before .before .before .before .before .before .before .before .before .checked2 .given .1 in
-    (fits (a .library .now) (a .user .now) (a .used) e f, (indexed (a .library .now) (a .user .now) (a .used) e f q, (form-fine (a .library .now) (a .user .now) (a .used) e f q, (right (a .library .now) (a .user .now) (a .used) e f q, (omega arith, room-is (a .library .now) (a .user .now) (a .used) (a .verdicts .now) (a .scratch .now) e f (omega arith), omega arith)))))
+    (fits (a .library .now) (a .user .now) (a .used) e f, (indexed (a .library .now) (a .user .now) (a .used) e f q, (form-fine (a .library .now) (a .user .now) (a .used) e f q, (memo-is (a .library .now) (a .user .now) (a .used) e f q, (omega arith, room-is (a .library .now) (a .user .now) (a .used) (a .verdicts .now) (a .scratch .now) e f (omega arith), omega arith)))))
 
 faulted-requires : tie.Need-faulted-requires
 faulted-requires c κs = search needs

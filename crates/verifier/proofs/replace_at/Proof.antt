@@ -64,7 +64,7 @@ rejudge-requires c κs =
     let sits = replaced-sits (a .library .now) (a .user .now) (a .used .now) (a .class) (a .verdicts .now) (a .scratch .now) (a .group .now) (p .0) (p .1 .0) (p .1 .1 .0) (p .1 .1 .1) (a .cut) (p .1 .1 .2) (p .1 .1 .3) (p .1 .1 .4) in
     let q = replaced-is (a .library .now) (a .user .now) (a .used .now) (a .class) (a .verdicts .now) (a .scratch .now) (a .group .now) (p .0) (p .1 .0) (p .1 .1 .0) (p .1 .1 .1) (a .cut) (p .1 .1 .2) (p .1 .1 .3) (p .1 .1 .4) in
     let w = admit-facts (a .library .now) (a .user .now) (a .group .now) (spliced (a .user .now) (a .group .now) (a .cut)) (length (a .verdicts .now) / 2) (length (a .scratch .now)) (replace-plain (a .library .now) (a .user .now) (a .used .now) (a .class) (a .verdicts .now) (a .scratch .now) (a .group .now) (p .0) (p .1 .0) (p .1 .1 .0) (p .1 .1 .1) q) (c .before .before .before .before .before .before .before .before .before .before .before .before .before .before .before .before .before .before .before .admit .ensures) (c .before .before .before .before .before .before .before .before .before .before .before .before .before .before .admitted2 .given .1) in
-    (admitted-fits sits w, (w .indexed, (w .form, (w .right, (omega (arith, c .before .before .before .before .before .before .before .before .before .dependents .kept .1 .1 .1 .1 .1 .1 .1 .1 .0), lines-room _ (w .room), w .enough)))))
+    (admitted-fits sits w, (w .indexed, (w .form, (w .memo-is, (omega (arith, c .before .before .before .before .before .before .before .before .before .dependents .kept .1 .1 .1 .1 .1 .1 .1 .1 .0), lines-room _ (w .room), w .enough)))))
 
 write-requires : tie.Need-write-requires
 write-requires c κs =
