@@ -23,7 +23,8 @@
  * buffer that a call may write overlaps no other argument, and nobody else writes any of them
  * meanwhile. Bytes, lengths and class numbers may be
  * anything at all: there is nothing to test before a call. The library keeps nothing between
- * calls, so calls over different buffers may run at once.
+ * calls, so calls over different buffers may run at once. It asks for no heap, and no call uses
+ * more than 8 KiB of stack on any sheet (measured; the proofs do not speak of the stack).
  *
  *
  * Answers

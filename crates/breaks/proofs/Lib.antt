@@ -7,3 +7,4 @@ pub mod Heads
 pub mod Fixed
 pub mod Bases
 pub mod Places
+pub mod Lines

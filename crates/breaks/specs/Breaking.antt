@@ -9,7 +9,7 @@ use Rattle.spec.specs.Lists.{any}
 use Rattle.spec.specs.Record.{bit, isKind, MEMBER, REFERS, flags, ownMarkers, target, index, fieldTy, isFinal, references}
 use Rattle.spec.specs.Sheet.{Group, classRecord, ofKind, isStaticField, isInstanceField}
 use Rattle.spec.specs.Markers.{Immutable, Powerless, Selfless, Token, Throwable, Enum, DeepSelfless, clash}
-use Rattle.spec.specs.Classes.{Slot, fieldSlot, superclasses, overlay, satisfies, encloserSlots, capturedSlots}
+use Rattle.spec.specs.Classes.{Slot, fieldSlot, superclasses, overlay, satisfies, encloserSlots, capturedSlots, lineage, root}
 use Rattle.spec.specs.Rules.{staticMarker, memberAllowed, rootFits, baseFits, forbidden}
 use Rattle.spec.specs.Relations.{At}
 use Rattle.pass.specs.Pass.{recordAt}
@@ -62,7 +62,15 @@ module _ (g : ℕ → Group) where
   unfoldable pub fieldBreaks : ℕ → ℕ → ℕ → List ℕ → Bool
   fieldBreaks rule t k r = isInstanceField r && not (slotFits rule (fieldSlot t (k, r)))
 
+  -- the own slots of class t
+  unfoldable pub slotsBreak : ℕ → ℕ → Bool
+  slotsBreak rule t = fixedBreaks rule t || any (fieldBreaks rule 0 0) (g t)
+
 module _ (nlib : ℕ) (g : ℕ → Group) where
+  -- the slots of c and its superclasses, or its root
+  unfoldable pub lineBreaks : ℕ → ℕ → Bool
+  lineBreaks rule c = any (slotsBreak g rule) (lineage nlib g c) || any (rootBreaks g rule) (root nlib g c)
+
   unfoldable pub headBreaks : ℕ → ℕ → ℕ → Bool
   headBreaks rule c t = elim (ltb t nlib) [ true ↦ rootBreaks g rule t | false ↦ fixedBreaks g rule t || (eqb rule 9 && eqb t c && baseBreaks g c) ]
 

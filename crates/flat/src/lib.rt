@@ -23,6 +23,7 @@ ghost use Rattle.overlay.specs.Memo.{memoOf};
 ghost use Rattle.overlay.specs.Types.{Known};
 ghost use Rattle.captured.specs.Captured.{Shown};
 ghost use Rattle.rules.specs.Line.{lineOf};
+ghost use Rattle.rules.specs.Walk.{Kept};
 ghost use Rattle.survey.specs.Survey.{Passing};
 ghost use Rattle.flat.specs.Row.{putIf, chosen, faultedIn, markedIn};
 
@@ -39,6 +40,7 @@ fn judged<'a>(
     row: &[u8],
     sets: &[u8],
     c: usize,
+    kept: &mut [u8],
 ) -> Verdict
     requires { ⌜ Fits cut (now user) (now group) ⌝ }
     requires { ⌜ Indexed (now library) (spliced (now user) (now group) cut) nlib n (now starts) ⌝ }
@@ -47,12 +49,26 @@ fn judged<'a>(
     requires { ⌜ Shown (groupOf (now library) (spliced (now user) (now group) cut)) n (now row) ⌝ }
     requires { ⌜ Passing nlib n (groupOf (now library) (spliced (now user) (now group) cut)) (now sets) ⌝ }
     requires { ⌜ (nlib ≤ c) × (c < n) ⌝ }
-    ensures { λ r. ⌜ lineOf r ≡ verdictOf nlib (groupOf (now (library .entry)) (spliced (now (user .entry)) (now (group .entry)) cut)) c ⌝ }
+    requires { ⌜ Kept nlib n (groupOf (now library) (spliced (now user) (now group) cut)) (now kept) ⌝ }
+    ensures verdict { λ r. ⌜ lineOf r ≡ verdictOf nlib (groupOf (now (library .entry)) (spliced (now (user .entry)) (now (group .entry)) cut)) c ⌝ }
+    ensures kept { λ r. ⌜ Kept nlib n (groupOf (now (library .entry)) (spliced (now (user .entry)) (now (group .entry)) cut)) (now (kept .exit)) ⌝ }
 {
     if clean(library, user, group, cut, starts, nlib, n, markers, sets, c) {
         return Verdict { rule: 0, record: 0 };
     }
-    verdict_of(library, user, group, cut, starts, nlib, n, markers, row, c)
+    verdict_of(
+        library,
+        user,
+        group,
+        cut,
+        starts,
+        nlib,
+        n,
+        markers,
+        row,
+        c,
+        kept,
+    )
 }
 
 // Writes the verdict of class c if its mark is 0.
@@ -69,6 +85,7 @@ fn rewrite_class<'a>(
     sets: &[u8],
     marks: &[u8],
     c: usize,
+    kept: &mut [u8],
     verdicts: &mut [u8],
 )
     requires { ⌜ Fits cut (now user) (now group) ⌝ }
@@ -79,7 +96,9 @@ fn rewrite_class<'a>(
     requires { ⌜ Passing nlib n (groupOf (now library) (spliced (now user) (now group) cut)) (now sets) ⌝ }
     requires { ⌜ (256 ≤ length (now marks)) × (n - nlib ≤ flatLines (now verdicts)) ⌝ }
     requires { ⌜ (nlib ≤ c) × (c < n) ⌝ }
-    ensures { λ r. ⌜ now (verdicts .exit) ≡ putIf (eqb (getD (now (marks .entry)) c 0) 0) (2 * (c - nlib)) (verdictOf nlib (groupOf (now (library .entry)) (spliced (now (user .entry)) (now (group .entry)) cut)) c) (now (verdicts .entry)) ⌝ }
+    requires { ⌜ Kept nlib n (groupOf (now library) (spliced (now user) (now group) cut)) (now kept) ⌝ }
+    ensures verdicts { λ r. ⌜ now (verdicts .exit) ≡ putIf (eqb (getD (now (marks .entry)) c 0) 0) (2 * (c - nlib)) (verdictOf nlib (groupOf (now (library .entry)) (spliced (now (user .entry)) (now (group .entry)) cut)) c) (now (verdicts .entry)) ⌝ }
+    ensures kept { λ r. ⌜ Kept nlib n (groupOf (now (library .entry)) (spliced (now (user .entry)) (now (group .entry)) cut)) (now (kept .exit)) ⌝ }
 {
     if marks[c] != 0 {
         return;
@@ -96,6 +115,7 @@ fn rewrite_class<'a>(
         row,
         sets,
         c,
+        kept,
     );
     let at = 2 * (c - nlib);
     verdicts[at] = verdict.rule;
@@ -115,6 +135,7 @@ pub fn rewrite<'a>(
     row: &[u8],
     sets: &[u8],
     marks: &[u8],
+    kept: &mut [u8],
     verdicts: &mut [u8],
 )
     requires { ⌜ Fits cut (now user) (now group) ⌝ }
@@ -124,7 +145,9 @@ pub fn rewrite<'a>(
     requires { ⌜ Shown (groupOf (now library) (spliced (now user) (now group) cut)) n (now row) ⌝ }
     requires { ⌜ Passing nlib n (groupOf (now library) (spliced (now user) (now group) cut)) (now sets) ⌝ }
     requires { ⌜ (256 ≤ length (now marks)) × (n - nlib ≤ flatLines (now verdicts)) ⌝ }
-    ensures { λ r. ⌜ now (verdicts .exit) ≡ flatRewritten (chosen nlib n (now (marks .entry))) (λ i. verdictOf nlib (groupOf (now (library .entry)) (spliced (now (user .entry)) (now (group .entry)) cut)) (nlib + i)) (now (verdicts .entry)) ⌝ }
+    requires { ⌜ Kept nlib n (groupOf (now library) (spliced (now user) (now group) cut)) (now kept) ⌝ }
+    ensures verdicts { λ r. ⌜ now (verdicts .exit) ≡ flatRewritten (chosen nlib n (now (marks .entry))) (λ i. verdictOf nlib (groupOf (now (library .entry)) (spliced (now (user .entry)) (now (group .entry)) cut)) (nlib + i)) (now (verdicts .entry)) ⌝ }
+    ensures kept { λ r. ⌜ Kept nlib n (groupOf (now (library .entry)) (spliced (now (user .entry)) (now (group .entry)) cut)) (now (kept .exit)) ⌝ }
 {
     let mut c = nlib;
     while c < n {
@@ -141,6 +164,7 @@ pub fn rewrite<'a>(
             sets,
             marks,
             c,
+            kept,
             verdicts,
         );
         c += 1;
@@ -206,6 +230,7 @@ pub fn rejudge<'a>(
         scratch,
         &mut sets,
     );
+    let mut kept = [0u8; 1024];
     rewrite(
         library,
         user,
@@ -218,6 +243,7 @@ pub fn rejudge<'a>(
         scratch,
         &sets,
         marks,
+        &mut kept,
         verdicts,
     );
     fill(scratch, 65536, 0);

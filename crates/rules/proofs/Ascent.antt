@@ -90,7 +90,7 @@ module _ (nlib n : ℕ) (g : ℕ → Group) (f : Falls g) (supers : (c : ℕ) �
     unfolding classesFrom
     from-past t h = rw (le-ltb t n h, classesFrom)
 
-    above-from : (t : ℕ) → t < c → T (not (isInterface (g t))) → above nlib g c t ≡ classesFrom nlib g n c t
+    pub above-from : (t : ℕ) → t < c → T (not (isInterface (g t))) → above nlib g c t ≡ classesFrom nlib g n c t
     above-from t h k = go (decide (ltb t nlib))
       where
         go : T (ltb t nlib) ⊎ T (not (ltb t nlib)) → above nlib g c t ≡ classesFrom nlib g n c t
@@ -101,18 +101,18 @@ module _ (nlib n : ℕ) (g : ℕ → Group) (f : Falls g) (supers : (c : ℕ) �
             let l = nltb→le t nlib x in
             above-up c t l (supers t l (omega arith) k) ∙ sym (from-there t (omega arith) ∙ ap (λ (l : List ℕ). t ∷ l) (after-user t h l))
 
-    own-from : classesFrom nlib g n c c ≡ c ∷ []
+    pub own-from : classesFrom nlib g n c c ≡ c ∷ []
     own-from = from-there c there ∙ ap (λ (l : List ℕ). c ∷ l) after-self
 
     left-past : (t : ℕ) → n ≤ t → left n c t ≡ 0
     unfolding left
     left-past t h = rw (le-ltb t n h, left)
 
-    left-self : left n c c ≡ 1
+    pub left-self : left n c c ≡ 1
     unfolding left
     left-self = rw (lt-ltb c n there, eq-eqb c c refl, left)
 
-    left-up : (t : ℕ) → t < c → left n c t ≡ t + 2
+    pub left-up : (t : ℕ) → t < c → left n c t ≡ t + 2
     unfolding left
     left-up t h = rw (lt-ltb t n (omega arith), ne-eqb t c (λ e. omega arith), left)
 

@@ -5,3 +5,4 @@ pub mod Verdicts
 pub mod Records
 pub mod Judging
 pub mod Stepping
+pub mod Keeping

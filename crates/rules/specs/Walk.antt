@@ -1,16 +1,17 @@
 -- The judging of one class as a walk over rules, classes and records: the classes that a rule asks, and the records that it asks of each of them.
 -- Assumes nothing.
-use mathlib.Core.Bool.{Bool, true, false, _||_}
+use mathlib.Core.Path.{_≡_}
+use mathlib.Core.Bool.{Bool, true, false, not, _&&_, _||_}
 use mathlib.Core.List.{List, [], _∷_, _++_, map}
-use Prim.Native.Nat.{ℕ}
-use lib.Dec.{eqb, ltb}
-use lib.ListN.{take}
+use Prim.Native.Nat.{ℕ, _+_, _*_, _-_, _≤_, _<_}
+use lib.Dec.{T, eqb, ltb}
+use lib.ListN.{length, getD, take}
 use Rattle.spec.specs.Lists.{keep, gather, numbered, onlyIf}
 use Rattle.spec.specs.Record.{superclass}
-use Rattle.spec.specs.Sheet.{Group, classRecord}
+use Rattle.spec.specs.Sheet.{Group, classRecord, isInterface}
 use Rattle.spec.specs.Classes.{superclasses, lineage, root}
 use Rattle.spec.specs.Rules.{Fault, judgedFor}
-use Rattle.breaks.specs.Breaking.{ruleMarker, breaksAt}
+use Rattle.breaks.specs.Breaking.{ruleMarker, lineBreaks, breaksAt}
 
 -- the CLASS record alone is asked: of the root, and by rules 3, 4 and 6
 unfoldable pub onlyFirst : ℕ → ℕ → ℕ → Bool
@@ -57,3 +58,23 @@ module _ (nlib : ℕ) (g : ℕ → Group) where
 
   unfoldable pub classesFrom : ℕ → ℕ → ℕ → List ℕ
   classesFrom n c t = elim (ltb t n) [ true ↦ t ∷ afterward c t | false ↦ [] ]
+
+-- ---- what earlier walks found
+
+-- under one of rules 7 to 10 nothing is found from class t upward
+pub record Empty (nlib : ℕ) (g : ℕ → Group) (rule t : ℕ) : Type 0 where
+  pub line : lineBreaks nlib g rule t ≡ false
+  pub concrete : T (not (isInterface (g t)))
+
+-- four lanes, one a rule
+abbrev pub keptAt : ℕ → ℕ → ℕ
+keptAt rule t = (rule - 7) * 256 + t
+
+-- the row has 1 only where nothing is found
+pub record Kept (nlib n : ℕ) (g : ℕ → Group) (row : List ℕ) : Type 0 where
+  pub long : length row ≡ 1024
+  pub is : (rule t : ℕ) → 7 ≤ rule → rule ≤ 10 → t < n → getD row (keptAt rule t) 0 ≡ 1 → Empty nlib g rule t
+
+-- class t, or c where nothing is found from t upward
+unfoldable pub climbed : List ℕ → ℕ → ℕ → ℕ → ℕ → ℕ
+climbed row n rule c t = elim (ltb t n && (not (ltb rule 7) && eqb (getD row (keptAt rule t) 0) 1)) [ true ↦ c | false ↦ t ]

@@ -2,6 +2,7 @@
 use breaks::breaks;
 use breaks::rule_set;
 use groups::class_bytes;
+use groups::class_word;
 use markers::has;
 use overlay::known;
 use view::Cut;
@@ -18,7 +19,7 @@ ghost use Rattle.view.specs.View.{Fits, spliced};
 ghost use Rattle.groups.specs.Groups.{Carries, Indexed};
 ghost use Rattle.overlay.specs.Types.{Known};
 ghost use Rattle.captured.specs.Captured.{Shown};
-ghost use Rattle.rules.specs.Walk.{onlyFirst, asked, firstClass, nextClass};
+ghost use Rattle.rules.specs.Walk.{onlyFirst, asked, firstClass, nextClass, keptAt, climbed, Empty, Kept};
 ghost use Rattle.rules.specs.Line.{lineOf};
 
 // Rule and record; 0 and 0 is clean.
@@ -93,6 +94,61 @@ fn next_class<'a>(
     wide(word_in(bytes, 8))
 }
 
+// Where the row of what earlier walks found keeps a rule and a class.
+fn kept_at(rule: u8, t: usize) -> usize
+    requires { ⌜ (7 ≤ rule) × (rule ≤ 10) × (t < 256) ⌝ }
+    ensures { λ r. ⌜ (r ≡ keptAt rule t) × (r < 1024) ⌝ }
+{
+    (rule as usize - 7) * 256 + t
+}
+
+// Class t, or c itself where an earlier walk found nothing from t upward.
+fn climb(kept: &[u8], n: usize, rule: u8, c: usize, t: usize) -> usize
+    requires { ⌜ (length (now kept) ≡ 1024) × (n ≤ 256) × (rule ≤ 10) ⌝ }
+    ensures { λ r. ⌜ r ≡ climbed (now (kept .entry)) n rule c t ⌝ }
+{
+    if n <= t {
+        return t;
+    }
+    if rule < 7 {
+        return t;
+    }
+    let i = kept_at(rule, t);
+    if kept[i] == 1 {
+        return c;
+    }
+    t
+}
+
+// Keeps in mind that the rule finds nothing from class c upward.
+fn keep<'a>(
+    library: &'a [u8],
+    user: &'a [u8],
+    group: &'a [u8],
+    cut: Cut,
+    starts: &[u16],
+    nlib: usize,
+    n: usize,
+    rule: u8,
+    c: usize,
+    kept: &mut [u8],
+)
+    requires { ⌜ Fits cut (now user) (now group) ⌝ }
+    requires { ⌜ Indexed (now library) (spliced (now user) (now group) cut) nlib n (now starts) ⌝ }
+    requires { ⌜ formRefusal (now library) (spliced (now user) (now group) cut) ≡ none ⌝ }
+    requires { ⌜ (7 ≤ rule) × (rule ≤ 10) × (c < n) ⌝ }
+    requires { ⌜ Empty nlib (groupOf (now library) (spliced (now user) (now group) cut)) rule c ⌝ }
+    requires { ⌜ Kept nlib n (groupOf (now library) (spliced (now user) (now group) cut)) (now kept) ⌝ }
+    ensures { λ r. ⌜ Kept nlib n (groupOf (now (library .entry)) (spliced (now (user .entry)) (now (group .entry)) cut)) (now (kept .exit)) ⌝ }
+{
+    let mut t = c;
+    while nlib <= t {
+        let i = kept_at(rule, t);
+        kept[i] = 1;
+        t = wide(class_word(library, user, group, cut, starts, nlib, n, t, 8));
+    }
+}
+
 // Whether the CLASS record alone is asked: of the root, and by rules 3, 4 and 6.
 fn first_only(nlib: usize, rule: u8, t: usize) -> bool
     ensures { λ r. ⌜ r ≡ onlyFirst nlib rule t ⌝ }
@@ -128,7 +184,7 @@ fn place(c: usize, t: usize, k: usize) -> u8
     if t == c { k as u8 } else { 0 }
 }
 
-// The verdict of user class c.
+// The verdict of user class c. `kept` is what earlier walks found, so that no superclass is walked again and again.
 pub fn verdict_of<'a>(
     library: &'a [u8],
     user: &'a [u8],
@@ -140,6 +196,7 @@ pub fn verdict_of<'a>(
     markers: &[u8],
     row: &[u8],
     c: usize,
+    kept: &mut [u8],
 ) -> Verdict
     requires { ⌜ Fits cut (now user) (now group) ⌝ }
     requires { ⌜ Indexed (now library) (spliced (now user) (now group) cut) nlib n (now starts) ⌝ }
@@ -147,14 +204,17 @@ pub fn verdict_of<'a>(
     requires { ⌜ Known (groupOf (now library) (spliced (now user) (now group) cut)) (now markers) ⌝ }
     requires { ⌜ Shown (groupOf (now library) (spliced (now user) (now group) cut)) n (now row) ⌝ }
     requires { ⌜ (nlib ≤ c) × (c < n) ⌝ }
-    ensures { λ r. ⌜ lineOf r ≡ verdictOf nlib (groupOf (now (library .entry)) (spliced (now (user .entry)) (now (group .entry)) cut)) c ⌝ }
+    requires { ⌜ Kept nlib n (groupOf (now library) (spliced (now user) (now group) cut)) (now kept) ⌝ }
+    ensures verdict { λ r. ⌜ lineOf r ≡ verdictOf nlib (groupOf (now (library .entry)) (spliced (now (user .entry)) (now (group .entry)) cut)) c ⌝ }
+    ensures kept { λ r. ⌜ Kept nlib n (groupOf (now (library .entry)) (spliced (now (user .entry)) (now (group .entry)) cut)) (now (kept .exit)) ⌝ }
 {
     let mut rule: u8 = 1;
     let found = 'judged: loop {
         if 10 < rule {
             break 'judged Verdict { rule: 0, record: 0 };
         }
-        let mut t = first_class(library, user, group, cut, starts, nlib, n, markers, rule, c);
+        let first = first_class(library, user, group, cut, starts, nlib, n, markers, rule, c);
+        let mut t = climb(kept, n, rule, c, first);
         while t < n {
             let bytes = class_bytes(library, user, group, cut, starts, nlib, n, t);
             let end = asked_end(nlib, rule, t, bytes);
@@ -186,7 +246,24 @@ pub fn verdict_of<'a>(
                 at += wide(word_in(bytes, at));
                 k += 1;
             }
-            t = next_class(library, user, group, cut, starts, nlib, n, c, t, bytes);
+            let next = next_class(library, user, group, cut, starts, nlib, n, c, t, bytes);
+            t = climb(kept, n, rule, c, next);
+        }
+        if 6 < rule {
+            if first < n {
+                keep(
+                    library,
+                    user,
+                    group,
+                    cut,
+                    starts,
+                    nlib,
+                    n,
+                    rule,
+                    first,
+                    kept,
+                );
+            }
         }
         rule += 1;
     };

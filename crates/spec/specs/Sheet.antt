@@ -92,7 +92,7 @@ isInstanceField r = isKind FIELD r && not (isStatic r)
 -- ---- where each record stands
 
 -- a record with its sheet, the byte where it begins, its class, its number in the group ("numbered from 0") and the kind before it there (0 before a CLASS).
--- `grouped` says that it is a CLASS record or one stands before it.
+-- `grouped` is false only where a sheet's first record is no CLASS record: that one is refused (6), so whether a later one has a CLASS record before it is not asked.
 pub record Located : Type 0 where
   pub sheet : ℕ
   pub byte : ℕ

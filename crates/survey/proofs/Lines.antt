@@ -19,8 +19,7 @@ use Rattle.spec.specs.Refusals.{formRefusal}
 use Rattle.theory.proofs.Bools.{false-t, t-false}
 use Rattle.theory.proofs.Rows.{set-below}
 use Rattle.theory.proofs.Falls.{Falls}
-use Rattle.theory.proofs.Lines.{lineage-library, root-library}
-use Rattle.theory.proofs.Form.{Super, lineage-up, root-up, sound-falls, sound-super}
+use Rattle.theory.proofs.Form.{Super, sound-falls, sound-super}
 use Rattle.groups.specs.Groups.{between, Carries, Indexed}
 use Rattle.groups.proofs.Classes.{class-long}
 use Rattle.groups.proofs.Bytes.{class-within, class-word-in}
@@ -28,10 +27,11 @@ use Rattle.groups.proofs.Few.{indexed-sound}
 use Rattle.overlay.specs.Types.{Known}
 use Rattle.lanes.specs.Lanes.{entryAt}
 use Rattle.captured.specs.Captured.{Shown}
-use Rattle.breaks.specs.Breaking.{fromSeven, ruleMarker, fixedBreaks, rootBreaks, fieldBreaks}
+use Rattle.breaks.specs.Breaking.{fromSeven, ruleMarker, fixedBreaks, rootBreaks, fieldBreaks, slotsBreak, lineBreaks}
 use Rattle.breaks.proofs.Bits.{bit-zero}
+use Rattle.breaks.proofs.Lines.{line-library, line-up}
 use Rattle.breaks.proofs.Fixed.{fixed-nine, captured-lacks, not-inner, inner-lacks, inner-encloser}
-use Rattle.survey.specs.Survey.{Late, Passes, FieldsSet, RootSet, encloserBy, capturedBy, slotsBreak, lineBreaks, ClassSet, Passing}
+use Rattle.survey.specs.Survey.{Late, Passes, FieldsSet, RootSet, encloserBy, capturedBy, ClassSet, Passing}
 use Rattle.survey.proofs.Sets.{twice, late-cases, passes-as, passes-both}
 
 neither : (a b : Bool) → (not a && not b) ≡ not (a || b)
@@ -54,14 +54,8 @@ module _ {library user : List ℕ} {nlib n : ℕ} {starts : List ℕ} (x : Index
 
   -- ---- a library class
 
-  library-breaks : {t : ℕ} → t < nlib → (rule : ℕ) → rootBreaks g rule t ≡ lineBreaks nlib g rule t
-  unfolding lineBreaks lineage root any
-  library-breaks {t} h rule =
-      sym (or-false (rootBreaks g rule t))
-      ∙ ap₂ (λ (p q : List ℕ). any (slotsBreak nlib g rule) p || any (rootBreaks g rule) q) (sym (lineage-library nlib g falls t t h)) (sym (root-library nlib g falls t t h))
-
   pub class-library : {t : ℕ} → t < nlib → {row : List ℕ} → Known g row → {r : ℕ} → RootSet row t r → ClassSet nlib g t r
-  class-library {t} h k w = record { class = λ _. passes-as (w .is g k) (λ rule l. ap not (library-breaks h rule)); interface = λ u. absurd (omega arith) }
+  class-library {t} h k w = record { class = λ _. passes-as (w .is g k) (λ rule l. ap not (line-library nlib g falls rule h)); interface = λ u. absurd (omega arith) }
 
   -- ---- a user class by its bytes
 
@@ -113,18 +107,11 @@ module _ {library user : List ℕ} {nlib n : ℕ} {starts : List ℕ} (x : Index
                 (inner-encloser x ok there (word 4 (omega arith)) z refl (word 10 (omega arith))) {y = its} (ap (bit (ruleMarker rule)) (known .is (u16 bytes 10)))))
 
         own-passes : {a b d : ℕ} → Passes (encloserBy bytes markers) a → Passes (capturedBy lanes t) b → FieldsSet markers (between bytes 0 (length bytes)) d
-            → (s : ℕ) → ((k : ℕ) → bit k s ≡ (bit k a && bit k b)) → {own : ℕ} → ((k : ℕ) → bit k own ≡ (bit k s && bit k d)) → Passes (λ rule. not (slotsBreak nlib g rule t)) own
+            → (s : ℕ) → ((k : ℕ) → bit k s ≡ (bit k a && bit k b)) → {own : ℕ} → ((k : ℕ) → bit k own ≡ (bit k s && bit k d)) → Passes (λ rule. not (slotsBreak g rule t)) own
         unfolding slotsBreak
         own-passes ha hb hd s es eo =
             passes-as (passes-both (passes-as (passes-both ha hb {r = s} es) fixed-is) (hd .is g known) eo)
             (λ rule l. ap (λ (rs : Group). not (fixedBreaks g rule t) && not (any (fieldBreaks g rule 0 0) rs)) (c .records) ∙ neither (fixedBreaks g rule t) (any (fieldBreaks g rule 0 0) (g t)))
-
-        line-up : (rule : ℕ) → (slotsBreak nlib g rule t || lineBreaks nlib g rule (superclass (classRecord (g t)))) ≡ lineBreaks nlib g rule t
-        unfolding lineBreaks any
-        line-up rule =
-            let up : ℕ = superclass (classRecord (g t)) in
-            sym (or-assoc (slotsBreak nlib g rule t) (any (slotsBreak nlib g rule) (lineage nlib g up)) (any (rootBreaks g rule) (root nlib g up)))
-            ∙ ap₂ (λ (p q : List ℕ). any (slotsBreak nlib g rule) p || any (rootBreaks g rule) q) (sym (lineage-up nlib g falls t user-class its-super)) (sym (root-up nlib g falls t user-class its-super))
 
         pub class-user : {a b d : ℕ} → Passes (encloserBy bytes markers) a → Passes (capturedBy lanes t) b → FieldsSet markers (between bytes 0 (length bytes)) d
             → (s : ℕ) → ((k : ℕ) → bit k s ≡ (bit k a && bit k b)) → (own : ℕ) → ((k : ℕ) → bit k own ≡ (bit k s && bit k d))
@@ -135,7 +122,7 @@ module _ {library user : List ℕ} {nlib n : ℕ} {starts : List ℕ} (x : Index
             record {
               class = λ _.
                   passes-as (passes-both (own-passes ha hb hd s es {own = own} eo) above er)
-                  (λ rule l. neither (slotsBreak nlib g rule t) (lineBreaks nlib g rule u) ∙ ap not (ap (λ (i : ℕ). slotsBreak nlib g rule t || lineBreaks nlib g rule i) (up .0) ∙ line-up rule));
+                  (λ rule l. neither (slotsBreak g rule t) (lineBreaks nlib g rule u) ∙ ap not (ap (λ (i : ℕ). slotsBreak g rule t || lineBreaks nlib g rule i) (up .0) ∙ line-up nlib g falls rule user-class its-super));
               interface = λ _ e. absurd (subst T (sym e ∙ concrete) tt);
             }
 

@@ -16,8 +16,8 @@ use Rattle.spec.specs.Classes.{Slot, fieldSlot, encloserSlots, fieldSlots, capt
 use Rattle.spec.specs.Rules.{Fault, Verdict, clean, staticMarker, slotFault, faultIf, faultsAt, memberAllowed, judgedFor, rootFits, baseFits, baseFaults, forbidden, slotFaults, rootFaults, rule1, rule2, rule3, rule4, rule5, rule6, rule7, rule8, rule9, rule10, rules, placeIn, firstBroken, verdictOf}
 use Rattle.theory.proofs.Bools.{true-t, and-l, and-r}
 use Rattle.theory.proofs.Somewhere.{any-append, any-map, any-gather, any-keep, any-numbered, any-same, any-either, any-never, some, some-append, some-map, some-only, some-keep, some-gather}
-use Rattle.breaks.specs.Breaking.{fromSeven, ruleMarker, slotFits, fixedBreaks, rootBreaks, baseBreaks, fieldBreaks}
-use Rattle.survey.specs.Survey.{isClean, headBreaks, anyLate, recordBreaks, slotsBreak, lineBreaks, lateBreaks, classBreaks}
+use Rattle.breaks.specs.Breaking.{fromSeven, ruleMarker, slotFits, fixedBreaks, rootBreaks, baseBreaks, fieldBreaks, slotsBreak, lineBreaks}
+use Rattle.survey.specs.Survey.{isClean, headBreaks, anyLate, recordBreaks, lateBreaks, classBreaks}
 
 pub clean-both : (v : Verdict) → isClean v ≡ true → v ≡ clean
 unfolding isClean
@@ -72,7 +72,7 @@ module _ (nlib : ℕ) (g : ℕ → Group) (c : ℕ) where
         ∙ any-keep (λ (n : ℕ × List ℕ). bad (fieldSlot t n)) (λ n. isInstanceField (n .1)) (numbered 0 (g t))
         ∙ any-numbered (fieldBreaks g rule 0 0) 0 (g t)
 
-    own-are : (t : ℕ) → any bad (ownSlots g t) ≡ slotsBreak nlib g rule t
+    own-are : (t : ℕ) → any bad (ownSlots g t) ≡ slotsBreak g rule t
     unfolding ownSlots slotsBreak fixedBreaks bad
     own-are t =
         any-append bad (encloserSlots g t) (fieldSlots g t ++ capturedSlots g t)
@@ -87,11 +87,11 @@ module _ (nlib : ℕ) (g : ℕ → Group) (c : ℕ) where
         swap false false true = refl
         swap false false false = refl
 
-    some-slots : some (slotFaults nlib g (slotFits g rule) c) ≡ any (slotsBreak nlib g rule) (lineage nlib g c)
+    some-slots : some (slotFaults nlib g (slotFits g rule) c) ≡ any (slotsBreak g rule) (lineage nlib g c)
     unfolding slotFaults slots bad
     some-slots =
         some-map slotFault (keep bad (slots nlib g c)) ∙ some-keep bad (slots nlib g c)
-        ∙ any-gather bad (ownSlots g) (lineage nlib g c) ∙ any-same (λ t. any bad (ownSlots g t)) (slotsBreak nlib g rule) own-are (lineage nlib g c)
+        ∙ any-gather bad (ownSlots g) (lineage nlib g c) ∙ any-same (λ t. any bad (ownSlots g t)) (slotsBreak g rule) own-are (lineage nlib g c)
 
     -- rules 7, 8 and 10 ask the root
     some-late : (k : ℕ) (extra : List Fault) → some extra ≡ any (rootBreaks g rule) (root nlib g c)
@@ -120,7 +120,7 @@ module _ (nlib : ℕ) (g : ℕ → Group) (c : ℕ) where
       some-only (judgedFor g Selfless c) (slotFaults nlib g (slotFits g 9) c ++ baseFaults g c)
       ∙ ap (λ (b : Bool). judgedFor g Selfless c && b)
       (some-append (slotFaults nlib g (slotFits g 9) c) (baseFaults g c)
-      ∙ ap₂ (λ (a b : Bool). a || b) (some-slots 9 ∙ sym (or-false (any (slotsBreak nlib g 9) (lineage nlib g c))) ∙ ap (λ (b : Bool). any (slotsBreak nlib g 9) (lineage nlib g c) || b) (sym (any-never (root nlib g c)))) (some-base g c))
+      ∙ ap₂ (λ (a b : Bool). a || b) (some-slots 9 ∙ sym (or-false (any (slotsBreak g 9) (lineage nlib g c))) ∙ ap (λ (b : Bool). any (slotsBreak g 9) (lineage nlib g c) || b) (sym (any-never (root nlib g c)))) (some-base g c))
 
   -- ---- all ten
 

@@ -21,8 +21,8 @@ use Rattle.groups.specs.Groups.{between, Carries, Indexed}
 use Rattle.groups.proofs.Classes.{class-long}
 use Rattle.groups.proofs.Bytes.{class-word-in, class-byte-in}
 use Rattle.overlay.specs.Types.{Known}
-use Rattle.breaks.specs.Breaking.{ruleMarker, baseBreaks}
-use Rattle.survey.specs.Survey.{isClean, headBreaks, anyLate, recordBreaks, lineBreaks, lateBreaks, classBreaks, Late, ClassSet, baseBy}
+use Rattle.breaks.specs.Breaking.{ruleMarker, baseBreaks, lineBreaks}
+use Rattle.survey.specs.Survey.{isClean, headBreaks, anyLate, recordBreaks, lateBreaks, classBreaks, Late, ClassSet, baseBy}
 use Rattle.survey.proofs.Verdicts.{clean-is}
 use Rattle.survey.proofs.Sets.{twice, met, past}
 use Rattle.survey.proofs.Base.{base-is}

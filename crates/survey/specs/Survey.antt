@@ -10,11 +10,11 @@ use Rattle.spec.specs.Lists.{any}
 use Rattle.spec.specs.Record.{u16, bit, isKind, REFERS, flags, ownMarkers, target, index, fieldTy, isFinal, references}
 use Rattle.spec.specs.Sheet.{Group, classRecord, isStaticField, isInterface}
 use Rattle.spec.specs.Markers.{Selfless, Token, Throwable, Enum, clash}
-use Rattle.spec.specs.Classes.{satisfies, overlay, lineage, root}
+use Rattle.spec.specs.Classes.{satisfies, overlay}
 use Rattle.spec.specs.Rules.{Verdict, staticMarker, memberAllowed, forbidden}
 use Rattle.overlay.specs.Types.{Known}
 use Rattle.lanes.specs.Lanes.{entryAt}
-use Rattle.breaks.specs.Breaking.{fromSeven, ruleMarker, fixedBreaks, rootBreaks, baseBreaks, fieldBreaks}
+use Rattle.breaks.specs.Breaking.{fromSeven, ruleMarker, fixedBreaks, rootBreaks, baseBreaks, fieldBreaks, lineBreaks}
 
 -- "clean is 0 and 0"
 unfoldable pub isClean : Verdict → Bool
@@ -39,16 +39,8 @@ module _ (nlib : ℕ) (g : ℕ → Group) where
       any (forbidden nlib g) (references r)
       || ((isKind REFERS r && not (memberAllowed g (target r) (index r))) || (isStaticField r && not (isFinal r && satisfies g staticMarker (fieldTy r))))
 
-  -- the own slots of class t break one of rules 7 to 10
-  unfoldable pub slotsBreak : ℕ → ℕ → Bool
-  slotsBreak rule t = fixedBreaks g rule t || any (fieldBreaks g rule 0 0) (g t)
-
-  -- the slots of c and its superclasses do, or its root
-  unfoldable pub lineBreaks : ℕ → ℕ → Bool
-  lineBreaks rule c = any (slotsBreak rule) (lineage nlib g c) || any (rootBreaks g rule) (root nlib g c)
-
   unfoldable pub lateBreaks : ℕ → Bool
-  lateBreaks c = (bit Selfless (overlay g c) && baseBreaks g c) || anyLate (overlay g c) (λ rule. lineBreaks rule c)
+  lateBreaks c = (bit Selfless (overlay g c) && baseBreaks g c) || anyLate (overlay g c) (λ rule. lineBreaks nlib g rule c)
 
   unfoldable pub classBreaks : ℕ → Bool
   classBreaks c = any recordBreaks (g c) || (headBreaks (classRecord (g c)) (overlay g c) || (not (isInterface (g c)) && lateBreaks c))

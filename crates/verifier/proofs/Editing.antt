@@ -155,5 +155,5 @@ pub lines-room : (row : List ℕ) {k : ℕ} → k ≤ length row / 2 → k ≤ f
 unfolding flatLines
 lines-room row h = h
 
-pub marks-long : (i : ℕ) → 256 ≤ length {A = ℕ} (set (replicate 256 255) i 0)
-marks-long i = omega (arith, length-set {A = ℕ} (replicate 256 255) i 0, length-replicate {A = ℕ} 256 255)
+pub marks-long : (i v : ℕ) → 256 ≤ length {A = ℕ} (set (replicate 256 255) i v)
+marks-long i v = omega (arith, length-set {A = ℕ} (replicate 256 255) i v, length-replicate {A = ℕ} 256 255)

@@ -12,6 +12,7 @@ pub const ALL: &[(&str, Maker)] = &[
     ("superclass_chain", superclass_chain),
     ("interface_chain", interface_chain),
     ("both_chains", both_chains),
+    ("library_chain", library_chain),
     ("faulted_chains", faulted_chains),
     ("builds_rings_zigzag", || nested_rings(zigzag(CHAIN))),
     ("builds_rings_rising", || nested_rings(rising(CHAIN))),
@@ -160,6 +161,25 @@ fn interface_chain() -> Pair {
     user.class(Class::below(0).flags(BY_VALUE), &short_name(CHAIN));
     user.implements(CHAIN - 1);
     (object_only(), user)
+}
+
+/// A superclass chain through the whole library, and constants in the two classes at its end.
+fn library_chain() -> Pair {
+    const LIBRARY: usize = CHAIN - 1;
+    let mut library = object_only();
+    for class in 1..LIBRARY {
+        library.class(Class::below(class - 1).flags(ALLOWED), &short_name(class));
+    }
+    let mut user = Sheet::new();
+    for class in [LIBRARY, LIBRARY + 1] {
+        user.class(Class::below(class - 1), &short_name(class));
+        for _ in 0..200 {
+            if user.fits(FIELD_LENGTHS.0) {
+                user.constant(user.room());
+            }
+        }
+    }
+    (library, user)
 }
 
 /// A chain of interfaces and a superclass chain, whose classes implement them from the last to the

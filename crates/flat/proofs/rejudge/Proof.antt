@@ -3,6 +3,7 @@
 use mathlib.Core.Path.{refl, _∙_}
 use native.Mathlib.Omega.{arith}
 use Rattle.rules.proofs.Verdicts.{ground}
+use Rattle.rules.proofs.Keeping.{kept-none}
 use Rattle.flat.proofs.Clearing.{clear-is}
 use borrow.Author.Needs.{needs}
 use Rattle.flat.proofs.rejudge.Statement.{statement}
@@ -27,7 +28,10 @@ slice-aggregate-passes-2 : tie.Need-slice-aggregate-passes-2
 slice-aggregate-passes-2 c = search needs
 
 passes-requires : tie.Need-passes-requires
-passes-requires c κs = let p = c .before .before .before .before .before .before .before .before .before .before .before .before .before .before .before .before .before .before .before .before .before .before .pre in (p .0, (p .1 .0, (p .1 .1 .0, (c .before .before .before .before .before .before .before .before .before .before .before .overlays .ensures .0, (c .before .before .before .before .before .captures .ensures .shown, refl)))))
+passes-requires c κs =
+    let seen = c .before .before .before .before .before in
+    let p = seen .before .before .before .before .before .before .before .before .before .before .before .before .before .before .before .before .before .pre in
+    (p .0, (p .1 .0, (p .1 .1 .0, (seen .before .before .before .before .before .before .overlays .ensures .0, (seen .captures .ensures .shown, refl)))))
 
 slice-aggregate-rewrite : tie.Need-slice-aggregate-rewrite
 slice-aggregate-rewrite c = search needs
@@ -35,28 +39,31 @@ slice-aggregate-rewrite c = search needs
 slice-aggregate-rewrite-2 : tie.Need-slice-aggregate-rewrite-2
 slice-aggregate-rewrite-2 c = search needs
 
+slice-aggregate-rewrite-3 : tie.Need-slice-aggregate-rewrite-3
+slice-aggregate-rewrite-3 c = search needs
+
 rewrite-requires : tie.Need-rewrite-requires
 rewrite-requires c κs =
-    let seen = c .before .before .before .before .before .before .before .before .before .before .before in
+    let seen = c .before .before .before .before .before .before .before .before .before .before .before .before in
     let p = seen .before .before .before .before .before .before .before .before .before .before .before .before .before .before .before .before .before .pre in
-    (p .0, (p .1 .0, (p .1 .1 .0, (seen .before .before .before .before .before .before .overlays .ensures .0, (seen .captures .ensures .shown, (c .before .before .before .before .before .passes .ensures .0, (p .1 .1 .1 .1 .0, p .1 .1 .1 .1 .1)))))))
+    (p .0, (p .1 .0, (p .1 .1 .0, (seen .before .before .before .before .before .before .overlays .ensures .0, (seen .captures .ensures .shown, (c .before .before .before .before .before .before .passes .ensures .0, ((p .1 .1 .1 .1 .0, p .1 .1 .1 .1 .1), kept-none (p .1 .0 .few))))))))
 
 fill-requires : tie.Need-fill-requires
-fill-requires c κs = let seen = c .before .before .before .before .before .before .before .before .before .before .before .before .before .before .before in omega (arith, seen .before .before .before .before .before .before .before .before .before .before .before .before .before .before .before .before .before .pre .1 .1 .1 .1 .2, seen .captures .ensures .long)
+fill-requires c κs = let seen = c .before .before .before .before .before .before .before .before .before .before .before .before .before .before .before .before .before in omega (arith, seen .before .before .before .before .before .before .before .before .before .before .before .before .before .before .before .before .before .pre .1 .1 .1 .1 .2, seen .captures .ensures .long)
 
 same-length : tie.Need-same-length
-same-length c = c .before .before .before .before .before .before .before .before .before .before .before .before .before .before .before .before .before .before .before .before .before .before .before .before .overlays .kept .1 .1 .1 .1 .1 .1 .1 .0
+same-length c = c .before .before .before .before .before .before .before .before .before .before .before .before .before .before .before .before .before .before .before .before .before .before .before .before .before .before .overlays .kept .1 .1 .1 .1 .1 .1 .1 .0
 
 same-length-2 : tie.Need-same-length-2
 same-length-2 c = search needs
 
 same-length-3 : tie.Need-same-length-3
-same-length-3 c = c .before .before .fill .kept .0 ∙ c .before .before .before .before .before .before .before .before .before .before .before .before .before .before .before .before .before .before .captures .kept .1 .1 .1 .1 .1 .1 .1 .1 .0
+same-length-3 c = search needs
 
 returns : tie.Need-returns
 returns c =
-    let seen = c .before .before .before .before .before .before .before .before .before .before .before .before .before .before .before .before .before .before in
-    (seen .before .before .before .before .before .before .overlays .ensures .1, (c .before .before .before .before .before .before .rewrite .ensures, clear-is (seen .captures .ensures) (c .before .before .fill .ensures)))
+    let seen = c .before .before .before .before .before .before .before .before .before .before .before .before .before .before .before .before .before .before .before .before in
+    (seen .before .before .before .before .before .before .overlays .ensures .1, (c .before .before .before .before .before .before .before .rewrite .ensures .0, clear-is (seen .captures .ensures) (c .before .before .fill .ensures)))
 
 pub rejudge-spec : {M : Type 1} → statement M
 rejudge-spec =
@@ -71,6 +78,7 @@ rejudge-spec =
     passes-requires
     slice-aggregate-rewrite
     slice-aggregate-rewrite-2
+    slice-aggregate-rewrite-3
     rewrite-requires
     fill-requires
     same-length

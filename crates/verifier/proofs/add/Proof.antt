@@ -99,7 +99,7 @@ rejudge-requires c κs =
     let o = told (a .library .now) (a .user .now) (a .used .now) e f .0 in
     let q = added-is (a .library .now) (a .user .now) (a .used .now) (a .verdicts .now) (a .scratch .now) (a .group .now) o in
     let w = admit-facts (a .library .now) (a .user .now) (a .group .now) (new (c .before .before .before .before .before .before .before .before .before .before .before .before .before .before .before .before .before .before .before .before .before .before .before .before .before .before .before .before .before)) (length (a .verdicts .now) / 2) (length (a .scratch .now)) (add-plain (a .library .now) (a .user .now) (a .used .now) (a .verdicts .now) (a .scratch .now) (a .group .now) o q) (c .before .before .before .before .before .before .before .before .before .before .before .admit .ensures) (c .before .before .before .before .before .before .before .admitted2 .given .1) in
-    (admitted-fits (add-sits (a .library .now) (a .user .now) (a .used .now) (a .verdicts .now) (a .scratch .now) (a .group .now) o) w, (w .indexed, (w .form, (w .memo-is, (marks-long (c .before .before .before .before .before .before .before .admitted2 .given .0 .1 .0 - 1), lines-room _ (w .room), w .enough)))))
+    (admitted-fits (add-sits (a .library .now) (a .user .now) (a .used .now) (a .verdicts .now) (a .scratch .now) (a .group .now) o) w, (w .indexed, (w .form, (w .memo-is, (marks-long (c .before .before .before .before .before .before .before .admitted2 .given .0 .1 .0 - 1) _, lines-room _ (w .room), w .enough)))))
 
 write-requires : tie.Need-write-requires
 write-requires c κs =
