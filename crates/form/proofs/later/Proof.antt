@@ -26,7 +26,7 @@ slice-aggregate-second-pass-2 : tie.Need-slice-aggregate-second-pass-2
 slice-aggregate-second-pass-2 c = search needs
 
 second-pass-requires : tie.Need-second-pass-requires
-second-pass-requires c κs = (c .before .before .before .before .before .before .before .before .before .before .before .before .before .pre .0, ((c .before .before .before .before .before .before .before .before .before .before .before .before .before .pre .1 .0), (c .before .before .before .before .before .before .prints .ensures, (c .before .before .before .counts .ensures, omega arith))))
+second-pass-requires c κs = (c .before .before .before .before .before .before .before .before .before .before .before .before .before .pre .0, ((c .before .before .before .before .before .before .before .before .before .before .before .before .before .pre .1 .0), (c .before .before .before .before .before .before .prints .ensures .0, (c .before .before .before .counts .ensures .0, omega arith))))
 
 enum-known-first : tie.Need-enum-known-first
 enum-known-first c = search needs
@@ -44,7 +44,7 @@ slice-aggregate-second-pass-4 : tie.Need-slice-aggregate-second-pass-4
 slice-aggregate-second-pass-4 c = search needs
 
 second-pass-requires-2 : tie.Need-second-pass-requires-2
-second-pass-requires-2 c κs = (c .before .before .before .before .before .before .before .before .before .before .before .before .before .before .before .before .before .before .pre .0, ((c .before .before .before .before .before .before .before .before .before .before .before .before .before .before .before .before .before .before .pre .1 .0), (c .before .before .before .before .before .before .before .before .before .before .before .prints .ensures, (c .before .before .before .before .before .before .before .before .counts .ensures, omega arith))))
+second-pass-requires-2 c κs = (c .before .before .before .before .before .before .before .before .before .before .before .before .before .before .before .before .before .before .pre .0, ((c .before .before .before .before .before .before .before .before .before .before .before .before .before .before .before .before .before .before .pre .1 .0), (c .before .before .before .before .before .before .before .before .before .before .before .prints .ensures .0, (c .before .before .before .before .before .before .before .before .counts .ensures .0, omega arith))))
 
 enum-known-second : tie.Need-enum-known-second
 enum-known-second c = search needs
