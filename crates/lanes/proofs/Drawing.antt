@@ -11,7 +11,7 @@ use native.Mathlib.Omega.{arith}
 use lib.Dec.{eqb}
 use lib.ListN.{length, getD, set}
 use borrow.Author.Tests.{eq-eqb, ne-eqb, eqb-true}
-use Rattle.lanes.specs.Lanes.{Fits, entryAt, Settled, Enclosers, fitsRow, Joint, Offered}
+use Rattle.lanes.specs.Lanes.{Fits, entryAt, Settled, Enclosers, fitsRow, eitherOf, Offered}
 use Rattle.lanes.proofs.Runs.{run-none, run-then, run-only, run-lower}
 
 -- ---- the row of marks says what fits
@@ -69,7 +69,7 @@ module _ {marks : List ℕ} {n lanes m t : ℕ} where
   pub lanes-none : (s : List ℕ) → Offered marks n lanes m t (λ j. j < 0) s s 0
   lanes-none s = record { run = λ step outer e g. run-none s (λ j q. absurd (not-suc-le-zero q)) }
 
-  pub lanes-next : {s₀ s s′ : List ℕ} {k a b r : ℕ} → Offered marks n lanes m t (λ j. j < k) s₀ s a → Offered marks n lanes m t (λ j. j ≡ k) s s′ b → Joint a b r
+  pub lanes-next : {s₀ s s′ : List ℕ} {k a b r : ℕ} → Offered marks n lanes m t (λ j. j < k) s₀ s a → Offered marks n lanes m t (λ j. j ≡ k) s s′ b → r ≡ eitherOf a b
       → Offered marks n lanes m t (λ j. j < k + 1) s₀ s′ r
   lanes-next {k = k} f h e =
       record {

@@ -88,9 +88,9 @@ pub record Run (step : ℕ → List ℕ) (outer : ℕ → ℕ) (n lanes : ℕ) (
   pub still : r ≡ 0 → s ≡ s₀
   pub closed : r ≡ 0 → P s₀
 
--- r answers for a part that answered a and the next one, that answered b
-abbrev pub Joint : ℕ → ℕ → ℕ → Type 0
-Joint a b r = (r ≤ a + b) × (r ≡ 0 → (a ≡ 0) × (b ≡ 0))
+-- the answer for two parts of a search: the first one's, but the second's where the first changed nothing
+unfoldable pub eitherOf : ℕ → ℕ → ℕ
+eitherOf a b = elim (eqb a 0) [ true ↦ b | false ↦ a ]
 
 -- Class m was offered what t has, in the lanes named. Only the row of marks was asked, so it holds for all steps and enclosers that the marks are right for.
 pub record Offered (marks : List ℕ) (n lanes m t : ℕ) (lane : ℕ → Type 0) (s₀ s : List ℕ) (r : ℕ) : Type 0 where

@@ -3,7 +3,7 @@ ghost use mathlib.Core.Path.{_≡_};
 ghost use Prim.Native.Nat.{_*_, _≤_, _<_};
 ghost use mathlib.Core.List.{_++_};
 ghost use lib.ListN.{length, getD, drop, replicate};
-ghost use Rattle.lanes.specs.Lanes.{Joint, fitsRow, Offered, placeOf};
+ghost use Rattle.lanes.specs.Lanes.{eitherOf, fitsRow, Offered, placeOf};
 
 fn wide(x: u8) -> usize
     ensures { λ r. ⌜ (r ≡ x) × (r < 256) ⌝ }
@@ -32,7 +32,7 @@ pub fn entry(row: &[u8], i: usize) -> usize
 
 // Joins the answers of two parts of a search: 0 only where neither changed anything. A sum would say the same, but might grow too large.
 pub fn either(a: usize, b: usize) -> usize
-    ensures { λ r. ⌜ Joint a b r ⌝ }
+    ensures { λ r. ⌜ r ≡ eitherOf a b ⌝ }
 {
     if a == 0 { b } else { a }
 }

@@ -17,7 +17,7 @@ use Rattle.groups.proofs.Between.{tiled-end}
 use Rattle.groups.proofs.Walks.{walk-here, walk-next}
 use Rattle.groups.proofs.Nth.{nth-record}
 use Rattle.named.specs.Named.{firstNamed, secondNamed, namedBy}
-use Rattle.lanes.specs.Lanes.{Settled, Run, SettledAt, Enclosers, Joint, Offered}
+use Rattle.lanes.specs.Lanes.{Settled, Run, SettledAt, Enclosers, eitherOf, Offered}
 use Rattle.lanes.proofs.Rows.{getD-any}
 use Rattle.lanes.proofs.Runs.{run-none}
 use Rattle.lanes.proofs.Visiting.{VisitAt, visit-start, visit-next, visit-end}
@@ -77,8 +77,8 @@ scan-start {marks = marks} builds n lanes m row p w =
     record { place = p; long = refl; visit = λ step outer h. visit-start step outer n lanes m marks row w (h .1) _ (sym (h .0)) }
 
 module _ {bytes marks : List ℕ} {builds : Bool} {n lanes m : ℕ} {row₀ row : List ℕ} {a at : ℕ} (f : ScanAt bytes marks builds n lanes m row₀ row a at) where
-  pub scan-next : {row₁ row₂ : List ℕ} {t u l b c x y : ℕ} → at < length bytes → t ≡ firstNamed builds (recordAt bytes at) → Offered marks n lanes m t (λ j. j < lanes) row row₁ b → Joint a b x
-      → length row₁ ≡ length row → u ≡ secondNamed builds (recordAt bytes at) → Offered marks n lanes m u (λ j. j < lanes) row₁ row₂ c → Joint x c y → length row₂ ≡ length row₁ → l ≡ u16 bytes at
+  pub scan-next : {row₁ row₂ : List ℕ} {t u l b c x y : ℕ} → at < length bytes → t ≡ firstNamed builds (recordAt bytes at) → Offered marks n lanes m t (λ j. j < lanes) row row₁ b → x ≡ eitherOf a b
+      → length row₁ ≡ length row → u ≡ secondNamed builds (recordAt bytes at) → Offered marks n lanes m u (λ j. j < lanes) row₁ row₂ c → y ≡ eitherOf x c → length row₂ ≡ length row₁ → l ≡ u16 bytes at
       → ScanAt bytes marks builds n lanes m row₀ row₂ y (at + l)
   unfolding recordAt
   scan-next h et o e q eu o′ e′ q′ el =
