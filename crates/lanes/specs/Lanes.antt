@@ -7,9 +7,9 @@ use mathlib.Core.Path.{_≡_}
 use mathlib.Core.Bool.{Bool, true, false, _||_}
 use mathlib.Core.List.{List, [], _∷_, List·Memᴰ}
 use mathlib.Core.Logic.{_⊎_}
-use Prim.Native.Nat.{ℕ, _+_, _*_, _-_, _≤_, _<_}
-use lib.Dec.{eqb}
-use lib.ListN.{getD}
+use Prim.Native.Nat.{ℕ, zero, suc, _+_, _*_, _-_, _≤_, _<_}
+use lib.Dec.{eqb, ltb}
+use lib.ListN.{getD, set}
 
 -- ---- enclosers
 
@@ -22,6 +22,11 @@ pub data Inside (outer : ℕ → ℕ) (x : ℕ) : ℕ → Type 0 where
 pub record Enclosers (outer : ℕ → ℕ) (m : ℕ) (marks : List ℕ) : Type 0 where
   pub only : (x : ℕ) → getD marks x 0 ≡ 1 → Inside outer x m
   pub every : (x : ℕ) → Inside outer x m → getD marks x 0 ≡ 1
+
+-- the row with 1 written at each class that a walk up from class c comes to, in at most `left` steps
+unfoldable pub markedUp : (ℕ → ℕ) → ℕ → ℕ → List ℕ → List ℕ
+markedUp outer zero c row = row
+markedUp outer (suc left) c row = elim (ltb (outer c) c) [ true ↦ markedUp outer left (outer c) (set row (outer c) 1) | false ↦ row ]
 
 -- m may have the owner y: an encloser of m, or 0, which any class may have: it is the mark in a search for dependents
 abbrev pub Fits : (ℕ → ℕ) → ℕ → ℕ → Type 0
