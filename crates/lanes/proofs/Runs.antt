@@ -9,8 +9,9 @@ use native.Mathlib.Omega.{arith}
 use borrow.Author.Tests.{eq-eqb, ne-eqb}
 use lib.ListN.{length, getD, set}
 use lib.Seq.{getD-set-same, getD-set-other}
-use Rattle.lanes.specs.Lanes.{Fits, Draws, via, entryAt, Sound, Other, Run, eitherOf}
+use Rattle.lanes.specs.Lanes.{Enclosers, Fits, Draws, via, entryAt, Sound, Other, Settled, Run, eitherOf}
 use Rattle.lanes.proofs.Rows.{sum-set}
+use Rattle.lanes.proofs.Enclosing.{fits-owner}
 
 -- ---- answers
 
@@ -79,13 +80,13 @@ module _ (step : ℕ → List ℕ) (outer : ℕ → ℕ) (n lanes : ℕ) (s : Li
           getD-set-other s (k * 256 + m) (k′ * 256 + m′) (entryAt s k t) 255 q in
           rw ev (h k′ m′ hk′ hm′ (rw ev at v))
 
-  pub run-lower : (P : List ℕ → Type 0) → entryAt s k t < entryAt s k m → entryAt s k m ≤ 255 → Fits outer (entryAt s k t) m → List·Memᴰ t (step m)
+  pub run-lower : (P : List ℕ → Type 0) → entryAt s k t < entryAt s k m → Fits outer (entryAt s k t) m → List·Memᴰ t (step m)
       → Run step outer n lanes P s (set s (k * 256 + m) (entryAt s k t)) 1
   unfolding Other
-  run-lower P lt b f e =
+  run-lower P lt f e =
       let l : k * 256 + m < length s = omega arith in
       record {
-        keeps = lower-sound (omega arith) f e;
+        keeps = lower-sound (fits-owner (omega arith) f) f e;
         down = λ i. go i (ℕ-discrete i (k * 256 + m));
         kept = λ i o. getD-set-other s (k * 256 + m) i (entryAt s k t) 255 (λ q. o k m hk hm q);
         less = let u = sum-set s (k * 256 + m) (entryAt s k t) l in omega arith;
@@ -96,3 +97,8 @@ module _ (step : ℕ → List ℕ) (outer : ℕ → ℕ) (n lanes : ℕ) (s : Li
       go : (i : ℕ) → Dec (i ≡ k * 256 + m) → getD (set s (k * 256 + m) (entryAt s k t)) i 255 ≤ getD s i 255
       go i (yes q) = let u = getD-set-same s (k * 256 + m) (entryAt s k t) 255 (omega arith) in rw (q, u) (omega arith)
       go i (no q) = let u = getD-set-other s (k * 256 + m) i (entryAt s k t) 255 q in omega arith
+
+-- Class m was offered what t has, in the lanes named. Only the row of marks was asked, so it holds for all steps and enclosers that the marks are right for.
+pub record Offered (marks : List ℕ) (n lanes m t : ℕ) (lane : ℕ → Type 0) (s₀ s : List ℕ) (r : ℕ) : Type 0 where
+  pub run : (step : ℕ → List ℕ) (outer : ℕ → ℕ) → List·Memᴰ t (step m) → Enclosers outer m marks
+      → Run step outer n lanes (λ s. (k : ℕ) → lane k → Settled outer n k m s t) s₀ s r

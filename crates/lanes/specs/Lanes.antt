@@ -4,7 +4,7 @@
 -- Only the n classes below n and the first `lanes` lanes count.
 -- Assumes nothing.
 use mathlib.Core.Path.{_≡_}
-use mathlib.Core.Bool.{Bool, true, false, _||_}
+use mathlib.Core.Bool.{Bool, true, false, _&&_, _||_}
 use mathlib.Core.List.{List, [], _∷_, List·Memᴰ}
 use mathlib.Core.Logic.{_⊎_}
 use Prim.Native.Nat.{ℕ, zero, suc, _+_, _*_, _-_, _≤_, _<_}
@@ -97,10 +97,31 @@ pub record Run (step : ℕ → List ℕ) (outer : ℕ → ℕ) (n lanes : ℕ) (
 unfoldable pub eitherOf : ℕ → ℕ → ℕ
 eitherOf a b = elim (eqb a 0) [ true ↦ b | false ↦ a ]
 
--- Class m was offered what t has, in the lanes named. Only the row of marks was asked, so it holds for all steps and enclosers that the marks are right for.
-pub record Offered (marks : List ℕ) (n lanes m t : ℕ) (lane : ℕ → Type 0) (s₀ s : List ℕ) (r : ℕ) : Type 0 where
-  pub run : (step : ℕ → List ℕ) (outer : ℕ → ℕ) → List·Memᴰ t (step m) → Enclosers outer m marks
-      → Run step outer n lanes (λ s. (k : ℕ) → lane k → Settled outer n k m s t) s₀ s r
+-- ---- one class draws from one other
+
+-- in lane k class t has an owner that is lower than that of m and fits m
+unfoldable pub lowers : List ℕ → ℕ → ℕ → ℕ → List ℕ → Bool
+lowers marks m t k row = ltb (entryAt row k t) (entryAt row k m) && fitsRow marks (entryAt row k t)
+
+-- then m takes it, and nothing else changes; the answer says whether it did
+unfoldable pub drawn : List ℕ → ℕ → ℕ → ℕ → List ℕ → List ℕ
+drawn marks m t k row = elim (lowers marks m t k row) [ true ↦ set row (k * 256 + m) (entryAt row k t) | false ↦ row ]
+
+unfoldable pub drew : List ℕ → ℕ → ℕ → ℕ → List ℕ → ℕ
+drew marks m t k row = elim (lowers marks m t k row) [ true ↦ 1 | false ↦ 0 ]
+
+-- the same in the first `lanes` lanes, one after another
+unfoldable pub drawnLanes : List ℕ → ℕ → ℕ → ℕ → List ℕ → List ℕ
+drawnLanes marks m t zero row = row
+drawnLanes marks m t (suc k) row = drawn marks m t k (drawnLanes marks m t k row)
+
+unfoldable pub drewLanes : List ℕ → ℕ → ℕ → ℕ → List ℕ → ℕ
+drewLanes marks m t zero row = 0
+drewLanes marks m t (suc k) row = eitherOf (drewLanes marks m t k row) (drew marks m t k (drawnLanes marks m t k row))
+
+-- a number that is no class offers nothing in any lane
+unfoldable pub lanesOf : ℕ → ℕ → ℕ → ℕ
+lanesOf n lanes t = elim (ltb t n) [ true ↦ lanes | false ↦ 0 ]
 
 -- the i-th class of a sweep upwards or downwards
 unfoldable pub placeOf : Bool → ℕ → ℕ → ℕ
