@@ -89,7 +89,8 @@ loop-less c = omega (arith, walk-on (c .before .before .before .before .before .
 
 loop-again : tie.Need-loop-again Inv-loop μ-loop
 loop-again c =
-    let p = c .before .before .before .before .before .before .before .before .before .before .before .before .before .before .before .before .pre in
+    let start = c .before .before .before .before .before .before .before .before .before .before .before .before .before .before .before .before in
+    let p = start .pre in
     let f = c .before .before .before .before .before .loop .inv in
     let low = c .before .before .before .before .loop-test .taken in
     let z = walk-sized (f .place) low in
@@ -98,8 +99,10 @@ loop-again c =
     let size = c .before .before .wide .ensures .0 ∙ c .before .before .before .word-in .ensures in
     let right = marks-enclosers 256 (omega (arith, p .1 .1 .1 .1 .1 .0, p .1 .0 .few)) (c .before .before .before .before .before .before .before .enclosers .ensures) in
     ⊎-elim
-    (λ w. seed-next f low (record-uses (p .1 .0) (p .1 .1 .0) (c .before .before .before .before .before .before .before .before .before .before .before .before .before .before .before .before .args .m) z e kind (w .0 .taken) (w .2 .ensures .0) (w .1 .ensures) (w .4 .ensures .0) (w .3 .ensures) (w .5 .ensures) right (w .8 .ensures)) (w .11) size)
-    (λ w. seed-next f low (record-other (p .1 .0) (p .1 .1 .0) (c .before .before .before .before .before .before .before .before .before .before .before .before .before .before .before .before .args .m) z e kind (w .0 .left) _) (w .1) size)
+    (λ w. seed-next f low
+    (record-uses (p .1 .0) (p .1 .1 .0) (start .args .m) z e kind (w .0 .taken) (w .2 .ensures .0) (w .1 .ensures) (w .4 .ensures .0)
+    (w .3 .ensures) (w .5 .ensures) right (w .8 .ensures)) (w .11) size)
+    (λ w. seed-next f low (record-other (p .1 .0) (p .1 .1 .0) (start .args .m) z e kind (w .0 .left) _) (w .1) size)
     (c .if1 .came)
 
 same-length : tie.Need-same-length Inv-loop μ-loop

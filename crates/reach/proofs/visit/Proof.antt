@@ -41,7 +41,9 @@ slice-aggregate-enclosers : tie.Need-slice-aggregate-enclosers
 slice-aggregate-enclosers c = search needs
 
 enclosers-requires : tie.Need-enclosers-requires
-enclosers-requires c κs = let p = c .before .before .before .before .before .before .before .before .before .before .before .before .before .pre in (p .0, (p .1 .0, (p .1 .1 .0, omega (arith, p .1 .1 .0, p .1 .0 .few))))
+enclosers-requires c κs =
+    let p = c .before .before .before .before .before .before .before .before .before .before .before .before .before .pre in
+    (p .0, (p .1 .0, (p .1 .1 .0, omega (arith, p .1 .1 .0, p .1 .0 .few))))
 
 slice-aggregate-scan : tie.Need-slice-aggregate-scan
 slice-aggregate-scan c = search needs
