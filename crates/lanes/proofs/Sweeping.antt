@@ -8,7 +8,7 @@ use Prim.Native.Nat.{ℕ, _+_, _≤_, _<_}
 use native.Mathlib.Nat.{not-suc-le-zero, le-of-suc-le-suc, eq-or-lt-of-le}
 use native.Mathlib.Omega.{arith}
 use lib.ListN.{length}
-use Rattle.lanes.specs.Lanes.{Run, SettledAt, AllSettled, Joint, placeOf}
+use Rattle.lanes.specs.Lanes.{Run, SettledAt, AllSettled, eitherOf, placeOf}
 use Rattle.lanes.proofs.Runs.{run-none, run-then, run-only}
 
 -- ---- the order: each class has its turn
@@ -33,7 +33,7 @@ pub sweep-start : (step : ℕ → List ℕ) (outer : ℕ → ℕ) (n lanes : ℕ
 sweep-start step outer n lanes up s = record { long = refl; run = run-none s (λ j l. absurd (not-suc-le-zero l)) }
 
 module _ {step : ℕ → List ℕ} {outer : ℕ → ℕ} {n lanes : ℕ} {up : Bool} {s₀ s : List ℕ} {a i : ℕ} (f : SweepAt step outer n lanes up s₀ s a i) where
-  pub sweep-next : {s′ : List ℕ} {m b r : ℕ} → m ≡ placeOf up n i → Run step outer n lanes (SettledAt step outer n lanes m) s s′ b → Joint a b r
+  pub sweep-next : {s′ : List ℕ} {m b r : ℕ} → m ≡ placeOf up n i → Run step outer n lanes (SettledAt step outer n lanes m) s s′ b → r ≡ eitherOf a b
       → length s′ ≡ length s → SweepAt step outer n lanes up s₀ s′ r (i + 1)
   sweep-next q h e l =
       record {

@@ -5,8 +5,8 @@ use mathlib.Core.List.{List, [], _∷_, List·Memᴰ, List·Memᴰ·cases-cons, 
 use mathlib.Core.Logic.{⊎-elim}
 use Prim.Native.Nat.{ℕ, _<_}
 use lib.ListN.{length}
-use Rattle.lanes.specs.Lanes.{Settled, Run, SettledAt, Enclosers, Joint, Offered}
-use Rattle.lanes.proofs.Runs.{run-none, run-then, run-only}
+use Rattle.lanes.specs.Lanes.{Settled, Run, SettledAt, Enclosers, eitherOf}
+use Rattle.lanes.proofs.Runs.{run-none, run-then, run-only, Offered}
 
 -- The steps of m to the classes `rest` are still to be taken: if m is settled with these, it is settled.
 pub record VisitAt (step : ℕ → List ℕ) (outer : ℕ → ℕ) (n lanes m : ℕ) (marks s₀ s rest : List ℕ) (a : ℕ) : Type 0 where
@@ -29,7 +29,7 @@ visit-start step outer n lanes m marks s w g rest q =
     }
 
 module _ {step : ℕ → List ℕ} {outer : ℕ → ℕ} {n lanes m : ℕ} {marks s₀ s rest : List ℕ} {a : ℕ} (f : VisitAt step outer n lanes m marks s₀ s rest a) where
-  pub visit-next : {s′ rest′ : List ℕ} {t b r : ℕ} → rest ≡ t ∷ rest′ → Offered marks n lanes m t (λ j. j < lanes) s s′ b → Joint a b r → length s′ ≡ length s
+  pub visit-next : {s′ rest′ : List ℕ} {t b r : ℕ} → rest ≡ t ∷ rest′ → Offered marks n lanes m t (λ j. j < lanes) s s′ b → r ≡ eitherOf a b → length s′ ≡ length s
       → VisitAt step outer n lanes m marks s₀ s′ rest′ r
   visit-next {s′} {rest′} {t} q o e l =
       record {

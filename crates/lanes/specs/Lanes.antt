@@ -4,12 +4,12 @@
 -- Only the n classes below n and the first `lanes` lanes count.
 -- Assumes nothing.
 use mathlib.Core.Path.{_≡_}
-use mathlib.Core.Bool.{Bool, true, false, _||_}
+use mathlib.Core.Bool.{Bool, true, false, _&&_, _||_}
 use mathlib.Core.List.{List, [], _∷_, List·Memᴰ}
 use mathlib.Core.Logic.{_⊎_}
-use Prim.Native.Nat.{ℕ, _+_, _*_, _-_, _≤_, _<_}
-use lib.Dec.{eqb}
-use lib.ListN.{getD}
+use Prim.Native.Nat.{ℕ, zero, suc, _+_, _*_, _-_, _≤_, _<_}
+use lib.Dec.{eqb, ltb}
+use lib.ListN.{getD, set}
 
 -- ---- enclosers
 
@@ -22,6 +22,11 @@ pub data Inside (outer : ℕ → ℕ) (x : ℕ) : ℕ → Type 0 where
 pub record Enclosers (outer : ℕ → ℕ) (m : ℕ) (marks : List ℕ) : Type 0 where
   pub only : (x : ℕ) → getD marks x 0 ≡ 1 → Inside outer x m
   pub every : (x : ℕ) → Inside outer x m → getD marks x 0 ≡ 1
+
+-- the row with 1 written at each class that a walk up from class c comes to, in at most `left` steps
+unfoldable pub markedUp : (ℕ → ℕ) → ℕ → ℕ → List ℕ → List ℕ
+markedUp outer zero c row = row
+markedUp outer (suc left) c row = elim (ltb (outer c) c) [ true ↦ markedUp outer left (outer c) (set row (outer c) 1) | false ↦ row ]
 
 -- m may have the owner y: an encloser of m, or 0, which any class may have: it is the mark in a search for dependents
 abbrev pub Fits : (ℕ → ℕ) → ℕ → ℕ → Type 0
@@ -88,14 +93,35 @@ pub record Run (step : ℕ → List ℕ) (outer : ℕ → ℕ) (n lanes : ℕ) (
   pub still : r ≡ 0 → s ≡ s₀
   pub closed : r ≡ 0 → P s₀
 
--- r answers for a part that answered a and the next one, that answered b
-abbrev pub Joint : ℕ → ℕ → ℕ → Type 0
-Joint a b r = (r ≤ a + b) × (r ≡ 0 → (a ≡ 0) × (b ≡ 0))
+-- the answer for two parts of a search: the first one's, but the second's where the first changed nothing
+unfoldable pub eitherOf : ℕ → ℕ → ℕ
+eitherOf a b = elim (eqb a 0) [ true ↦ b | false ↦ a ]
 
--- Class m was offered what t has, in the lanes named. Only the row of marks was asked, so it holds for all steps and enclosers that the marks are right for.
-pub record Offered (marks : List ℕ) (n lanes m t : ℕ) (lane : ℕ → Type 0) (s₀ s : List ℕ) (r : ℕ) : Type 0 where
-  pub run : (step : ℕ → List ℕ) (outer : ℕ → ℕ) → List·Memᴰ t (step m) → Enclosers outer m marks
-      → Run step outer n lanes (λ s. (k : ℕ) → lane k → Settled outer n k m s t) s₀ s r
+-- ---- one class draws from one other
+
+-- in lane k class t has an owner that is lower than that of m and fits m
+unfoldable pub lowers : List ℕ → ℕ → ℕ → ℕ → List ℕ → Bool
+lowers marks m t k row = ltb (entryAt row k t) (entryAt row k m) && fitsRow marks (entryAt row k t)
+
+-- then m takes it, and nothing else changes; the answer says whether it did
+unfoldable pub drawn : List ℕ → ℕ → ℕ → ℕ → List ℕ → List ℕ
+drawn marks m t k row = elim (lowers marks m t k row) [ true ↦ set row (k * 256 + m) (entryAt row k t) | false ↦ row ]
+
+unfoldable pub drew : List ℕ → ℕ → ℕ → ℕ → List ℕ → ℕ
+drew marks m t k row = elim (lowers marks m t k row) [ true ↦ 1 | false ↦ 0 ]
+
+-- the same in the first `lanes` lanes, one after another
+unfoldable pub drawnLanes : List ℕ → ℕ → ℕ → ℕ → List ℕ → List ℕ
+drawnLanes marks m t zero row = row
+drawnLanes marks m t (suc k) row = drawn marks m t k (drawnLanes marks m t k row)
+
+unfoldable pub drewLanes : List ℕ → ℕ → ℕ → ℕ → List ℕ → ℕ
+drewLanes marks m t zero row = 0
+drewLanes marks m t (suc k) row = eitherOf (drewLanes marks m t k row) (drew marks m t k (drawnLanes marks m t k row))
+
+-- a number that is no class offers nothing in any lane
+unfoldable pub lanesOf : ℕ → ℕ → ℕ → ℕ
+lanesOf n lanes t = elim (ltb t n) [ true ↦ lanes | false ↦ 0 ]
 
 -- the i-th class of a sweep upwards or downwards
 unfoldable pub placeOf : Bool → ℕ → ℕ → ℕ

@@ -3,7 +3,7 @@ ghost use mathlib.Core.Path.{_≡_};
 ghost use Prim.Native.Nat.{_*_, _≤_, _<_};
 ghost use mathlib.Core.List.{_++_};
 ghost use lib.ListN.{length, getD, drop, replicate};
-ghost use Rattle.lanes.specs.Lanes.{Joint, fitsRow, Offered, placeOf};
+ghost use Rattle.lanes.specs.Lanes.{eitherOf, fitsRow, drawn, drew, drawnLanes, drewLanes, lanesOf, placeOf};
 
 fn wide(x: u8) -> usize
     ensures { λ r. ⌜ (r ≡ x) × (r < 256) ⌝ }
@@ -32,7 +32,7 @@ pub fn entry(row: &[u8], i: usize) -> usize
 
 // Joins the answers of two parts of a search: 0 only where neither changed anything. A sum would say the same, but might grow too large.
 pub fn either(a: usize, b: usize) -> usize
-    ensures { λ r. ⌜ Joint a b r ⌝ }
+    ensures { λ r. ⌜ r ≡ eitherOf a b ⌝ }
 {
     if a == 0 { b } else { a }
 }
@@ -51,7 +51,8 @@ fn fits(marks: &[u8], y: usize) -> bool
 // Class m takes in lane k what t has there, if that is lower and fits m. Answers 0 where nothing changes, so that a search knows when to end.
 fn draw(marks: &[u8], n: usize, lanes: usize, k: usize, m: usize, t: usize, row: &mut [u8]) -> usize
     requires { ⌜ (n ≤ 256) × (lanes ≤ 256) × (lanes * 256 ≤ length (now row)) × (256 ≤ length (now marks)) × (k < lanes) × (m < n) × (t < n) ⌝ }
-    ensures { λ r. ⌜ Offered (now (marks .entry)) n lanes m t (λ j. j ≡ k) (now (row .entry)) (now (row .exit)) r ⌝ }
+    ensures row { λ r. ⌜ now (row .exit) ≡ drawn (now (marks .entry)) m t k (now (row .entry)) ⌝ }
+    ensures answer { λ r. ⌜ r ≡ drew (now (marks .entry)) m t k (now (row .entry)) ⌝ }
 {
     let has = entry(row, k * 256 + m);
     let new = entry(row, k * 256 + t);
@@ -68,7 +69,8 @@ fn draw(marks: &[u8], n: usize, lanes: usize, k: usize, m: usize, t: usize, row:
 // The same in each lane. A record may name a class that is not there: nothing is drawn from it.
 pub fn draw_lanes(marks: &[u8], n: usize, lanes: usize, m: usize, t: usize, row: &mut [u8]) -> usize
     requires { ⌜ (n ≤ 256) × (lanes ≤ 256) × (lanes * 256 ≤ length (now row)) × (256 ≤ length (now marks)) × (m < n) ⌝ }
-    ensures { λ r. ⌜ Offered (now (marks .entry)) n lanes m t (λ j. j < lanes) (now (row .entry)) (now (row .exit)) r ⌝ }
+    ensures row { λ r. ⌜ now (row .exit) ≡ drawnLanes (now (marks .entry)) m t (lanesOf n lanes t) (now (row .entry)) ⌝ }
+    ensures answer { λ r. ⌜ r ≡ drewLanes (now (marks .entry)) m t (lanesOf n lanes t) (now (row .entry)) ⌝ }
 {
     if n <= t {
         return 0;

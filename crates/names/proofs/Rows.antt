@@ -8,35 +8,22 @@ use native.Mathlib.Nat.{sub-zero}
 use native.Mathlib.Numerals.{add-one}
 use native.Mathlib.Omega.{arith}
 use lib.Dec.{eqb}
-use lib.ListN.{length, getD, take, drop, set, length-set}
+use lib.ListN.{length, getD, take, drop}
 use lib.Seq.{drop-cons}
-use borrow.Author.Count.{below-none}
 use borrow.Author.Tests.{eq-eqb, ne-eqb}
 use Rattle.spec.specs.Lists.{any, elem}
 use Rattle.spec.specs.Record.{className}
 use Rattle.spec.specs.Sheet.{Group, classRecord}
-use Rattle.theory.proofs.Rows.{set-below}
+use Rattle.theory.proofs.Rows.{Filling}
 use Rattle.names.specs.Names.{printOf, Printed}
 
 -- ---- filled
 
--- the entries below c are there
-pub record Filling (g : ℕ → Group) (size : ℕ) (row : List ℕ) (c : ℕ) : Type 0 where
-  pub long : length row ≡ size
-  pub prints : (d : ℕ) → d < c → getD row d 0 ≡ printOf (className (classRecord (g d)))
+abbrev pub printAt : (ℕ → Group) → ℕ → ℕ
+printAt g d = printOf (className (classRecord (g d)))
 
-pub fill-start : {g : ℕ → Group} {size : ℕ} {row : List ℕ} → length row ≡ size → Filling g size row 0
-fill-start l = record { long = l; prints = below-none _ }
-
-module _ {g : ℕ → Group} {size : ℕ} {row : List ℕ} {c : ℕ} (f : Filling g size row c) where
-  pub fill-next : c < size → {p : ℕ} → p ≡ printOf (className (classRecord (g c))) → Filling g size (set row c p) (c + 1)
-  fill-next h {p} e = record {
-    long = length-set row c p ∙ f .long;
-    prints = set-below (λ d x. x ≡ printOf (className (classRecord (g d)))) row c p (omega (arith, f .long)) (f .prints) e;
-  }
-
-  pub fill-end : {n : ℕ} → n ≤ c → n ≤ size → Printed g n row
-  fill-end h l = record { long = omega (arith, f .long); prints = λ d k. f .prints d (omega arith) }
+pub fill-end : {g : ℕ → Group} {n : ℕ} {before row : List ℕ} {c : ℕ} → Filling (printAt g) n before row c → n ≤ c → n ≤ length before → Printed g n row
+fill-end w h room = record { long = omega (arith, w .long); prints = λ d k. w .new d (omega arith) }
 
 -- ---- searched
 

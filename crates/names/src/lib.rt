@@ -4,7 +4,7 @@ use view::Cut;
 use view::word_in;
 ghost use mathlib.Core.Path.{_≡_};
 ghost use Prim.Native.Nat.{_≤_, _<_};
-ghost use lib.ListN.{length, take};
+ghost use lib.ListN.{length, take, drop};
 ghost use Rattle.spec.specs.Lists.{elem};
 ghost use Rattle.spec.specs.Record.{className};
 ghost use Rattle.spec.specs.Sheet.{group as groupOf, classRecord};
@@ -60,7 +60,7 @@ fn class_print<'a>(
     print_in(class_bytes(library, user, group, cut, starts, nlib, n, c))
 }
 
-// Fills a row with the fingerprint of each class.
+// Fills a row with the fingerprint of each class; what stands past them is kept.
 pub fn prints<'a>(
     library: &'a [u8],
     user: &'a [u8],
@@ -74,7 +74,8 @@ pub fn prints<'a>(
     requires { ⌜ Fits cut (now user) (now group) ⌝ }
     requires { ⌜ Indexed (now library) (spliced (now user) (now group) cut) nlib n (now starts) ⌝ }
     requires { ⌜ n ≤ length (now row) ⌝ }
-    ensures { λ r. ⌜ Printed (groupOf (now (library .entry)) (spliced (now (user .entry)) (now (group .entry)) cut)) n (now (row .exit)) ⌝ }
+    ensures first { λ r. ⌜ Printed (groupOf (now (library .entry)) (spliced (now (user .entry)) (now (group .entry)) cut)) n (now (row .exit)) ⌝ }
+    ensures rest { λ r. ⌜ drop n (now (row .exit)) ≡ drop n (now (row .entry)) ⌝ }
 {
     let mut c = 0;
     while c < n {

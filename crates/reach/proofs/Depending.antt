@@ -51,12 +51,16 @@ module _ {before row : List ℕ} {d : ℕ} (f : Emptied 256 before row) (h : d <
   seed-zero : getD (set row d 0) d 255 ≡ 0
   seed-zero = getD-set-same row d 0 255 (omega (arith, f .long))
 
-  pub seeds-fit : (outer : ℕ → ℕ) (n : ℕ) → n ≤ 256 → SeedsFit outer n 1 (set row d 0)
+  -- where no owner but 0 is written, which fits any class
+  pub seeds-fit : {x : ℕ} → (x < 255 → x ≡ 0) → (outer : ℕ → ℕ) (n : ℕ) → n ≤ 256 → SeedsFit outer n 1 (set row d x)
   unfolding SeedsFit
-  seeds-fit outer n few k m hk hm v =
-      let e : k * 256 + m ≡ m = omega arith in
-      let q : getD (set row d 0) m 255 < 255 = subst (λ (i : ℕ). getD (set row d 0) i 255 < 255) e v in
-      inl (ap (λ (i : ℕ). getD (set row d 0) i 255) (e ∙ seed-at m (omega arith) .0 q) ∙ seed-zero)
+  seeds-fit {x} z outer n few k m hk hm v = inl (go (ℕ-discrete (k * 256 + m) d))
+    where
+      go : Dec (k * 256 + m ≡ d) → getD (set row d x) (k * 256 + m) 255 ≡ 0
+      go (yes e) =
+          let u = ap (λ (i : ℕ). getD (set row d x) i 255) e ∙ getD-set-same row d x 255 (omega (arith, f .long)) in
+          u ∙ z (omega (arith, u, v))
+      go (no e) = absurd (omega (arith, v, getD-set-other row d (k * 256 + m) x 255 e, f .none (k * 256 + m) (omega arith)))
 
 -- ---- the steps to classes are what the records name
 

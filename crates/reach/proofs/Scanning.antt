@@ -17,9 +17,10 @@ use Rattle.groups.proofs.Between.{tiled-end}
 use Rattle.groups.proofs.Walks.{walk-here, walk-next}
 use Rattle.groups.proofs.Nth.{nth-record}
 use Rattle.named.specs.Named.{firstNamed, secondNamed, namedBy}
-use Rattle.lanes.specs.Lanes.{Settled, Run, SettledAt, Enclosers, Joint, Offered}
+use Rattle.lanes.specs.Lanes.{Settled, Run, SettledAt, Enclosers, eitherOf}
 use Rattle.lanes.proofs.Rows.{getD-any}
-use Rattle.lanes.proofs.Runs.{run-none}
+use Rattle.lanes.proofs.Runs.{run-none, Offered}
+use Rattle.lanes.proofs.Drawing.{Drawn, offered}
 use Rattle.lanes.proofs.Visiting.{VisitAt, visit-start, visit-next, visit-end}
 use Rattle.reach.specs.Reach.{namedIn, stepsOf, outerOf, Scanned}
 use Rattle.reach.proofs.Depending.{steps-in}
@@ -69,26 +70,41 @@ Right bytes marks builds m step outer = (step m ≡ namedIn builds (between byte
 
 pub record ScanAt (bytes marks : List ℕ) (builds : Bool) (n lanes m : ℕ) (row₀ row : List ℕ) (a at : ℕ) : Type 0 where
   pub place : AtRecord bytes (length bytes) at
+  pub few : n ≤ 256
+  pub there : m < n
+  pub room : lanes * 256 ≤ length row₀
   pub long : length row ≡ length row₀
   pub visit : (step : ℕ → List ℕ) (outer : ℕ → ℕ) → Right bytes marks builds m step outer → VisitAt step outer n lanes m marks row₀ row (namedIn builds (between bytes at (length bytes))) a
 
-pub scan-start : {bytes marks : List ℕ} (builds : Bool) (n lanes m : ℕ) (row : List ℕ) → AtRecord bytes (length bytes) 0 → length marks ≡ 256 → ScanAt bytes marks builds n lanes m row row 0 0
-scan-start {marks = marks} builds n lanes m row p w =
-    record { place = p; long = refl; visit = λ step outer h. visit-start step outer n lanes m marks row w (h .1) _ (sym (h .0)) }
+pub scan-start : {bytes marks : List ℕ} (builds : Bool) (n lanes m : ℕ) (row : List ℕ) → AtRecord bytes (length bytes) 0
+    → (n ≤ 256) × (lanes ≤ 256) × (lanes * 256 ≤ length row) × (length marks ≡ 256) × (m < n) → ScanAt bytes marks builds n lanes m row row 0 0
+scan-start {marks = marks} builds n lanes m row p z =
+    record { place = p; few = z .0; there = z .4; room = z .2; long = refl; visit = λ step outer h. visit-start step outer n lanes m marks row (z .3) (h .1) _ (sym (h .0)) }
 
 module _ {bytes marks : List ℕ} {builds : Bool} {n lanes m : ℕ} {row₀ row : List ℕ} {a at : ℕ} (f : ScanAt bytes marks builds n lanes m row₀ row a at) where
-  pub scan-next : {row₁ row₂ : List ℕ} {t u l b c x y : ℕ} → at < length bytes → t ≡ firstNamed builds (recordAt bytes at) → Offered marks n lanes m t (λ j. j < lanes) row row₁ b → Joint a b x
-      → length row₁ ≡ length row → u ≡ secondNamed builds (recordAt bytes at) → Offered marks n lanes m u (λ j. j < lanes) row₁ row₂ c → Joint x c y → length row₂ ≡ length row₁ → l ≡ u16 bytes at
+  pub scan-next : {row₁ row₂ : List ℕ} {t u l b c x y : ℕ} → at < length bytes → t ≡ firstNamed builds (recordAt bytes at) → Drawn marks n lanes m t row row₁ b → x ≡ eitherOf a b
+      → length row₁ ≡ length row → u ≡ secondNamed builds (recordAt bytes at) → Drawn marks n lanes m u row₁ row₂ c → y ≡ eitherOf x c → length row₂ ≡ length row₁ → l ≡ u16 bytes at
       → ScanAt bytes marks builds n lanes m row₀ row₂ y (at + l)
   unfolding recordAt
   scan-next h et o e q eu o′ e′ q′ el =
       rw el
       (record {
         place = walk-next (f .place) h;
+        few = f .few;
+        there = f .there;
+        room = f .room;
         long = q′ ∙ q ∙ f .long;
         visit = λ step outer r.
-            visit-next (visit-next (f .visit step outer r) (ap (namedIn builds) (walk-here (f .place) h) ∙ named-cons builds (recordAt bytes at) _ ∙ rw (et, eu)) o e q) refl o′ e′ q′;
+            visit-next
+            (visit-next (f .visit step outer r) (ap (namedIn builds) (walk-here (f .place) h) ∙ named-cons builds (recordAt bytes at) _ ∙ rw (et, eu)) (from row (f .long) o) e q)
+            refl
+            (from _ (q ∙ f .long) o′)
+            e′
+            q′;
       })
+    where
+      from : (s : List ℕ) → length s ≡ length row₀ → {t b : ℕ} {s′ : List ℕ} → Drawn marks n lanes m t s s′ b → Offered marks n lanes m t (λ j. j < lanes) s s′ b
+      from s l d = offered (f .few) (f .there) s (omega (arith, f .room, l)) d
 
   pub scan-end : length bytes ≤ at → Scanned bytes marks builds n lanes m row₀ row a
   scan-end h = record { run = λ step outer e g. visit-end (f .visit step outer (e, g)) (ap (namedIn builds) (tiled-end bytes at (length bytes) h) ∙ named-nil builds) }

@@ -13,13 +13,13 @@ use view::word_in;
 ghost use mathlib.Core.Path.{_≡_};
 ghost use mathlib.Core.Option.{none};
 ghost use mathlib.Core.List.{[], _∷_};
-ghost use Prim.Native.Nat.{ℕ, _*_, _≤_, _<_};
-ghost use lib.ListN.{length, getD};
+ghost use Prim.Native.Nat.{_*_, _≤_, _<_};
+ghost use lib.ListN.{length};
 ghost use Rattle.spec.specs.Sheet.{group as groupOf};
 ghost use Rattle.spec.specs.Refusals.{formRefusal};
 ghost use Rattle.view.specs.View.{Fits, spliced};
 ghost use Rattle.groups.specs.Groups.{between, AtRecord, Indexed};
-ghost use Rattle.lanes.specs.Lanes.{Enclosers, Run, SettledAt, AllSettled, SeedsFit, Least};
+ghost use Rattle.lanes.specs.Lanes.{markedUp, Run, SettledAt, AllSettled, SeedsFit, Least};
 ghost use Rattle.reach.specs.Reach.{namedIn, stepsOf, outerOf, Scanned, Content, dependentRow};
 
 fn wide(x: u16) -> usize
@@ -28,7 +28,7 @@ fn wide(x: u16) -> usize
     x as usize
 }
 
-// Marks the enclosers of class m in a row of zeros.
+// Writes 1 at each encloser of class m: of a row of zeros the marks of its enclosers are made so.
 pub fn enclosers<'a>(
     library: &'a [u8],
     user: &'a [u8],
@@ -42,8 +42,9 @@ pub fn enclosers<'a>(
 )
     requires { ⌜ Fits cut (now user) (now group) ⌝ }
     requires { ⌜ Indexed (now library) (spliced (now user) (now group) cut) nlib n (now starts) ⌝ }
-    requires { ⌜ (m < n) × (m ≤ length (now marks)) × ((x : ℕ) → getD (now marks) x 0 ≡ 0) ⌝ }
-    ensures { λ r. ⌜ Enclosers (outerOf (groupOf (now (library .entry)) (spliced (now (user .entry)) (now (group .entry)) cut))) m (now (marks .exit)) ⌝ }
+    requires { ⌜ (m < n) × (m ≤ length (now marks)) ⌝ }
+    ensures { λ r. ⌜ now (marks .exit)
+        ≡ markedUp (outerOf (groupOf (now (library .entry)) (spliced (now (user .entry)) (now (group .entry)) cut))) m m (now (marks .entry)) ⌝ }
 {
     let mut c = m;
     let mut e = wide(class_word(library, user, group, cut, starts, nlib, n, m, 10));

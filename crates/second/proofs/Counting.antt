@@ -1,18 +1,17 @@
 -- The row of counts: what a class has, and the row filled class by class.
 -- Assumes nothing.
-use mathlib.Core.Path.{_≡_, refl, ap, _∙_}
+use mathlib.Core.Path.{_≡_, refl, ap}
 use mathlib.Core.Bool.{Bool, true, false}
 use mathlib.Core.List.{List, [], _∷_}
-use Prim.Native.Nat.{ℕ, _+_, _≤_, _<_}
+use Prim.Native.Nat.{ℕ, _≤_, _<_}
 use native.Mathlib.Omega.{arith}
-use lib.ListN.{length, getD, set, length-set}
-use borrow.Author.Count.{below-none}
+use lib.ListN.{length}
 use borrow.Author.Tests.{lt-ltb, le-ltb}
 use Rattle.spec.specs.Lists.{keep}
 use Rattle.spec.specs.Record.{isKind, LOCAL, MEMBER}
 use Rattle.spec.specs.Sheet.{Group, group, ofKind}
 use Rattle.theory.proofs.All.{keep-yes, keep-no}
-use Rattle.theory.proofs.Rows.{set-below}
+use Rattle.theory.proofs.Rows.{Filling}
 use Rattle.groups.specs.Groups.{between, Carries, Indexed}
 use Rattle.groups.proofs.Bytes.{counted-in}
 use Rattle.groups.proofs.Few.{group-few}
@@ -45,20 +44,5 @@ count-low {library} {user} x c w k e = omega (arith, counted-in w k e, kept-few 
 
 -- ---- the row
 
--- the entries below c are there
-pub record Filling (g : ℕ → Group) (nlib size : ℕ) (row : List ℕ) (c : ℕ) : Type 0 where
-  pub long : length row ≡ size
-  pub counts : (d : ℕ) → d < c → getD row d 0 ≡ countOf nlib g d
-
-pub fill-start : {g : ℕ → Group} {nlib size : ℕ} {row : List ℕ} → length row ≡ size → Filling g nlib size row 0
-fill-start l = record { long = l; counts = below-none _ }
-
-module _ {g : ℕ → Group} {nlib size : ℕ} {row : List ℕ} {c : ℕ} (f : Filling g nlib size row c) where
-  pub fill-next : c < size → {m : ℕ} → m ≡ countOf nlib g c → Filling g nlib size (set row c m) (c + 1)
-  fill-next h {m} e = record {
-    long = length-set row c m ∙ f .long;
-    counts = set-below (λ d x. x ≡ countOf nlib g d) row c m (omega (arith, f .long)) (f .counts) e;
-  }
-
-  pub fill-end : {n : ℕ} → n ≤ c → n ≤ size → Counts g nlib n row
-  fill-end h l = record { long = omega (arith, f .long); counts = λ d k. f .counts d (omega arith) }
+pub fill-end : {g : ℕ → Group} {nlib n : ℕ} {before row : List ℕ} {c : ℕ} → Filling (countOf nlib g) n before row c → n ≤ c → n ≤ length before → Counts g nlib n row
+fill-end w h room = record { long = omega (arith, w .long); counts = λ d k. w .new d (omega arith) }

@@ -12,7 +12,7 @@ ghost use mathlib.Core.Bool.{not, _&&_, _||_};
 ghost use mathlib.Core.List.{_∷_};
 ghost use Prim.Native.Nat.{_+_, _≤_, _<_};
 ghost use lib.Dec.{eqb};
-ghost use lib.ListN.{length};
+ghost use lib.ListN.{length, drop};
 ghost use Rattle.spec.specs.Lists.{elem, sameList};
 ghost use Rattle.spec.specs.Record.{u16, bit, className, tyAt, LOCAL, MEMBER};
 ghost use Rattle.spec.specs.Sheet.{group as groupOf, classRecord, ofKind, isInterface, classCount};
@@ -680,7 +680,7 @@ fn own_count<'a>(
     count_in(bytes, 4) as u8
 }
 
-// Fills a row with that number of each class, so that an index is tested by one comparison.
+// Fills a row with that number of each class, so that an index is tested by one comparison; what stands past them is kept.
 pub fn counts<'a>(
     library: &'a [u8],
     user: &'a [u8],
@@ -694,7 +694,8 @@ pub fn counts<'a>(
     requires { ⌜ Fits cut (now user) (now group) ⌝ }
     requires { ⌜ Indexed (now library) (spliced (now user) (now group) cut) nlib n (now starts) ⌝ }
     requires { ⌜ n ≤ length (now row) ⌝ }
-    ensures { λ r. ⌜ Counts (groupOf (now (library .entry)) (spliced (now (user .entry)) (now (group .entry)) cut)) nlib n (now (row .exit)) ⌝ }
+    ensures first { λ r. ⌜ Counts (groupOf (now (library .entry)) (spliced (now (user .entry)) (now (group .entry)) cut)) nlib n (now (row .exit)) ⌝ }
+    ensures rest { λ r. ⌜ drop n (now (row .exit)) ≡ drop n (now (row .entry)) ⌝ }
 {
     let mut c = 0;
     while c < n {

@@ -12,7 +12,7 @@ use Rattle.view.specs.View.{spliced}
 use Rattle.groups.proofs.Between.{tiled-room}
 use Rattle.groups.proofs.Walks.{walk-on}
 use Rattle.second.proofs.Positions.{walk-sized, room-of}
-use Rattle.lanes.proofs.Rows.{zeros}
+use Rattle.lanes.proofs.Marking.{marks-enclosers}
 use Rattle.captured.proofs.Seeding.{record-other, owner-there, variable-there, record-uses, SeedAt, seed-start, seed-member, seed-next, seed-end}
 use Rattle.captured.proofs.seed_records.Statement.{statement}
 use Rattle.captured.proofs.seed_records.Tie as tie
@@ -27,7 +27,7 @@ slice-aggregate-enclosers : tie.Need-slice-aggregate-enclosers Inv-loop μ-loop
 slice-aggregate-enclosers c = search needs
 
 enclosers-requires : tie.Need-enclosers-requires Inv-loop μ-loop
-enclosers-requires c κs = let p = c .before .before .before .before .before .before .before .before .pre in (p .0, (p .1 .0, (p .1 .1 .1 .1 .1 .0, omega (arith, p .1 .1 .1 .1 .1 .0, p .1 .0 .few), zeros 256)))
+enclosers-requires c κs = let p = c .before .before .before .before .before .before .before .before .pre in (p .0, (p .1 .0, (p .1 .1 .1 .1 .1 .0, omega (arith, p .1 .1 .1 .1 .1 .0, p .1 .0 .few))))
 
 loop-holds : tie.Need-loop-holds Inv-loop μ-loop
 loop-holds c = seed-start (c .before .before .before .before .before .before .before .before .before .before .pre .1 .1 .1 .1 .0) _
@@ -89,16 +89,20 @@ loop-less c = omega (arith, walk-on (c .before .before .before .before .before .
 
 loop-again : tie.Need-loop-again Inv-loop μ-loop
 loop-again c =
-    let p = c .before .before .before .before .before .before .before .before .before .before .before .before .before .before .before .before .pre in
+    let start = c .before .before .before .before .before .before .before .before .before .before .before .before .before .before .before .before in
+    let p = start .pre in
     let f = c .before .before .before .before .before .loop .inv in
     let low = c .before .before .before .before .loop-test .taken in
     let z = walk-sized (f .place) low in
     let e = seed-member f low in
     let kind = c .before .word-in2 .ensures in
     let size = c .before .before .wide .ensures .0 ∙ c .before .before .before .word-in .ensures in
+    let right = marks-enclosers 256 (omega (arith, p .1 .1 .1 .1 .1 .0, p .1 .0 .few)) (c .before .before .before .before .before .before .before .enclosers .ensures) in
     ⊎-elim
-    (λ w. seed-next f low (record-uses (p .1 .0) (p .1 .1 .0) (c .before .before .before .before .before .before .before .before .before .before .before .before .before .before .before .before .args .m) z e kind (w .0 .taken) (w .2 .ensures .0) (w .1 .ensures) (w .4 .ensures .0) (w .3 .ensures) (w .5 .ensures) (c .before .before .before .before .before .before .before .enclosers .ensures) (w .8 .ensures)) (w .11) size)
-    (λ w. seed-next f low (record-other (p .1 .0) (p .1 .1 .0) (c .before .before .before .before .before .before .before .before .before .before .before .before .before .before .before .before .args .m) z e kind (w .0 .left) _) (w .1) size)
+    (λ w. seed-next f low
+    (record-uses (p .1 .0) (p .1 .1 .0) (start .args .m) z e kind (w .0 .taken) (w .2 .ensures .0) (w .1 .ensures) (w .4 .ensures .0)
+    (w .3 .ensures) (w .5 .ensures) right (w .8 .ensures)) (w .11) size)
+    (λ w. seed-next f low (record-other (p .1 .0) (p .1 .1 .0) (start .args .m) z e kind (w .0 .left) _) (w .1) size)
     (c .if1 .came)
 
 same-length : tie.Need-same-length Inv-loop μ-loop

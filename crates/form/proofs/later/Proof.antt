@@ -35,7 +35,7 @@ slice-aggregate-second-pass-2 c = search needs
 second-pass-requires : tie.Need-second-pass-requires
 second-pass-requires c κs =
     let p = c .before .before .before .before .before .before .before .before .before .before .before .before .before .pre in
-    (p .0, (p .1 .0, (c .before .before .before .before .before .before .prints .ensures, (c .before .before .before .counts .ensures, omega arith))))
+    (p .0, (p .1 .0, (c .before .before .before .before .before .before .prints .ensures .0, (c .before .before .before .counts .ensures .0, omega arith))))
 
 enum-known-first : tie.Need-enum-known-first
 enum-known-first c = search needs
@@ -59,7 +59,7 @@ second-pass-requires-2 : tie.Need-second-pass-requires-2
 second-pass-requires-2 c κs =
     let w = c .before .before .before .before in
     let p = s1 w .pre in
-    (p .0, (p .1 .0, (w .before .before .before .before .before .before .before .prints .ensures, (w .before .before .before .before .counts .ensures, omega arith))))
+    (p .0, (p .1 .0, (w .before .before .before .before .before .before .before .prints .ensures .0, (w .before .before .before .before .counts .ensures .0, omega arith))))
 
 enum-known-second : tie.Need-enum-known-second
 enum-known-second c = search needs

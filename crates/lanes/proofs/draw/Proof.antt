@@ -2,7 +2,7 @@
 -- Assumes nothing.
 use borrow.Author.Tests.{not-true, not-false}
 use native.Mathlib.Omega.{arith}
-use mathlib.Core.Path.{refl, sym, _∙_}
+use mathlib.Core.Path.{sym, _∙_}
 use Rattle.lanes.proofs.Drawing.{draw-high, draw-unfit, draw-low}
 use borrow.Author.Needs.{needs}
 use Rattle.lanes.proofs.draw.Statement.{statement}
@@ -30,7 +30,7 @@ same-length : tie.Need-same-length
 same-length c = search needs
 
 returns : tie.Need-returns
-returns c = draw-high (c .before .before .before .entry .ensures .0) (c .before .entry2 .ensures .0) (c .if1 .taken)
+returns c = draw-high _ _ _ _ _ (c .before .before .before .entry .ensures .0) (c .before .entry2 .ensures .0) (c .if1 .taken)
 
 fits-requires : tie.Need-fits-requires
 fits-requires c κs = search needs
@@ -41,7 +41,7 @@ same-length-2 c = search needs
 returns-2 : tie.Need-returns-2
 returns-2 c =
     let read = c .before .before .before in
-    draw-unfit (read .before .before .entry .ensures .0) (read .entry2 .ensures .0) (sym (c .before .fits2 .ensures) ∙ not-true _ (c .if2 .taken))
+    draw-unfit _ _ _ _ _ (read .before .before .entry .ensures .0) (read .entry2 .ensures .0) (sym (c .before .fits2 .ensures) ∙ not-true _ (c .if2 .taken))
 
 cast-row : tie.Need-cast-row
 cast-row c = search needs
@@ -61,18 +61,7 @@ same-length-3 c = search needs
 returns-3 : tie.Need-returns-3
 returns-3 c =
     let read = c .before .before .before in
-    draw-low
-    (read .before .before .entry .ensures .0)
-    (read .entry2 .ensures .0)
-    (omega arith)
-    (omega arith)
-    (omega arith)
-    (omega arith)
-    (omega arith)
-    (omega arith)
-    (omega arith)
-    (sym (c .before .fits2 .ensures) ∙ not-false _ (c .if2 .left))
-    refl
+    draw-low _ _ _ _ _ (read .before .before .entry .ensures .0) (read .entry2 .ensures .0) (omega arith) (sym (c .before .fits2 .ensures) ∙ not-false _ (c .if2 .left))
 
 pub draw-spec : {M : Type 1} → statement M
 draw-spec =

@@ -1,24 +1,23 @@
--- `names::prints`: in the loop the entries below c are there.
+-- `names::prints`: in the loop the entries below c are there, those from n on as they were.
 -- Assumes nothing.
-use mathlib.Core.Path.{refl}
 use Prim.Native.Nat.{_-_}
 use native.Mathlib.Omega.{arith}
 use borrow.Author.Needs.{needs}
-use lib.ListN.{length}
 use Rattle.spec.specs.Sheet.{group as groupOf}
 use Rattle.view.specs.View.{spliced}
-use Rattle.names.proofs.Rows.{Filling, fill-start, fill-next, fill-end}
+use Rattle.theory.proofs.Rows.{Filling, filling-start, filling-next}
+use Rattle.names.proofs.Rows.{printAt, fill-end}
 use Rattle.names.proofs.prints.Statement.{statement}
 use Rattle.names.proofs.prints.Tie as tie
 
 abbrev Inv-loop : tie.InvT-loop
-Inv-loop library user group cut starts nlib n row₀ c₀ row c = Filling (groupOf library (spliced user group cut)) (length row₀) row c
+Inv-loop library user group cut starts nlib n row₀ c₀ row c = Filling (printAt (groupOf library (spliced user group cut))) n row₀ row c
 
 abbrev μ-loop : tie.MeasureT-loop
 μ-loop library user group cut starts nlib n row₀ c₀ row c = n - c
 
 loop-holds : tie.Need-loop-holds Inv-loop μ-loop
-loop-holds c = fill-start refl
+loop-holds c = filling-start _ _
 
 class-print-requires : tie.Need-class-print-requires Inv-loop μ-loop
 class-print-requires c κs = search needs
@@ -36,13 +35,15 @@ loop-less : tie.Need-loop-less Inv-loop μ-loop
 loop-less c = omega arith
 
 loop-again : tie.Need-loop-again Inv-loop μ-loop
-loop-again c = fill-next (c .before .before .loop .inv) (omega arith) (c .class-print .ensures)
+loop-again c = filling-next (c .before .before .loop .inv) (c .before .before .before .before .before .before .before .before .pre .1 .1) (omega arith) (c .class-print .ensures)
 
 same-length : tie.Need-same-length Inv-loop μ-loop
 same-length c = c .before .loop .inv .long
 
 returns : tie.Need-returns Inv-loop μ-loop
-returns c = fill-end (c .before .loop .inv) (c .loop-test .left) (c .before .before .before .before .before .before .before .pre .1 .1)
+returns c =
+    let w = c .before .loop .inv in
+    (fill-end w (c .loop-test .left) (c .before .before .before .before .before .before .before .pre .1 .1), w .rest)
 
 pub prints-spec : {M : Type 1} → statement M
 prints-spec =

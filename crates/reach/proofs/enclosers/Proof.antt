@@ -4,14 +4,14 @@ use native.Mathlib.Omega.{arith}
 use borrow.Author.Needs.{needs}
 use Rattle.spec.specs.Sheet.{group as groupOf}
 use Rattle.view.specs.View.{spliced}
-use Rattle.lanes.proofs.Marking.{Up, up-start, up-next, up-end}
+use Rattle.lanes.proofs.Marking.{MarkAt, mark-start, mark-next, mark-end}
 use Rattle.reach.specs.Reach.{outerOf}
 use Rattle.reach.proofs.Scanning.{outer-is}
 use Rattle.reach.proofs.enclosers.Statement.{statement}
 use Rattle.reach.proofs.enclosers.Tie as tie
 
 abbrev Inv-loop : tie.InvT-loop
-Inv-loop library user group cut starts nlib n m marks₀ c₀ e₀ marks c e = Up (outerOf (groupOf library (spliced user group cut))) m marks₀ marks c e
+Inv-loop library user group cut starts nlib n m marks₀ c₀ e₀ marks c e = MarkAt (outerOf (groupOf library (spliced user group cut))) m marks₀ marks c e
 
 abbrev μ-loop : tie.MeasureT-loop
 μ-loop library user group cut starts nlib n m marks₀ c₀ e₀ marks c e = c
@@ -23,7 +23,7 @@ wide-requires : tie.Need-wide-requires Inv-loop μ-loop
 wide-requires c κs = search needs
 
 loop-holds : tie.Need-loop-holds Inv-loop μ-loop
-loop-holds c = up-start _ _ _ _ (c .before .before .before .before .before .before .before .pre .1 .1 .2) (outer-is _ _ (c .wide .ensures .0) (c .before .class-word .ensures))
+loop-holds c = mark-start _ (outer-is _ _ (c .wide .ensures .0) (c .before .class-word .ensures))
 
 slice-write-marks : tie.Need-slice-write-marks Inv-loop μ-loop
 slice-write-marks c = omega (arith, c .before .before .before .before .before .before .before .before .before .pre .1 .1 .1, c .before .loop .inv .low, c .before .loop .inv .long)
@@ -38,13 +38,13 @@ loop-less : tie.Need-loop-less Inv-loop μ-loop
 loop-less c = omega arith
 
 loop-again : tie.Need-loop-again Inv-loop μ-loop
-loop-again c = up-next (c .before .before .before .loop .inv) (omega arith) (c .before .before .before .before .before .before .before .before .before .before .before .pre .1 .1 .1) (outer-is _ _ (c .wide2 .ensures .0) (c .before .class-word2 .ensures))
+loop-again c = mark-next (c .before .before .before .loop .inv) (omega arith) (outer-is _ _ (c .wide2 .ensures .0) (c .before .class-word2 .ensures))
 
 same-length : tie.Need-same-length Inv-loop μ-loop
 same-length c = c .before .loop .inv .long
 
 returns : tie.Need-returns Inv-loop μ-loop
-returns c = up-end (c .before .loop .inv) (omega arith)
+returns c = mark-end (c .before .loop .inv) (omega arith)
 
 pub enclosers-spec : {M : Type 1} → statement M
 enclosers-spec =

@@ -2,7 +2,7 @@
 -- Assumes nothing.
 use native.Mathlib.Omega.{arith}
 use Rattle.spec.specs.Record.{BUILDS}
-use Rattle.lanes.proofs.Rows.{zeros}
+use Rattle.lanes.proofs.Marking.{marks-enclosers}
 use Rattle.reach.proofs.Library.{library-builds-none}
 use Rattle.reach.proofs.Scanning.{none-there, scanned, visit-marked, visit-none}
 use Rattle.reach.proofs.Wanting.{visit-content}
@@ -41,7 +41,9 @@ slice-aggregate-enclosers : tie.Need-slice-aggregate-enclosers
 slice-aggregate-enclosers c = search needs
 
 enclosers-requires : tie.Need-enclosers-requires
-enclosers-requires c κs = let p = c .before .before .before .before .before .before .before .before .before .before .before .before .before .pre in (p .0, (p .1 .0, (p .1 .1 .0, omega (arith, p .1 .1 .0, p .1 .0 .few), zeros 256)))
+enclosers-requires c κs =
+    let p = c .before .before .before .before .before .before .before .before .before .before .before .before .before .pre in
+    (p .0, (p .1 .0, (p .1 .1 .0, omega (arith, p .1 .1 .0, p .1 .0 .few))))
 
 slice-aggregate-scan : tie.Need-slice-aggregate-scan
 slice-aggregate-scan c = search needs
@@ -53,7 +55,11 @@ same-length-2 : tie.Need-same-length-2
 same-length-2 c = search needs
 
 returns-5 : tie.Need-returns-5
-returns-5 c = scanned _ (c .before .before .scan .ensures) (c .before .before .before .before .before .before .before .before .before .before .before .before .class-bytes .ensures) (c .before .before .before .before .before .before .enclosers .ensures)
+returns-5 c =
+    let marked = c .before .before .before .before .before .before in
+    let read = marked .before .before .before .before .before .before in
+    let p = read .before .before .before .before .before .before .before .before .pre in
+    scanned _ (c .before .before .scan .ensures) (read .class-bytes .ensures) (marks-enclosers 256 (omega (arith, p .1 .1 .0, p .1 .0 .few)) (marked .enclosers .ensures))
 
 pub visit-spec : {M : Type 1} → statement M
 visit-spec =

@@ -15,19 +15,23 @@ count-in-requires : tie.Need-count-in-requires
 count-in-requires c κs = search needs
 
 cast-result : tie.Need-cast-result
-cast-result c = omega (arith, count-low (c .before .before .before .before .before .before .before .pre .1 .0) (c .before .before .before .before .before .before .before .args .c) (c .before .before .class-bytes .ensures) 7 (c .count-in .ensures))
+cast-result c =
+    let start = c .before .before .before .before .before .before .before in
+    omega (arith, count-low (start .pre .1 .0) (start .args .c) (c .before .before .class-bytes .ensures) _ (c .count-in .ensures))
 
 returns : tie.Need-returns
-returns c = counted-in (c .before .before .class-bytes .ensures) 7 (c .count-in .ensures) ∙ sym (count-library _ _ (c .before .if1 .taken))
+returns c = counted-in (c .before .before .class-bytes .ensures) _ (c .count-in .ensures) ∙ sym (count-library _ _ (c .before .if1 .taken))
 
 count-in-requires-2 : tie.Need-count-in-requires-2
 count-in-requires-2 c κs = search needs
 
 cast-result-2 : tie.Need-cast-result-2
-cast-result-2 c = omega (arith, count-low (c .before .before .before .before .before .before .before .pre .1 .0) (c .before .before .before .before .before .before .before .args .c) (c .before .before .class-bytes .ensures) 4 (c .count-in2 .ensures))
+cast-result-2 c =
+    let start = c .before .before .before .before .before .before .before in
+    omega (arith, count-low (start .pre .1 .0) (start .args .c) (c .before .before .class-bytes .ensures) _ (c .count-in2 .ensures))
 
 returns-2 : tie.Need-returns-2
-returns-2 c = counted-in (c .before .before .class-bytes .ensures) 4 (c .count-in2 .ensures) ∙ sym (count-user _ _ (c .before .if1 .left))
+returns-2 c = counted-in (c .before .before .class-bytes .ensures) _ (c .count-in2 .ensures) ∙ sym (count-user _ _ (c .before .if1 .left))
 
 pub own-count-spec : {M : Type 1} → statement M
 own-count-spec =
