@@ -1,6 +1,7 @@
-// What is written: the answers of `marks`, `name_place` and `name` on one line, what a reader finds, and a row of verdicts.
+// What is written: the answers of `marks`, `name_place` and `name` on one line, what a reader finds, how many classes are faulted, and a row of verdicts.
 use reader::Found;
 use reader::nth;
+use verdicts::faulted;
 use verifier::Marked;
 use verifier::Placed;
 use verifier::marks;
@@ -62,6 +63,13 @@ pub(crate) fn say_record(sheet: &[u8], n: usize) {
             io::write_all(1, b": end");
         }
     }
+    io::write_all(1, b"\n");
+}
+
+// How many user classes are faulted, counted through a row of structs.
+pub(crate) fn say_faulted<'a>(library: &'a [u8], user: &'a [u8], used: usize) {
+    let mut scratch = [0u8; 65536];
+    number(b": faulted ", faulted(library, user, used, &mut scratch));
     io::write_all(1, b"\n");
 }
 

@@ -11,6 +11,7 @@
 //   expect R K | R K   the verdicts that the case must have
 //   ask C              writes what `marks`, `name_place` and `name` answer of class C
 //   record N           writes what a reader of the user sheet finds as record N
+//   structs            writes how many user classes are faulted, counted through a row of structs
 //   judge              writes what `judge` answers, and whether the buffers and the verdicts are as they must be
 //   open               as judge, and begins a week: its row is kept
 //   add BYTES          writes what `add` answers of that group, the used length and the kept row after it
@@ -28,6 +29,7 @@ use crate::line::rest;
 use crate::line::same;
 use crate::line::word;
 use crate::say::answers;
+use crate::say::say_faulted;
 use crate::say::say_record;
 use crate::sheet::bytes;
 use crate::sheet::repeated;
@@ -42,6 +44,14 @@ fn ask<'a>(library: &'a [u8], user: &'a [u8], case: Case, class: usize) {
         start(user, case.user),
         case.used,
         class,
+    );
+}
+
+fn counted<'a>(library: &'a [u8], user: &'a [u8], case: Case) {
+    say_faulted(
+        start(library, case.library),
+        start(user, case.user),
+        case.used,
     );
 }
 
@@ -163,6 +173,10 @@ fn set(
     }
     if same(verb, b"record") {
         say_record(start(user, case.used), number(words));
+        return case;
+    }
+    if same(verb, b"structs") {
+        counted(library, user, case);
         return case;
     }
     if same(verb, b"judge") {

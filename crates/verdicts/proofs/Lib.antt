@@ -1,7 +1,9 @@
 pub mod Again
+pub mod Counting
 pub mod Demand3
 pub mod Filling
 pub mod Frame
+pub mod Lending
 pub mod Lines
 pub mod Low
 pub mod Meeting

@@ -1,13 +1,17 @@
--- The verdict row as a list of structs, the report over it, and drafts written to it.
+-- The verdict row as a list of structs, the report over it, drafts written to it, and faults counted through one.
 -- Assumes nothing.
+use mathlib.Core.Path.{_≡_}
 use mathlib.Core.Bool.{Bool, true, false, not}
+use mathlib.Core.Option.{Option}
 use mathlib.Core.List.{List, [], _∷_, _++_}
 use Prim.Native.Nat.{ℕ, zero, suc, _+_, _*_, _/_}
 use lib.Dec.{eqb, ltb}
 use lib.ListN.{length, getD, take}
 use Rattle.spec.specs.Lists.{count}
 use Rattle.spec.specs.Rules as spec
-use Rattle.spec.specs.Verdicts.{VerdictRow}
+use Rattle.spec.specs.Refusals.{Refusal, judgeRefusal}
+use Rattle.spec.specs.Verdicts.{VerdictRow, faultedCount}
+use Rattle.spec.specs.Promises.{afterwards, cleared}
 use Rattle.drafts.specs.Drafts.{unwritten}
 use Rattle.verdicts.specs.declared.Verdict.{Verdict}
 
@@ -59,3 +63,14 @@ lower a b = elim (ltb b a) [ true ↦ b | false ↦ a ]
 -- how many of n drafts have their line and their bytes
 unfoldable pub draftsIn : ℕ → ℕ → ℕ → ℕ
 draftsIn n lines bytes = lower (lower n lines) (bytes / 2)
+
+-- ---- faults counted through a row of the call's own, of 256 lines
+
+module _ (library user : List ℕ) (used : ℕ) (scratch : List ℕ) where
+  -- why the call is refused: never for want of lines, since no sheets that fit have more classes
+  abbrev pub countRefusal : Option Refusal
+  countRefusal = judgeRefusal library user used 256 (length scratch)
+
+  pub record CountsFaults (faults : ℕ) (scratchAfter : List ℕ) : Type 0 where
+    pub answered : faults ≡ afterwards countRefusal 0 (faultedCount library (take used user))
+    pub scratch-is : scratchAfter ≡ afterwards countRefusal scratch (cleared scratch)

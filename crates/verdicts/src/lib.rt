@@ -14,7 +14,7 @@ ghost use lib.ListN.{length, drop};
 ghost use Rattle.spec.specs.Promises.{Judges, Adds, Replaces};
 ghost use Rattle.verifier.specs.Answers.{judgedAnswer, addedAnswer, replacedAnswer};
 ghost use Rattle.drafts.specs.Drafts.{wiped};
-ghost use Rattle.verdicts.specs.Row.{structs, tallied, faultedIn, lower, draftsIn, writtenLine, written};
+ghost use Rattle.verdicts.specs.Row.{structs, tallied, faultedIn, lower, draftsIn, writtenLine, written, CountsFaults};
 
 // Document 01's line.
 pub struct Verdict {
@@ -163,4 +163,13 @@ pub fn replace<'a>(
     let n = replaced_lines(answer, lines);
     settle(verdicts, scratch, n);
     answer
+}
+
+// How many user classes are faulted, through a row of structs of the call's own; 0 where judging refuses. For callers with plain parameters.
+pub fn faulted<'a>(library: &'a [u8], user: &'a [u8], used: usize, scratch: &mut [u8]) -> usize
+    ensures { λ r. ⌜ CountsFaults (now (library .entry)) (now (user .entry)) used (now (scratch .entry)) r (now (scratch .exit)) ⌝ }
+{
+    let mut row = [Verdict { rule: 0, record: 0 }; 256];
+    judge(library, user, used, &mut row, scratch);
+    report(&row, 256)
 }
