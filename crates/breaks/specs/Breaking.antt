@@ -2,7 +2,8 @@
 -- Assumes nothing.
 use mathlib.Core.Bool.{Bool, true, false, not, _&&_, _||_}
 use mathlib.Core.List.{List, [], _∷_, _++_}
-use Prim.Native.Nat.{ℕ, _-_, _<_}
+use mathlib.Core.Path.{_≡_}
+use Prim.Native.Nat.{ℕ, _-_, _/_, _%_, _≤_, _<_}
 use lib.Dec.{T, eqb, ltb}
 use lib.ListN.{length, getD}
 use Rattle.spec.specs.Lists.{any}
@@ -15,6 +16,20 @@ use Rattle.spec.specs.Relations.{At}
 use Rattle.pass.specs.Pass.{recordAt}
 use Rattle.groups.specs.Groups.{Carries}
 use Rattle.second.specs.Second.{Sized}
+
+-- 1 for a class that is not allowed, by its flags
+unfoldable pub closedBy : ℕ → ℕ
+closedBy f = elim (eqb (f / 256 % 2) 0) [ true ↦ 1 | false ↦ 0 ]
+
+-- the row has 1 for each library class that is not allowed, 0 for every other number
+pub record Bans (nlib : ℕ) (g : ℕ → Group) (row : List ℕ) : Type 0 where
+  pub few : nlib ≤ 256
+  pub long : length row ≡ 256
+  pub is : (d : ℕ) → getD row d 0 ≡ elim (forbidden nlib g d) [ true ↦ 1 | false ↦ 0 ]
+
+-- by such a row: whether a record names a library class that is not allowed
+pub record NamesForbidden (row r : List ℕ) (b : Bool) : Type 0 where
+  pub is : (nlib : ℕ) (g : ℕ → Group) → Bans nlib g row → b ≡ any (forbidden nlib g) (references r)
 
 -- record k of a group begins at a byte of bytes that carry the group
 pub record Standing (bytes : List ℕ) (h : Group) (k at : ℕ) : Type 0 where

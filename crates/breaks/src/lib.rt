@@ -17,13 +17,12 @@ ghost use mathlib.Core.Bool.{not, _&&_, _||_};
 ghost use mathlib.Core.Option.{none};
 ghost use Prim.Native.Nat.{ℕ, _^_, _≤_, _<_};
 ghost use lib.Dec.{T};
-ghost use lib.ListN.{length};
-ghost use Rattle.spec.specs.Lists.{any};
-ghost use Rattle.spec.specs.Record.{bit, isKind, REFERS, target, index, references, fieldTy, isFinal};
+ghost use lib.ListN.{length, replicate};
+ghost use Rattle.spec.specs.Record.{u16, bit, isKind, REFERS, target, index, fieldTy, isFinal};
 ghost use Rattle.spec.specs.Sheet.{Group, group as groupOf, isStaticField, isInterface};
 ghost use Rattle.spec.specs.Markers.{Token, Throwable, Enum};
 ghost use Rattle.spec.specs.Classes.{satisfies};
-ghost use Rattle.spec.specs.Rules.{forbidden as forbiddenOf, memberAllowed, staticMarker};
+ghost use Rattle.spec.specs.Rules.{memberAllowed, staticMarker};
 ghost use Rattle.spec.specs.Refusals.{formRefusal};
 ghost use Rattle.view.specs.View.{Fits, spliced};
 ghost use Rattle.pass.specs.Pass.{recordAt};
@@ -31,7 +30,7 @@ ghost use Rattle.groups.specs.Groups.{Carries, Indexed};
 ghost use Rattle.overlay.specs.Types.{Known};
 ghost use Rattle.second.specs.Second.{Sized};
 ghost use Rattle.captured.specs.Captured.{Shown};
-ghost use Rattle.breaks.specs.Breaking.{Standing, Refers, fromSeven, ruleMarker, fixedBreaks, rootBreaks, baseBreaks, fieldBreaks, headBreaks, breaksAt};
+ghost use Rattle.breaks.specs.Breaking.{closedBy, Bans, NamesForbidden, Standing, Refers, fromSeven, ruleMarker, fixedBreaks, rootBreaks, baseBreaks, fieldBreaks, headBreaks, breaksAt};
 
 fn wide(x: u16) -> usize
     ensures { λ r. ⌜ (r ≡ x) × (r < 65536) ⌝ }
@@ -41,8 +40,18 @@ fn wide(x: u16) -> usize
 
 // ---- rules 1 to 6
 
-// A library class that is not allowed.
-fn forbidden<'a>(
+// 1 for a class that is not allowed, by its flags; else 0.
+fn closed(flags: u16) -> u8
+    ensures { λ r. ⌜ r ≡ closedBy flags ⌝ }
+{
+    if flags / 256 % 2 == 0 {
+        return 1;
+    }
+    0
+}
+
+// Writes 1 for each library class that is not allowed, so that a record is asked by a row.
+pub fn bans<'a>(
     library: &'a [u8],
     user: &'a [u8],
     group: &'a [u8],
@@ -50,42 +59,32 @@ fn forbidden<'a>(
     starts: &[u16],
     nlib: usize,
     n: usize,
-    d: usize,
-) -> bool
+    row: &mut [u8],
+)
     requires { ⌜ Fits cut (now user) (now group) ⌝ }
     requires { ⌜ Indexed (now library) (spliced (now user) (now group) cut) nlib n (now starts) ⌝ }
-    ensures { λ r. ⌜ r ≡ forbiddenOf nlib (groupOf (now (library .entry)) (spliced (now (user .entry)) (now (group .entry)) cut)) d ⌝ }
+    requires { ⌜ now row ≡ replicate 256 0 ⌝ }
+    ensures { λ r. ⌜ Bans nlib (groupOf (now (library .entry)) (spliced (now (user .entry)) (now (group .entry)) cut)) (now (row .exit)) ⌝ }
 {
-    if nlib <= d {
-        return false;
+    let mut d = 0;
+    while d < nlib {
+        row[d] = closed(class_word(library, user, group, cut, starts, nlib, n, d, 4));
+        d += 1;
     }
-    class_word(library, user, group, cut, starts, nlib, n, d, 4) / 256 % 2 == 0
 }
 
 // Rule 1: the record names such a class.
-pub fn names_forbidden<'a>(
-    library: &'a [u8],
-    user: &'a [u8],
-    group: &'a [u8],
-    cut: Cut,
-    starts: &[u16],
-    nlib: usize,
-    n: usize,
-    bytes: &[u8],
-    at: usize,
-) -> bool
-    requires { ⌜ Fits cut (now user) (now group) ⌝ }
-    requires { ⌜ Indexed (now library) (spliced (now user) (now group) cut) nlib n (now starts) ⌝ }
+pub fn names_forbidden(bytes: &[u8], at: usize, banned: &[u8]) -> bool
     requires { ⌜ Sized (now bytes) at ⌝ }
     requires { ⌜ length (now bytes) ≤ 32768 ⌝ }
-    ensures { λ r. ⌜ r ≡ any (forbiddenOf nlib (groupOf (now (library .entry)) (spliced (now (user .entry)) (now (group .entry)) cut))) (references (recordAt (now (bytes .entry)) at)) ⌝ }
+    ensures { λ r. ⌜ NamesForbidden (now (banned .entry)) (recordAt (now (bytes .entry)) at) r ⌝ }
 {
     let first = any_named(bytes, at);
-    if forbidden(library, user, group, cut, starts, nlib, n, first) {
+    if known(banned, first) != 0 {
         return true;
     }
     let second = second_named(bytes, at, false);
-    forbidden(library, user, group, cut, starts, nlib, n, second)
+    known(banned, second) != 0
 }
 
 // Rule 2: the record refers to a member that is not allowed.
@@ -381,6 +380,7 @@ pub fn breaks<'a>(
     n: usize,
     markers: &[u8],
     row: &[u8],
+    banned: &[u8],
     rule: u8,
     c: usize,
     t: usize,
@@ -396,10 +396,11 @@ pub fn breaks<'a>(
     requires { ⌜ (nlib ≤ c) × (c < n) × (t < n) × (1 ≤ rule) ⌝ }
     requires { ⌜ Standing (now bytes) (groupOf (now library) (spliced (now user) (now group) cut) t) k at ⌝ }
     requires { ⌜ (rule ≡ 3 → k ≡ 0) × (rule ≡ 6 → k ≡ 0) × (7 ≤ rule → T (not (isInterface (groupOf (now library) (spliced (now user) (now group) cut) c)))) ⌝ }
+    requires { ⌜ Bans nlib (groupOf (now library) (spliced (now user) (now group) cut)) (now banned) ⌝ }
     ensures { λ r. ⌜ r ≡ breaksAt nlib (groupOf (now (library .entry)) (spliced (now (user .entry)) (now (group .entry)) cut)) rule c t k (recordAt (now (bytes .entry)) at) ⌝ }
 {
     if rule == 1 {
-        return names_forbidden(library, user, group, cut, starts, nlib, n, bytes, at);
+        return names_forbidden(bytes, at, banned);
     }
     if rule == 2 {
         return refers_forbidden(library, user, group, cut, starts, nlib, n, bytes, at);

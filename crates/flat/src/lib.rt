@@ -1,4 +1,5 @@
 // The flat verdict row, two bytes a user class: verdicts written where they change, faulted ones counted.
+use breaks::bans;
 use captured::captures;
 use lanes::fill;
 use overlay::overlays;
@@ -22,6 +23,7 @@ ghost use Rattle.groups.specs.Groups.{Indexed};
 ghost use Rattle.overlay.specs.Memo.{memoOf};
 ghost use Rattle.overlay.specs.Types.{Known};
 ghost use Rattle.captured.specs.Captured.{Shown};
+ghost use Rattle.breaks.specs.Breaking.{Bans};
 ghost use Rattle.rules.specs.Line.{lineOf};
 ghost use Rattle.rules.specs.Walk.{Kept};
 ghost use Rattle.survey.specs.Survey.{Passing};
@@ -39,6 +41,7 @@ fn judged<'a>(
     markers: &[u8],
     row: &[u8],
     sets: &[u8],
+    banned: &[u8],
     c: usize,
     kept: &mut [u8],
 ) -> Verdict
@@ -50,10 +53,11 @@ fn judged<'a>(
     requires { ⌜ Passing nlib n (groupOf (now library) (spliced (now user) (now group) cut)) (now sets) ⌝ }
     requires { ⌜ (nlib ≤ c) × (c < n) ⌝ }
     requires { ⌜ Kept nlib n (groupOf (now library) (spliced (now user) (now group) cut)) (now kept) ⌝ }
+    requires { ⌜ Bans nlib (groupOf (now library) (spliced (now user) (now group) cut)) (now banned) ⌝ }
     ensures verdict { λ r. ⌜ lineOf r ≡ verdictOf nlib (groupOf (now (library .entry)) (spliced (now (user .entry)) (now (group .entry)) cut)) c ⌝ }
     ensures kept { λ r. ⌜ Kept nlib n (groupOf (now (library .entry)) (spliced (now (user .entry)) (now (group .entry)) cut)) (now (kept .exit)) ⌝ }
 {
-    if clean(library, user, group, cut, starts, nlib, n, markers, sets, c) {
+    if clean(library, user, group, cut, starts, nlib, n, markers, sets, banned, c) {
         return Verdict { rule: 0, record: 0 };
     }
     verdict_of(
@@ -66,6 +70,7 @@ fn judged<'a>(
         n,
         markers,
         row,
+        banned,
         c,
         kept,
     )
@@ -83,6 +88,7 @@ fn rewrite_class<'a>(
     markers: &[u8],
     row: &[u8],
     sets: &[u8],
+    banned: &[u8],
     marks: &[u8],
     c: usize,
     kept: &mut [u8],
@@ -97,6 +103,7 @@ fn rewrite_class<'a>(
     requires { ⌜ (256 ≤ length (now marks)) × (n - nlib ≤ flatLines (now verdicts)) ⌝ }
     requires { ⌜ (nlib ≤ c) × (c < n) ⌝ }
     requires { ⌜ Kept nlib n (groupOf (now library) (spliced (now user) (now group) cut)) (now kept) ⌝ }
+    requires { ⌜ Bans nlib (groupOf (now library) (spliced (now user) (now group) cut)) (now banned) ⌝ }
     ensures verdicts { λ r. ⌜ now (verdicts .exit) ≡ putIf (eqb (getD (now (marks .entry)) c 0) 0) (2 * (c - nlib)) (verdictOf nlib (groupOf (now (library .entry)) (spliced (now (user .entry)) (now (group .entry)) cut)) c) (now (verdicts .entry)) ⌝ }
     ensures kept { λ r. ⌜ Kept nlib n (groupOf (now (library .entry)) (spliced (now (user .entry)) (now (group .entry)) cut)) (now (kept .exit)) ⌝ }
 {
@@ -114,6 +121,7 @@ fn rewrite_class<'a>(
         markers,
         row,
         sets,
+        banned,
         c,
         kept,
     );
@@ -134,6 +142,7 @@ pub fn rewrite<'a>(
     markers: &[u8],
     row: &[u8],
     sets: &[u8],
+    banned: &[u8],
     marks: &[u8],
     kept: &mut [u8],
     verdicts: &mut [u8],
@@ -146,6 +155,7 @@ pub fn rewrite<'a>(
     requires { ⌜ Passing nlib n (groupOf (now library) (spliced (now user) (now group) cut)) (now sets) ⌝ }
     requires { ⌜ (256 ≤ length (now marks)) × (n - nlib ≤ flatLines (now verdicts)) ⌝ }
     requires { ⌜ Kept nlib n (groupOf (now library) (spliced (now user) (now group) cut)) (now kept) ⌝ }
+    requires { ⌜ Bans nlib (groupOf (now library) (spliced (now user) (now group) cut)) (now banned) ⌝ }
     ensures verdicts { λ r. ⌜ now (verdicts .exit) ≡ flatRewritten (chosen nlib n (now (marks .entry))) (λ i. verdictOf nlib (groupOf (now (library .entry)) (spliced (now (user .entry)) (now (group .entry)) cut)) (nlib + i)) (now (verdicts .entry)) ⌝ }
     ensures kept { λ r. ⌜ Kept nlib n (groupOf (now (library .entry)) (spliced (now (user .entry)) (now (group .entry)) cut)) (now (kept .exit)) ⌝ }
 {
@@ -162,6 +172,7 @@ pub fn rewrite<'a>(
             markers,
             row,
             sets,
+            banned,
             marks,
             c,
             kept,
@@ -230,6 +241,8 @@ pub fn rejudge<'a>(
         scratch,
         &mut sets,
     );
+    let mut banned = [0u8; 256];
+    bans(library, user, group, cut, starts, nlib, n, &mut banned);
     let mut kept = [0u8; 1024];
     rewrite(
         library,
@@ -242,6 +255,7 @@ pub fn rejudge<'a>(
         &markers,
         scratch,
         &sets,
+        &banned,
         marks,
         &mut kept,
         verdicts,

@@ -19,6 +19,7 @@ ghost use Rattle.view.specs.View.{Fits, spliced};
 ghost use Rattle.groups.specs.Groups.{Carries, Indexed};
 ghost use Rattle.overlay.specs.Types.{Known};
 ghost use Rattle.captured.specs.Captured.{Shown};
+ghost use Rattle.breaks.specs.Breaking.{Bans};
 ghost use Rattle.rules.specs.Walk.{onlyFirst, asked, firstClass, nextClass, keptAt, climbed, Empty, Kept};
 ghost use Rattle.rules.specs.Line.{lineOf};
 
@@ -195,6 +196,7 @@ pub fn verdict_of<'a>(
     n: usize,
     markers: &[u8],
     row: &[u8],
+    banned: &[u8],
     c: usize,
     kept: &mut [u8],
 ) -> Verdict
@@ -205,6 +207,7 @@ pub fn verdict_of<'a>(
     requires { ⌜ Shown (groupOf (now library) (spliced (now user) (now group) cut)) n (now row) ⌝ }
     requires { ⌜ (nlib ≤ c) × (c < n) ⌝ }
     requires { ⌜ Kept nlib n (groupOf (now library) (spliced (now user) (now group) cut)) (now kept) ⌝ }
+    requires { ⌜ Bans nlib (groupOf (now library) (spliced (now user) (now group) cut)) (now banned) ⌝ }
     ensures verdict { λ r. ⌜ lineOf r ≡ verdictOf nlib (groupOf (now (library .entry)) (spliced (now (user .entry)) (now (group .entry)) cut)) c ⌝ }
     ensures kept { λ r. ⌜ Kept nlib n (groupOf (now (library .entry)) (spliced (now (user .entry)) (now (group .entry)) cut)) (now (kept .exit)) ⌝ }
 {
@@ -231,6 +234,7 @@ pub fn verdict_of<'a>(
                     n,
                     markers,
                     row,
+                    banned,
                     rule,
                     c,
                     t,

@@ -32,7 +32,7 @@ ghost use Rattle.groups.specs.Groups.{between, AtRecord, Indexed};
 ghost use Rattle.overlay.specs.Types.{Known};
 ghost use Rattle.second.specs.Second.{Sized};
 ghost use Rattle.captured.specs.Captured.{Shown};
-ghost use Rattle.breaks.specs.Breaking.{Refers, ruleMarker};
+ghost use Rattle.breaks.specs.Breaking.{Bans, Refers, ruleMarker};
 ghost use Rattle.survey.specs.Survey.{isClean, headBreaks, anyLate, recordBreaks, Passes, ClassSet, Passing, slotBy, FieldSet, FieldsSet, RootSet, encloserBy, capturedBy, baseBy};
 
 fn wide(x: u16) -> usize
@@ -257,6 +257,7 @@ fn records_fine<'a>(
     nlib: usize,
     n: usize,
     markers: &[u8],
+    banned: &[u8],
     bytes: &[u8],
 ) -> bool
     requires { ⌜ Fits cut (now user) (now group) ⌝ }
@@ -264,11 +265,12 @@ fn records_fine<'a>(
     requires { ⌜ Known (groupOf (now library) (spliced (now user) (now group) cut)) (now markers) ⌝ }
     requires { ⌜ AtRecord (now bytes) (length (now bytes)) 0 ⌝ }
     requires { ⌜ All (Refers n (groupOf (now library) (spliced (now user) (now group) cut))) (between (now bytes) 0 (length (now bytes))) ⌝ }
+    requires { ⌜ Bans nlib (groupOf (now library) (spliced (now user) (now group) cut)) (now banned) ⌝ }
     ensures { λ r. ⌜ r ≡ not (any (recordBreaks nlib (groupOf (now (library .entry)) (spliced (now (user .entry)) (now (group .entry)) cut))) (between (now (bytes .entry)) 0 (length (now (bytes .entry))))) ⌝ }
 {
     let mut at = 0;
     while at < bytes.len() {
-        if names_forbidden(library, user, group, cut, starts, nlib, n, bytes, at) {
+        if names_forbidden(bytes, at, banned) {
             return false;
         }
         if refers_forbidden(library, user, group, cut, starts, nlib, n, bytes, at) {
@@ -309,6 +311,7 @@ pub fn clean<'a>(
     n: usize,
     markers: &[u8],
     sets: &[u8],
+    banned: &[u8],
     c: usize,
 ) -> bool
     requires { ⌜ Fits cut (now user) (now group) ⌝ }
@@ -317,6 +320,7 @@ pub fn clean<'a>(
     requires { ⌜ Known (groupOf (now library) (spliced (now user) (now group) cut)) (now markers) ⌝ }
     requires { ⌜ Passing nlib n (groupOf (now library) (spliced (now user) (now group) cut)) (now sets) ⌝ }
     requires { ⌜ (nlib ≤ c) × (c < n) ⌝ }
+    requires { ⌜ Bans nlib (groupOf (now library) (spliced (now user) (now group) cut)) (now banned) ⌝ }
     ensures { λ r. ⌜ r ≡ isClean (verdictOf nlib (groupOf (now (library .entry)) (spliced (now (user .entry)) (now (group .entry)) cut)) c) ⌝ }
 {
     let bytes = class_bytes(library, user, group, cut, starts, nlib, n, c);
@@ -324,7 +328,7 @@ pub fn clean<'a>(
     if !head_fine(bytes, m) {
         return false;
     }
-    if !records_fine(library, user, group, cut, starts, nlib, n, markers, bytes) {
+    if !records_fine(library, user, group, cut, starts, nlib, n, markers, banned, bytes) {
         return false;
     }
     if word_in(bytes, 4) % 2 == 1 {

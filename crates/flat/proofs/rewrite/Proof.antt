@@ -13,20 +13,20 @@ use Rattle.flat.proofs.rewrite.Statement.{statement}
 use Rattle.flat.proofs.rewrite.Tie as tie
 
 abbrev Inv-loop : tie.InvT-loop
-Inv-loop library user group cut starts nlib n markers row sets marks kept₀ verdicts₀ c₀ kept verdicts c =
+Inv-loop library user group cut starts nlib n markers row sets banned marks kept₀ verdicts₀ c₀ kept verdicts c =
     Rewriting nlib n (λ i. verdictOf nlib (groupOf library (spliced user group cut)) (nlib + i)) marks verdicts₀ verdicts c × Kept nlib n (groupOf library (spliced user group cut)) kept
 
 abbrev μ-loop : tie.MeasureT-loop
-μ-loop library user group cut starts nlib n markers row sets marks kept₀ verdicts₀ c₀ kept verdicts c = n - c
+μ-loop library user group cut starts nlib n markers row sets banned marks kept₀ verdicts₀ c₀ kept verdicts c = n - c
 
 loop-holds : tie.Need-loop-holds Inv-loop μ-loop
-loop-holds c = let p = c .before .before .before .before .before .before .before .before .before .before .pre in (rewrite-start _ _ _ _ _ (omega (arith, classes-ordered (p .1 .0))), p .1 .1 .1 .1 .1 .1 .1)
+loop-holds c = let p = c .before .before .before .before .before .before .before .before .before .before .before .pre in (rewrite-start _ _ _ _ _ (omega (arith, classes-ordered (p .1 .0))), p .1 .1 .1 .1 .1 .1 .1 .0)
 
 rewrite-class-requires : tie.Need-rewrite-class-requires Inv-loop μ-loop
 rewrite-class-requires c κs =
-    let p = c .before .before .before .before .before .before .before .before .before .before .before .before .before .before .pre in
+    let p = c .before .before .before .before .before .before .before .before .before .before .before .before .before .before .before .pre in
     let f = c .before .before .before .loop .inv in
-    (p .0, (p .1 .0, (p .1 .1 .0, (p .1 .1 .1 .0, (p .1 .1 .1 .1 .0, (p .1 .1 .1 .1 .1 .0, ((p .1 .1 .1 .1 .1 .1 .0 .0, lines-same (f .0) (p .1 .1 .1 .1 .1 .1 .0 .1)), ((f .0 .low, omega arith), f .1))))))))
+    (p .0, (p .1 .0, (p .1 .1 .0, (p .1 .1 .1 .0, (p .1 .1 .1 .1 .0, (p .1 .1 .1 .1 .1 .0, ((p .1 .1 .1 .1 .1 .1 .0 .0, lines-same (f .0) (p .1 .1 .1 .1 .1 .1 .0 .1)), ((f .0 .low, omega arith), (f .1, p .1 .1 .1 .1 .1 .1 .1 .1)))))))))
 
 add-c : tie.Need-add-c Inv-loop μ-loop
 add-c c = omega arith
@@ -36,7 +36,7 @@ loop-less c = omega arith
 
 loop-again : tie.Need-loop-again Inv-loop μ-loop
 loop-again c =
-    let s = c .before .before .before .before .before .before .before .before .before .before .before .before .before .before .before .before .before .before .before in
+    let s = c .before .before .before .before .before .before .before .before .before .before .before .before .before .before .before .before .before .before .before .before in
     let a = s .args in
     let f = c .before .before .before .before .before .before .before .before .loop .inv in
     let g = groupOf (a .library .now) (spliced (a .user .now) (a .group .now) (a .cut)) in
@@ -44,7 +44,7 @@ loop-again c =
     (rewrite-next (f .0) (omega arith) (s .pre .1 .1 .1 .1 .1 .1 .0 .1) (done .0 ∙ class-is (f .0) (verdictOf (a .nlib) g)), done .1)
 
 same-length : tie.Need-same-length Inv-loop μ-loop
-same-length c = c .before .loop .inv .1 .long ∙ sym (c .before .before .before .before .before .before .before .before .before .before .before .before .pre .1 .1 .1 .1 .1 .1 .1 .long)
+same-length c = c .before .loop .inv .1 .long ∙ sym (c .before .before .before .before .before .before .before .before .before .before .before .before .before .pre .1 .1 .1 .1 .1 .1 .1 .0 .long)
 
 same-length-2 : tie.Need-same-length-2 Inv-loop μ-loop
 same-length-2 c = rewrite-long (c .before .loop .inv .0)

@@ -13,27 +13,27 @@ shared-slice-read-if1 : tie.Need-shared-slice-read-if1
 shared-slice-read-if1 c = search needs
 
 returns : tie.Need-returns
-returns c = (put-not _ _ _ _ (ne-eqb _ _ (c .if1 .taken)), c .before .before .before .before .before .before .before .before .before .before .before .before .pre .1 .1 .1 .1 .1 .1 .1 .1)
+returns c = (put-not _ _ _ _ (ne-eqb _ _ (c .if1 .taken)), c .before .before .before .before .before .before .before .before .before .before .before .before .before .pre .1 .1 .1 .1 .1 .1 .1 .1 .0)
 
 judged-requires : tie.Need-judged-requires
 judged-requires c κs =
-    let p = c .before .before .before .before .before .before .before .before .before .before .before .before .before .pre in
-    (p .0, (p .1 .0, (p .1 .1 .0, (p .1 .1 .1 .0, (p .1 .1 .1 .1 .0, (p .1 .1 .1 .1 .1 .0, (p .1 .1 .1 .1 .1 .1 .1 .0, p .1 .1 .1 .1 .1 .1 .1 .1)))))))
+    let p = c .before .before .before .before .before .before .before .before .before .before .before .before .before .before .pre in
+    (p .0, (p .1 .0, (p .1 .1 .0, (p .1 .1 .1 .0, (p .1 .1 .1 .1 .0, (p .1 .1 .1 .1 .1 .0, (p .1 .1 .1 .1 .1 .1 .1 .0, (p .1 .1 .1 .1 .1 .1 .1 .1 .0, p .1 .1 .1 .1 .1 .1 .1 .1 .1))))))))
 
 sub-at : tie.Need-sub-at
-sub-at c = omega (arith, c .before .before .before .before .before .before .before .before .before .before .before .before .before .before .before .before .pre .1 .1 .1 .1 .1 .1 .1 .0)
+sub-at c = omega (arith, c .before .before .before .before .before .before .before .before .before .before .before .before .before .before .before .before .before .pre .1 .1 .1 .1 .1 .1 .1 .0)
 
 mul-at : tie.Need-mul-at
-mul-at c = let p = c .before .before .before .before .before .before .before .before .before .before .before .before .before .before .before .before .pre in omega (arith, p .1 .0 .few, p .1 .1 .1 .1 .1 .1 .1 .0)
+mul-at c = let p = c .before .before .before .before .before .before .before .before .before .before .before .before .before .before .before .before .before .pre in omega (arith, p .1 .0 .few, p .1 .1 .1 .1 .1 .1 .1 .0)
 
 slice-write-verdicts : tie.Need-slice-write-verdicts
-slice-write-verdicts c = let p = c .before .before .before .before .before .before .before .before .before .before .before .before .before .before .before .before .pre in omega (arith, lines-bytes _ (p .1 .1 .1 .1 .1 .1 .0 .1), p .1 .1 .1 .1 .1 .1 .1 .0)
+slice-write-verdicts c = let p = c .before .before .before .before .before .before .before .before .before .before .before .before .before .before .before .before .before .pre in omega (arith, lines-bytes _ (p .1 .1 .1 .1 .1 .1 .0 .1), p .1 .1 .1 .1 .1 .1 .1 .0)
 
 add-verdicts : tie.Need-add-verdicts
-add-verdicts c = let p = c .before .before .before .before .before .before .before .before .before .before .before .before .before .before .before .before .pre in omega (arith, p .1 .0 .few, p .1 .1 .1 .1 .1 .1 .1 .0)
+add-verdicts c = let p = c .before .before .before .before .before .before .before .before .before .before .before .before .before .before .before .before .before .pre in omega (arith, p .1 .0 .few, p .1 .1 .1 .1 .1 .1 .1 .0)
 
 slice-write-verdicts-2 : tie.Need-slice-write-verdicts-2
-slice-write-verdicts-2 c = let p = c .before .before .before .before .before .before .before .before .before .before .before .before .before .before .before .before .pre in simp length-set (omega (arith, lines-bytes _ (p .1 .1 .1 .1 .1 .1 .0 .1), p .1 .1 .1 .1 .1 .1 .1 .0))
+slice-write-verdicts-2 c = let p = c .before .before .before .before .before .before .before .before .before .before .before .before .before .before .before .before .before .pre in simp length-set (omega (arith, lines-bytes _ (p .1 .1 .1 .1 .1 .1 .0 .1), p .1 .1 .1 .1 .1 .1 .1 .0))
 
 same-length : tie.Need-same-length
 same-length c = search needs

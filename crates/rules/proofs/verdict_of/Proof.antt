@@ -21,58 +21,58 @@ use Rattle.rules.proofs.verdict_of.Statement.{statement}
 use Rattle.rules.proofs.verdict_of.Tie as tie
 
 abbrev Inv-loop2 : tie.InvT-loop2
-Inv-loop2 library user group cut starts nlib n markers row c kept rule first t bytes end at₀ k₀ at k = RecordAt library (spliced user group cut) nlib n c rule t bytes end at k
+Inv-loop2 library user group cut starts nlib n markers row banned c kept rule first t bytes end at₀ k₀ at k = RecordAt library (spliced user group cut) nlib n c rule t bytes end at k
 
 abbrev μ-loop2 : tie.MeasureT-loop2
-μ-loop2 library user group cut starts nlib n markers row c kept rule first t bytes end at₀ k₀ at k = end - at
+μ-loop2 library user group cut starts nlib n markers row banned c kept rule first t bytes end at₀ k₀ at k = end - at
 
 abbrev Inv-loop : tie.InvT-loop
-Inv-loop library user group cut starts nlib n markers row c kept rule first t₀ t = ClassAt nlib n (groupOf library (spliced user group cut)) c rule t
+Inv-loop library user group cut starts nlib n markers row banned c kept rule first t₀ t = ClassAt nlib n (groupOf library (spliced user group cut)) c rule t
 
 abbrev μ-loop : tie.MeasureT-loop
-μ-loop library user group cut starts nlib n markers row c kept rule first t₀ t = left n c t
+μ-loop library user group cut starts nlib n markers row banned c kept rule first t₀ t = left n c t
 
 abbrev Inv-judged : tie.InvT-judged
-Inv-judged library user group cut starts nlib n markers row c kept₀ rule₀ kept rule =
+Inv-judged library user group cut starts nlib n markers row banned c kept₀ rule₀ kept rule =
     RuleAt nlib (groupOf library (spliced user group cut)) c rule × Kept nlib n (groupOf library (spliced user group cut)) kept
 
 abbrev μ-judged : tie.MeasureT-judged
-μ-judged library user group cut starts nlib n markers row c kept₀ rule₀ kept rule = 11 - rule
+μ-judged library user group cut starts nlib n markers row banned c kept₀ rule₀ kept rule = 11 - rule
 
 judged-holds : tie.Need-judged-holds Inv-loop2 μ-loop2 Inv-loop μ-loop Inv-judged μ-judged
-judged-holds c = (rule-start, c .before .before .before .before .before .before .before .pre .1 .1 .1 .1 .1 .1)
+judged-holds c = (rule-start, c .before .before .before .before .before .before .before .before .pre .1 .1 .1 .1 .1 .1 .0)
 
 first-class-requires :
     tie.Need-first-class-requires Inv-loop2 μ-loop2 Inv-loop μ-loop Inv-judged μ-judged
 first-class-requires c κs =
-    let p = c .before .before .before .before .before .before .before .before .before .pre in
+    let p = c .before .before .before .before .before .before .before .before .before .before .pre in
     (p .0, (p .1 .0, (p .1 .1 .1 .0, p .1 .1 .1 .1 .1 .0 .1)))
 
 climb-requires : tie.Need-climb-requires Inv-loop2 μ-loop2 Inv-loop μ-loop Inv-judged μ-judged
-climb-requires c κs = (c .before .before .before .judged .inv .1 .long, c .before .before .before .before .before .before .before .before .before .before .before .pre .1 .0 .few, omega arith)
+climb-requires c κs = (c .before .before .before .judged .inv .1 .long, c .before .before .before .before .before .before .before .before .before .before .before .before .pre .1 .0 .few, omega arith)
 
 loop-holds : tie.Need-loop-holds Inv-loop2 μ-loop2 Inv-loop μ-loop Inv-judged μ-judged
 loop-holds c =
-    let p = c .before .before .before .before .before .before .before .before .before .before .before .before .pre in
+    let p = c .before .before .before .before .before .before .before .before .before .before .before .before .before .pre in
     let rules = c .before .before .before .before .judged .inv in
     climb-at (ground (p .1 .0) (p .1 .1 .0)) (p .1 .1 .1 .1 .1 .0 .0) (p .1 .1 .1 .1 .1 .0 .1) (rules .1) (omega arith) (class-start (ground (p .1 .0) (p .1 .1 .0)) (p .1 .1 .1 .1 .1 .0 .0) (p .1 .1 .1 .1 .1 .0 .1) (rules .0) (c .before .before .first-class .ensures)) (c .climb .ensures) .0
 
 class-bytes-requires :
     tie.Need-class-bytes-requires Inv-loop2 μ-loop2 Inv-loop μ-loop Inv-judged μ-judged
-class-bytes-requires c κs = let p = c .before .before .before .before .before .before .before .before .before .before .before .before .before .before .pre in (p .0, (p .1 .0, omega arith))
+class-bytes-requires c κs = let p = c .before .before .before .before .before .before .before .before .before .before .before .before .before .before .before .pre in (p .0, (p .1 .0, omega arith))
 
 asked-end-requires :
     tie.Need-asked-end-requires Inv-loop2 μ-loop2 Inv-loop μ-loop Inv-judged μ-judged
-asked-end-requires c κs = omega (arith, class-within (c .class-bytes .ensures) (class-long (c .before .before .before .before .before .before .before .before .before .before .before .before .before .before .before .pre .1 .0) (omega arith)))
+asked-end-requires c κs = omega (arith, class-within (c .class-bytes .ensures) (class-long (c .before .before .before .before .before .before .before .before .before .before .before .before .before .before .before .before .pre .1 .0) (omega arith)))
 
 loop2-holds : tie.Need-loop2-holds Inv-loop2 μ-loop2 Inv-loop μ-loop Inv-judged μ-judged
 loop2-holds c =
-    let p = c .before .before .before .before .before .before .before .before .before .before .before .before .before .before .before .before .pre in
+    let p = c .before .before .before .before .before .before .before .before .before .before .before .before .before .before .before .before .before .pre in
     record-start (p .1 .0) (ground (p .1 .0) (p .1 .1 .0)) (p .1 .1 .1 .1 .1 .0 .0) (p .1 .1 .1 .1 .1 .0 .1) (c .before .before .before .loop .inv) (omega arith) (c .before .class-bytes .ensures) (c .asked-end .ensures _ (c .before .class-bytes .ensures))
 
 breaks-requires : tie.Need-breaks-requires Inv-loop2 μ-loop2 Inv-loop μ-loop Inv-judged μ-judged
 breaks-requires c κs =
-    let p = c .before .before .before .before .before .before .before .before .before .before .before .before .before .before .before .before .before .before .pre in
+    let p = c .before .before .before .before .before .before .before .before .before .before .before .before .before .before .before .before .before .before .before .pre in
     let f = c .before .loop2 .inv in (
       p .0,
       (
@@ -87,7 +87,7 @@ breaks-requires c κs =
                 (p .1 .1 .1 .1 .1 .0 .0, p .1 .1 .1 .1 .1 .0 .1, omega arith, f .rules .some),
                 (
                   record { carries = f .carries; is = record-at (p .1 .0) (ground (p .1 .0) (p .1 .1 .0)) (p .1 .1 .1 .1 .1 .0 .0) (p .1 .1 .1 .1 .1 .0 .1) f (omega arith); sized = record-sized (p .1 .0) (ground (p .1 .0) (p .1 .1 .0)) (p .1 .1 .1 .1 .1 .0 .0) (p .1 .1 .1 .1 .1 .0 .1) f (omega arith) },
-                  (λ e. record-first (p .1 .0) (ground (p .1 .0) (p .1 .1 .0)) (p .1 .1 .1 .1 .1 .0 .0) (p .1 .1 .1 .1 .1 .0 .1) f (omega arith) (only-three _ _ _ e), λ e. record-first (p .1 .0) (ground (p .1 .0) (p .1 .1 .0)) (p .1 .1 .1 .1 .1 .0 .0) (p .1 .1 .1 .1 .1 .0 .1) f (omega arith) (only-six _ _ _ e), f .concrete),
+                  ((λ e. record-first (p .1 .0) (ground (p .1 .0) (p .1 .1 .0)) (p .1 .1 .1 .1 .1 .0 .0) (p .1 .1 .1 .1 .1 .0 .1) f (omega arith) (only-three _ _ _ e), λ e. record-first (p .1 .0) (ground (p .1 .0) (p .1 .1 .0)) (p .1 .1 .1 .1 .1 .0 .0) (p .1 .1 .1 .1 .1 .0 .1) f (omega arith) (only-six _ _ _ e), f .concrete), p .1 .1 .1 .1 .1 .1 .1),
                 ),
               ),
             ),
@@ -98,7 +98,7 @@ breaks-requires c κs =
 
 place-requires : tie.Need-place-requires Inv-loop2 μ-loop2 Inv-loop μ-loop Inv-judged μ-judged
 place-requires c κs =
-    let p = c .before .before .before .before .before .before .before .before .before .before .before .before .before .before .before .before .before .before .before .before .pre in
+    let p = c .before .before .before .before .before .before .before .before .before .before .before .before .before .before .before .before .before .before .before .before .before .pre in
     omega (arith, record-low (p .1 .0) (ground (p .1 .0) (p .1 .1 .0)) (p .1 .1 .1 .1 .1 .0 .0) (p .1 .1 .1 .1 .1 .0 .1) (c .before .before .before .loop2 .inv) (omega arith))
 
 word-in-requires : tie.Need-word-in-requires Inv-loop2 μ-loop2 Inv-loop μ-loop Inv-judged μ-judged
@@ -112,7 +112,7 @@ add-at c = omega (arith, c .before .before .before .before .before .loop2 .inv .
 
 add-k : tie.Need-add-k Inv-loop2 μ-loop2 Inv-loop μ-loop Inv-judged μ-judged
 add-k c =
-    let p = c .before .before .before .before .before .before .before .before .before .before .before .before .before .before .before .before .before .before .before .before .before .before .pre in
+    let p = c .before .before .before .before .before .before .before .before .before .before .before .before .before .before .before .before .before .before .before .before .before .before .before .pre in
     omega (arith, record-low (p .1 .0) (ground (p .1 .0) (p .1 .1 .0)) (p .1 .1 .1 .1 .1 .0 .0) (p .1 .1 .1 .1 .1 .0 .1) (c .before .before .before .before .before .loop2 .inv) (omega arith))
 
 loop2-less : tie.Need-loop2-less Inv-loop2 μ-loop2 Inv-loop μ-loop Inv-judged μ-judged
@@ -120,31 +120,31 @@ loop2-less c = omega (arith, walk-on (c .before .before .before .before .before 
 
 loop2-again : tie.Need-loop2-again Inv-loop2 μ-loop2 Inv-loop μ-loop Inv-judged μ-judged
 loop2-again c =
-    let p = c .before .before .before .before .before .before .before .before .before .before .before .before .before .before .before .before .before .before .before .before .before .before .pre in
+    let p = c .before .before .before .before .before .before .before .before .before .before .before .before .before .before .before .before .before .before .before .before .before .before .before .pre in
     record-next (p .1 .0) (ground (p .1 .0) (p .1 .1 .0)) (p .1 .1 .1 .1 .1 .0 .0) (p .1 .1 .1 .1 .1 .0 .1) (c .before .before .before .before .before .loop2 .inv) (omega arith) (c .wide .ensures .0 ∙ c .before .word-in .ensures) (sym (c .before .before .before .breaks .ensures) ∙ c .before .before .if2 .left)
 
 next-class-requires :
     tie.Need-next-class-requires Inv-loop2 μ-loop2 Inv-loop μ-loop Inv-judged μ-judged
-next-class-requires c κs = let p = c .before .before .before .before .before .before .before .before .before .before .before .before .before .before .before .before .before .before .pre in (p .0, (p .1 .0, (omega arith, c .before .loop2 .inv .carries)))
+next-class-requires c κs = let p = c .before .before .before .before .before .before .before .before .before .before .before .before .before .before .before .before .before .before .before .pre in (p .0, (p .1 .0, (omega arith, c .before .loop2 .inv .carries)))
 
 climb-requires-2 : tie.Need-climb-requires-2 Inv-loop2 μ-loop2 Inv-loop μ-loop Inv-judged μ-judged
-climb-requires-2 c κs = (c .before .before .before .before .before .before .before .before .before .before .before .before .judged .inv .1 .long, c .before .before .before .before .before .before .before .before .before .before .before .before .before .before .before .before .before .before .before .before .pre .1 .0 .few, omega arith)
+climb-requires-2 c κs = (c .before .before .before .before .before .before .before .before .before .before .before .before .judged .inv .1 .long, c .before .before .before .before .before .before .before .before .before .before .before .before .before .before .before .before .before .before .before .before .before .pre .1 .0 .few, omega arith)
 
 loop-less : tie.Need-loop-less Inv-loop2 μ-loop2 Inv-loop μ-loop Inv-judged μ-judged
 loop-less c =
-    let p = c .before .before .before .before .before .before .before .before .before .before .before .before .before .before .before .before .before .before .before .before .before .pre in
+    let p = c .before .before .before .before .before .before .before .before .before .before .before .before .before .before .before .before .before .before .before .before .before .before .pre in
     let next = record-end (p .1 .0) (ground (p .1 .0) (p .1 .1 .0)) (p .1 .1 .1 .1 .1 .0 .0) (p .1 .1 .1 .1 .1 .0 .1) (c .before .before .before .before .loop2 .inv) (omega arith) (omega arith) (c .before .before .next-class .ensures) in
     omega (arith, next .1, climb-at (ground (p .1 .0) (p .1 .1 .0)) (p .1 .1 .1 .1 .1 .0 .0) (p .1 .1 .1 .1 .1 .0 .1) (c .before .before .before .before .before .before .before .before .before .before .before .before .before .judged .inv .1) (omega arith) (next .0) (c .climb2 .ensures) .1)
 
 loop-again : tie.Need-loop-again Inv-loop2 μ-loop2 Inv-loop μ-loop Inv-judged μ-judged
 loop-again c =
-    let p = c .before .before .before .before .before .before .before .before .before .before .before .before .before .before .before .before .before .before .before .before .before .pre in
+    let p = c .before .before .before .before .before .before .before .before .before .before .before .before .before .before .before .before .before .before .before .before .before .before .pre in
     let next = record-end (p .1 .0) (ground (p .1 .0) (p .1 .1 .0)) (p .1 .1 .1 .1 .1 .0 .0) (p .1 .1 .1 .1 .1 .0 .1) (c .before .before .before .before .loop2 .inv) (omega arith) (omega arith) (c .before .before .next-class .ensures) in
     climb-at (ground (p .1 .0) (p .1 .1 .0)) (p .1 .1 .1 .1 .1 .0 .0) (p .1 .1 .1 .1 .1 .0 .1) (c .before .before .before .before .before .before .before .before .before .before .before .before .before .judged .inv .1) (omega arith) (next .0) (c .climb2 .ensures) .0
 
 keep-requires : tie.Need-keep-requires Inv-loop2 μ-loop2 Inv-loop μ-loop Inv-judged μ-judged
 keep-requires c κs =
-    let p = c .before .before .before .before .before .before .before .before .before .before .before .before .before .before .before .before .before .pre in
+    let p = c .before .before .before .before .before .before .before .before .before .before .before .before .before .before .before .before .before .before .pre in
     let rules = c .before .before .before .before .before .before .before .before .before .judged .inv in
     let asked = c .before .before .before .before .before .before .before .first-class .ensures in
     let lower = first-lower (ground (p .1 .0) (p .1 .1 .0)) (p .1 .1 .1 .1 .1 .0 .0) (p .1 .1 .1 .1 .1 .0 .1) (rules .1) (omega arith) (omega arith) asked (omega arith) in
@@ -159,23 +159,23 @@ judged-less c = omega arith
 
 judged-again : tie.Need-judged-again Inv-loop2 μ-loop2 Inv-loop μ-loop Inv-judged μ-judged
 judged-again c =
-    let p = c .before .before .before .before .before .before .before .before .before .before .before .before .before .before .before .pre in
+    let p = c .before .before .before .before .before .before .before .before .before .before .before .before .before .before .before .before .pre in
     (class-end (ground (p .1 .0) (p .1 .1 .0)) (p .1 .1 .1 .1 .1 .0 .0) (p .1 .1 .1 .1 .1 .0 .1) (omega arith) (c .before .before .loop .inv) (omega arith), ⊎-elim (λ w. subst (Kept _ _ _) (sym (w .6)) (w .3 .ensures)) (⊎-elim (λ w. subst (Kept _ _ _) (sym (w .2)) (c .before .before .before .before .before .before .before .judged .inv .1)) (λ w. subst (Kept _ _ _) (sym (w .1)) (c .before .before .before .before .before .before .before .judged .inv .1))) (c .if3 .came))
 
 same-length : tie.Need-same-length Inv-loop2 μ-loop2 Inv-loop μ-loop Inv-judged μ-judged
-same-length c = c .before .judged .inv .1 .long ∙ sym (c .before .before .before .before .before .before .before .before .before .pre .1 .1 .1 .1 .1 .1 .long)
+same-length c = c .before .judged .inv .1 .long ∙ sym (c .before .before .before .before .before .before .before .before .before .before .pre .1 .1 .1 .1 .1 .1 .0 .long)
 
 returns : tie.Need-returns Inv-loop2 μ-loop2 Inv-loop μ-loop Inv-judged μ-judged
 returns c =
-    let p = c .before .before .before .before .before .before .before .before .before .pre in
+    let p = c .before .before .before .before .before .before .before .before .before .before .pre in
     (sym (rule-end (ground (p .1 .0) (p .1 .1 .0)) (p .1 .1 .1 .1 .1 .0 .0) (p .1 .1 .1 .1 .1 .0 .1) (c .before .judged .inv .0) (omega arith)), c .before .judged .inv .1)
 
 same-length-2 : tie.Need-same-length-2 Inv-loop2 μ-loop2 Inv-loop μ-loop Inv-judged μ-judged
-same-length-2 c = c .before .before .before .before .before .before .before .before .before .before .before .before .before .judged .inv .1 .long ∙ sym (c .before .before .before .before .before .before .before .before .before .before .before .before .before .before .before .before .before .before .before .before .before .pre .1 .1 .1 .1 .1 .1 .long)
+same-length-2 c = c .before .before .before .before .before .before .before .before .before .before .before .before .before .judged .inv .1 .long ∙ sym (c .before .before .before .before .before .before .before .before .before .before .before .before .before .before .before .before .before .before .before .before .before .before .pre .1 .1 .1 .1 .1 .1 .0 .long)
 
 returns-2 : tie.Need-returns-2 Inv-loop2 μ-loop2 Inv-loop μ-loop Inv-judged μ-judged
 returns-2 c =
-    let p = c .before .before .before .before .before .before .before .before .before .before .before .before .before .before .before .before .before .before .before .before .before .pre in
+    let p = c .before .before .before .before .before .before .before .before .before .before .before .before .before .before .before .before .before .before .before .before .before .before .pre in
     let hit = record-hit (p .1 .0) (ground (p .1 .0) (p .1 .1 .0)) (p .1 .1 .1 .1 .1 .0 .0) (p .1 .1 .1 .1 .1 .0 .1) (c .before .before .before .before .loop2 .inv) (omega arith) (omega arith) (omega arith) (sym (c .before .before .breaks .ensures) ∙ c .before .if2 .taken) (c .place .ensures) in
     (hit, c .before .before .before .before .before .before .before .before .before .before .before .before .before .judged .inv .1)
 

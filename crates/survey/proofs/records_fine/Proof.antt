@@ -17,26 +17,25 @@ use Rattle.survey.proofs.records_fine.Statement.{statement}
 use Rattle.survey.proofs.records_fine.Tie as tie
 
 abbrev Inv-loop : tie.InvT-loop
-Inv-loop library user group cut starts nlib n markers bytes at₀ at = Seeking nlib n (groupOf library (spliced user group cut)) bytes at
+Inv-loop library user group cut starts nlib n markers banned bytes at₀ at = Seeking nlib n (groupOf library (spliced user group cut)) bytes at
 
 abbrev μ-loop : tie.MeasureT-loop
-μ-loop library user group cut starts nlib n markers bytes at₀ at = length bytes - at
+μ-loop library user group cut starts nlib n markers banned bytes at₀ at = length bytes - at
 
 loop-holds : tie.Need-loop-holds Inv-loop μ-loop
-loop-holds c = let p = c .before .before .before .before .before .before .pre .1 .1 .1 in seek-start (p .0) (p .1)
+loop-holds c = let p = c .before .before .before .before .before .before .before .pre .1 .1 .1 in seek-start (p .0) (p .1 .0)
 
 names-forbidden-requires : tie.Need-names-forbidden-requires Inv-loop μ-loop
-names-forbidden-requires c κs =
-    let p = c .before .before .before .before .before .before .before .before .pre in
-    let place = c .before .loop .inv .place in
-    (p .0, (p .1 .0, (walk-sized place (c .loop-test .taken), place .small)))
+names-forbidden-requires c κs = let place = c .before .loop .inv .place in (walk-sized place (c .loop-test .taken), place .small)
 
 returns : tie.Need-returns Inv-loop μ-loop
-returns c = ap not (sym (seek-hit (c .before .before .before .loop .inv) (c .before .before .loop-test .taken) (met (c .if1 .taken) _ (record-by _ _ _ (c .before .names-forbidden .ensures) refl refl))))
+returns c =
+    let bans = c .before .before .before .before .before .before .before .before .before .before .before .pre .1 .1 .1 .1 .1 in
+    ap not (sym (seek-hit (c .before .before .before .loop .inv) (c .before .before .loop-test .taken) (met (c .if1 .taken) _ (record-by _ _ _ (c .before .names-forbidden .ensures .is _ _ bans) refl refl))))
 
 refers-forbidden-requires : tie.Need-refers-forbidden-requires Inv-loop μ-loop
 refers-forbidden-requires c κs =
-    let p = c .before .before .before .before .before .before .before .before .before .before .pre in
+    let p = c .before .before .before .before .before .before .before .before .before .before .before .pre in
     let inv = c .before .before .before .loop .inv in
     let low = c .before .before .loop-test .taken in
     (p .0, (p .1 .0, (walk-sized (inv .place) low, (seek-refers inv low, inv .place .small))))
@@ -44,10 +43,11 @@ refers-forbidden-requires c κs =
 returns-2 : tie.Need-returns-2 Inv-loop μ-loop
 returns-2 c =
     let one = c .before .before in
+    let bans = one .before .before .before .before .before .before .before .before .before .before .before .pre .1 .1 .1 .1 .1 in
     ap not
     (sym
     (seek-hit (one .before .before .before .loop .inv) (one .before .before .loop-test .taken)
-    (met (c .if2 .taken) _ (past (one .if1 .left) (record-by _ _ _ (one .before .names-forbidden .ensures) (c .before .refers-forbidden .ensures) refl)))))
+    (met (c .if2 .taken) _ (past (one .if1 .left) (record-by _ _ _ (one .before .names-forbidden .ensures .is _ _ bans) (c .before .refers-forbidden .ensures) refl)))))
 
 static-breaks-requires : tie.Need-static-breaks-requires Inv-loop μ-loop
 static-breaks-requires c κs = let place = c .before .before .before .before .before .loop .inv .place in (walk-sized place (c .before .before .before .before .loop-test .taken), place .small)
@@ -56,8 +56,8 @@ returns-3 : tie.Need-returns-3 Inv-loop μ-loop
 returns-3 c =
     let two = c .before .before in
     let one = two .before .before in
-    let known = one .before .before .before .before .before .before .before .before .before .before .pre .1 .1 .0 in
-    let all = record-by _ _ _ (one .before .names-forbidden .ensures) (two .before .refers-forbidden .ensures) (c .before .static-breaks .ensures _ known) in
+    let p = one .before .before .before .before .before .before .before .before .before .before .before .pre .1 .1 in
+    let all = record-by _ _ _ (one .before .names-forbidden .ensures .is _ _ (p .1 .1 .1)) (two .before .refers-forbidden .ensures) (c .before .static-breaks .ensures _ (p .0)) in
     ap not (sym (seek-hit (one .before .before .before .loop .inv) (one .before .before .loop-test .taken) (past (two .if2 .left) (past (one .if1 .left) all) ∙ c .if3 .taken)))
 
 word-in-requires : tie.Need-word-in-requires Inv-loop μ-loop
@@ -77,8 +77,8 @@ loop-again c =
     let three = c .before .before in
     let two = three .before .before in
     let one = two .before .before in
-    let known = one .before .before .before .before .before .before .before .before .before .before .pre .1 .1 .0 in
-    let all = record-by _ _ _ (one .before .names-forbidden .ensures) (two .before .refers-forbidden .ensures) (three .before .static-breaks .ensures _ known) in
+    let p = one .before .before .before .before .before .before .before .before .before .before .before .pre .1 .1 in
+    let all = record-by _ _ _ (one .before .names-forbidden .ensures .is _ _ (p .1 .1 .1)) (two .before .refers-forbidden .ensures) (three .before .static-breaks .ensures _ (p .0)) in
     seek-next (one .before .before .before .loop .inv) (one .before .before .loop-test .taken) (c .wide .ensures .0 ∙ c .before .word-in .ensures)
     (past (two .if2 .left) (past (one .if1 .left) all) ∙ three .if3 .left)
 
