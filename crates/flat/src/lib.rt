@@ -57,7 +57,19 @@ fn judged<'a>(
     ensures verdict { λ r. ⌜ lineOf r ≡ verdictOf nlib (groupOf (now (library .entry)) (spliced (now (user .entry)) (now (group .entry)) cut)) c ⌝ }
     ensures kept { λ r. ⌜ Kept nlib n (groupOf (now (library .entry)) (spliced (now (user .entry)) (now (group .entry)) cut)) (now (kept .exit)) ⌝ }
 {
-    if clean(library, user, group, cut, starts, nlib, n, markers, sets, banned, c) {
+    if clean(
+        library,
+        user,
+        group,
+        cut,
+        starts,
+        nlib,
+        n,
+        markers,
+        sets,
+        banned,
+        c,
+    ) {
         return Verdict { rule: 0, record: 0 };
     }
     verdict_of(

@@ -328,7 +328,18 @@ pub fn clean<'a>(
     if !head_fine(bytes, m) {
         return false;
     }
-    if !records_fine(library, user, group, cut, starts, nlib, n, markers, banned, bytes) {
+    if !records_fine(
+        library,
+        user,
+        group,
+        cut,
+        starts,
+        nlib,
+        n,
+        markers,
+        banned,
+        bytes,
+    ) {
         return false;
     }
     if word_in(bytes, 4) % 2 == 1 {
