@@ -90,6 +90,11 @@ pub record Counts (g : ℕ → Group) (nlib n : ℕ) (row : List ℕ) : Type 0 w
   pub long : n ≤ length row
   pub counts : (d : ℕ) → d < n → getD row d 0 ≡ countOf nlib g d
 
+-- the row has 1 at class c and its enclosers, and at none else of n classes
+pub record Enclosing (g : ℕ → Group) (n c : ℕ) (row : List ℕ) : Type 0 where
+  pub long : n ≤ length row
+  pub marks : (t : ℕ) → t < n → eqb (getD row t 0) 1 ≡ elem t (c ∷ enclosers g c)
+
 -- ---- the whole
 
 -- the first of some records of class c that is refused, by its number and its byte, where the first begins at `at`

@@ -9,21 +9,19 @@ use view::Cut;
 use view::word_in;
 ghost use mathlib.Core.Path.{_≡_};
 ghost use mathlib.Core.Bool.{not, _&&_, _||_};
-ghost use mathlib.Core.List.{_∷_};
 ghost use Prim.Native.Nat.{_+_, _≤_, _<_};
 ghost use lib.Dec.{eqb};
-ghost use lib.ListN.{length, drop};
-ghost use Rattle.spec.specs.Lists.{elem, sameList};
+ghost use lib.ListN.{length, drop, replicate};
+ghost use Rattle.spec.specs.Lists.{sameList};
 ghost use Rattle.spec.specs.Record.{u16, bit, className, tyAt, LOCAL, MEMBER};
 ghost use Rattle.spec.specs.Sheet.{group as groupOf, classRecord, ofKind, isInterface, classCount};
-ghost use Rattle.spec.specs.Classes.{enclosers as enclosersOf};
 ghost use Rattle.spec.specs.Refusals.{nameMet};
 ghost use Rattle.theory.specs.Claims.{sheetOf};
 ghost use Rattle.view.specs.View.{Fits, spliced};
 ghost use Rattle.pass.specs.Pass.{recordAt, passOf};
 ghost use Rattle.groups.specs.Groups.{startOf, between, Carries, Indexed};
 ghost use Rattle.names.specs.Names.{Opens, Printed};
-ghost use Rattle.second.specs.Second.{Sized, Counts, typeThere, classNumber, implementsNumber, fieldNumber, usesNumber, refersNumber, formNumber, formOf, formIn, thereOrNone, superclassOk, encloserOk, firstClass, classesEnd, countOf};
+ghost use Rattle.second.specs.Second.{Sized, Counts, Enclosing, typeThere, classNumber, implementsNumber, fieldNumber, usesNumber, refersNumber, formNumber, formOf, formIn, thereOrNone, superclassOk, encloserOk, firstClass, classesEnd, countOf};
 
 fn byte_wide(x: u8) -> usize
     ensures { λ r. ⌜ r ≡ x ⌝ }
@@ -148,8 +146,8 @@ fn name_met<'a>(
     false
 }
 
-// Whether t is class c or encloses it at any depth.
-fn encloses<'a>(
+// Marks class c and its enclosers in a row of zeros, so that a USES asks by one comparison.
+fn mark_enclosers<'a>(
     library: &'a [u8],
     user: &'a [u8],
     group: &'a [u8],
@@ -158,30 +156,25 @@ fn encloses<'a>(
     nlib: usize,
     n: usize,
     c: usize,
-    t: usize,
-) -> bool
+    row: &mut [u8],
+)
     requires { ⌜ Fits cut (now user) (now group) ⌝ }
     requires { ⌜ Indexed (now library) (spliced (now user) (now group) cut) nlib n (now starts) ⌝ }
-    requires { ⌜ (c < n) × (t < n) ⌝ }
-    ensures { λ r. ⌜ r ≡ elem t (c ∷ enclosersOf (groupOf (now (library .entry)) (spliced (now (user .entry)) (now (group .entry)) cut)) c) ⌝ }
+    requires { ⌜ (c < n) × (now row ≡ replicate 256 0) ⌝ }
+    ensures { λ r. ⌜ Enclosing (groupOf (now (library .entry)) (spliced (now (user .entry)) (now (group .entry)) cut)) n c (now (row .exit)) ⌝ }
 {
-    if t == c {
-        return true;
-    }
+    row[c] = 1;
     let mut e = c;
     let mut left = c + 1;
     while 0 < left {
         let up = wide(class_word(library, user, group, cut, starts, nlib, n, e, 10));
-        if up == t {
-            return true;
-        }
         if n <= up {
-            return false;
+            return;
         }
+        row[up] = 1;
         e = up;
         left -= 1;
     }
-    false
 }
 
 // Whether a superclass or an encloser is named that isn't there; 65535 is none.
@@ -400,7 +393,7 @@ fn members<'a>(
     )
 }
 
-// The number that refuses a USES of class c that names variable i of class t, or 0.
+// The number that refuses a USES of class c that names variable i of class t, or 0; the marks are those of c and its enclosers.
 fn uses_number<'a>(
     library: &'a [u8],
     user: &'a [u8],
@@ -410,6 +403,7 @@ fn uses_number<'a>(
     nlib: usize,
     n: usize,
     counts: &[u8],
+    marks: &[u8],
     c: usize,
     t: usize,
     i: usize,
@@ -417,7 +411,7 @@ fn uses_number<'a>(
     requires { ⌜ Fits cut (now user) (now group) ⌝ }
     requires { ⌜ Indexed (now library) (spliced (now user) (now group) cut) nlib n (now starts) ⌝ }
     requires { ⌜ Counts (groupOf (now library) (spliced (now user) (now group) cut)) nlib n (now counts) ⌝ }
-    requires { ⌜ c < n ⌝ }
+    requires { ⌜ Enclosing (groupOf (now library) (spliced (now user) (now group) cut)) n c (now marks) ⌝ }
     ensures { λ r. ⌜ r ≡ usesNumber (groupOf (now (library .entry)) (spliced (now (user .entry)) (now (group .entry)) cut)) n c t i ⌝ }
 {
     if n <= t {
@@ -426,7 +420,7 @@ fn uses_number<'a>(
     if locals(library, user, group, cut, starts, nlib, n, counts, t) <= i {
         return 9;
     }
-    if encloses(library, user, group, cut, starts, nlib, n, c, t) {
+    if marks[t] == 1 {
         return 0;
     }
     8
@@ -469,6 +463,7 @@ fn other_number<'a>(
     nlib: usize,
     n: usize,
     counts: &[u8],
+    marks: &[u8],
     c: usize,
     face: bool,
     bytes: &[u8],
@@ -481,6 +476,7 @@ fn other_number<'a>(
     requires { ⌜ (c < n) × (face ≡ isInterface (groupOf (now library) (spliced (now user) (now group) cut) c)) ⌝ }
     requires { ⌜ Sized (now bytes) at ⌝ }
     requires { ⌜ (kind ≡ u16 (now bytes) (at + 2)) × (kind ≡ 1 → ⊥) ⌝ }
+    requires { ⌜ Enclosing (groupOf (now library) (spliced (now user) (now group) cut)) n c (now marks) ⌝ }
     ensures { λ r. ⌜ r ≡ formNumber (groupOf (now (library .entry)) (spliced (now (user .entry)) (now (group .entry)) cut)) nlib n c (recordAt (now (bytes .entry)) at) ⌝ }
 {
     if kind == 7 {
@@ -501,7 +497,20 @@ fn other_number<'a>(
     }
     if kind == 5 {
         let i = wide(word_in(bytes, at + 6));
-        return uses_number(library, user, group, cut, starts, nlib, n, counts, c, t, i);
+        return uses_number(
+            library,
+            user,
+            group,
+            cut,
+            starts,
+            nlib,
+            n,
+            counts,
+            marks,
+            c,
+            t,
+            i,
+        );
     }
     if kind == 8 {
         let i = wide(word_in(bytes, at + 6));
@@ -533,6 +542,8 @@ fn others_pass<'a>(
     requires { ⌜ Carries (now bytes) (groupOf (now library) (spliced (now user) (now group) cut) c) ⌝ }
     ensures { λ r. ⌜ r ≡ formOf (groupOf (now (library .entry)) (spliced (now (user .entry)) (now (group .entry)) cut)) nlib n c (startOf (now (library .entry)) (spliced (now (user .entry)) (now (group .entry)) cut) c + u16 (now (bytes .entry)) 0) (between (now (bytes .entry)) (u16 (now (bytes .entry)) 0) (length (now (bytes .entry)))) ⌝ }
 {
+    let mut marks = [0u8; 256];
+    mark_enclosers(library, user, group, cut, starts, nlib, n, c, &mut marks);
     let face = word_in(bytes, 4) % 2 == 1;
     let mut at = wide(word_in(bytes, 0));
     while at < bytes.len() {
@@ -546,6 +557,7 @@ fn others_pass<'a>(
             nlib,
             n,
             counts,
+            &marks,
             c,
             face,
             bytes,

@@ -11,31 +11,31 @@ use Rattle.second.proofs.other_number.Statement.{statement}
 use Rattle.second.proofs.other_number.Tie as tie
 
 returns : tie.Need-returns
-returns c = member-at _ _ _ _ (c .before .before .before .before .before .before .before .pre .1 .1 .1 .1 .0) (c .before .before .before .before .before .before .before .pre .1 .1 .1 .1 .1 .0) (c .if1 .taken)
+returns c = member-at _ _ _ _ (c .before .before .before .before .before .before .before .before .pre .1 .1 .1 .1 .0) (c .before .before .before .before .before .before .before .before .pre .1 .1 .1 .1 .1 .0 .0) (c .if1 .taken)
 
 field-number-requires : tie.Need-field-number-requires
-field-number-requires c κs = omega (arith, kind-room (c .before .before .before .before .before .before .before .before .pre .1 .1 .1 .1 .0) FIELD (kind-is (c .before .before .before .before .before .before .before .before .pre .1 .1 .1 .1 .0) (c .before .before .before .before .before .before .before .before .pre .1 .1 .1 .1 .1 .0) (c .if2 .taken)))
+field-number-requires c κs = omega (arith, kind-room (c .before .before .before .before .before .before .before .before .before .pre .1 .1 .1 .1 .0) FIELD (kind-is (c .before .before .before .before .before .before .before .before .before .pre .1 .1 .1 .1 .0) (c .before .before .before .before .before .before .before .before .before .pre .1 .1 .1 .1 .1 .0 .0) (c .if2 .taken)))
 
 returns-2 : tie.Need-returns-2
-returns-2 c = field-at _ _ _ _ (c .before .before .before .before .before .before .before .before .before .pre .1 .1 .1 .1 .0) (c .before .before .before .before .before .before .before .before .before .pre .1 .1 .1 .1 .1 .0) (c .before .if2 .taken) (c .before .before .before .before .before .before .before .before .before .pre .1 .1 .1 .0 .1) (c .field-number .ensures)
+returns-2 c = field-at _ _ _ _ (c .before .before .before .before .before .before .before .before .before .before .pre .1 .1 .1 .1 .0) (c .before .before .before .before .before .before .before .before .before .before .pre .1 .1 .1 .1 .1 .0 .0) (c .before .if2 .taken) (c .before .before .before .before .before .before .before .before .before .before .pre .1 .1 .1 .0 .1) (c .field-number .ensures)
 
 add-type-absent : tie.Need-add-type-absent
-add-type-absent c = omega (arith, room (c .before .before .before .before .before .before .before .before .before .pre .1 .1 .1 .1 .0))
+add-type-absent c = omega (arith, room (c .before .before .before .before .before .before .before .before .before .before .pre .1 .1 .1 .1 .0))
 
 type-absent-requires : tie.Need-type-absent-requires
-type-absent-requires c κs = omega (arith, kind-room (c .before .before .before .before .before .before .before .before .before .pre .1 .1 .1 .1 .0) LOCAL (kind-is (c .before .before .before .before .before .before .before .before .before .pre .1 .1 .1 .1 .0) (c .before .before .before .before .before .before .before .before .before .pre .1 .1 .1 .1 .1 .0) (c .if3 .taken)))
+type-absent-requires c κs = omega (arith, kind-room (c .before .before .before .before .before .before .before .before .before .before .pre .1 .1 .1 .1 .0) LOCAL (kind-is (c .before .before .before .before .before .before .before .before .before .before .pre .1 .1 .1 .1 .0) (c .before .before .before .before .before .before .before .before .before .before .pre .1 .1 .1 .1 .1 .0 .0) (c .if3 .taken)))
 
 returns-3 : tie.Need-returns-3
-returns-3 c = local-at _ _ _ _ (c .before .before .before .before .before .before .before .before .before .before .before .pre .1 .1 .1 .1 .0) (c .before .before .before .before .before .before .before .before .before .before .before .pre .1 .1 .1 .1 .1 .0) (c .before .before .if3 .taken) (c .before .type-absent .ensures) true (c .if4 .taken)
+returns-3 c = local-at _ _ _ _ (c .before .before .before .before .before .before .before .before .before .before .before .before .pre .1 .1 .1 .1 .0) (c .before .before .before .before .before .before .before .before .before .before .before .before .pre .1 .1 .1 .1 .1 .0 .0) (c .before .before .if3 .taken) (c .before .type-absent .ensures) true (c .if4 .taken)
 
 returns-4 : tie.Need-returns-4
-returns-4 c = local-at _ _ _ _ (c .before .before .before .before .before .before .before .before .before .before .before .pre .1 .1 .1 .1 .0) (c .before .before .before .before .before .before .before .before .before .before .before .pre .1 .1 .1 .1 .1 .0) (c .before .before .if3 .taken) (c .before .type-absent .ensures) false (c .if4 .left)
+returns-4 c = local-at _ _ _ _ (c .before .before .before .before .before .before .before .before .before .before .before .before .pre .1 .1 .1 .1 .0) (c .before .before .before .before .before .before .before .before .before .before .before .before .pre .1 .1 .1 .1 .1 .0 .0) (c .before .before .if3 .taken) (c .before .type-absent .ensures) false (c .if4 .left)
 
 add-word-in : tie.Need-add-word-in
-add-word-in c = omega (arith, room (c .before .before .before .before .before .before .before .before .before .pre .1 .1 .1 .1 .0))
+add-word-in c = omega (arith, room (c .before .before .before .before .before .before .before .before .before .before .pre .1 .1 .1 .1 .0))
 
 word-in-requires : tie.Need-word-in-requires
-word-in-requires c κs = omega (arith, room (c .before .before .before .before .before .before .before .before .before .pre .1 .1 .1 .1 .0))
+word-in-requires c κs = omega (arith, room (c .before .before .before .before .before .before .before .before .before .before .pre .1 .1 .1 .1 .0))
 
 wide-requires : tie.Need-wide-requires
 wide-requires c κs = search needs
@@ -44,28 +44,28 @@ implements-number-requires : tie.Need-implements-number-requires
 implements-number-requires c κs = search needs
 
 returns-5 : tie.Need-returns-5
-returns-5 c = implements-at _ _ _ _ (c .before .before .before .before .before .before .before .before .before .before .before .before .before .pre .1 .1 .1 .1 .0) (c .before .before .before .before .before .before .before .before .before .before .before .before .before .pre .1 .1 .1 .1 .1 .0) (c .before .before .wide .ensures .0) (c .before .before .before .word-in .ensures) (c .before .if5 .taken) (c .implements-number .ensures)
+returns-5 c = implements-at _ _ _ _ (c .before .before .before .before .before .before .before .before .before .before .before .before .before .before .pre .1 .1 .1 .1 .0) (c .before .before .before .before .before .before .before .before .before .before .before .before .before .before .pre .1 .1 .1 .1 .1 .0 .0) (c .before .before .wide .ensures .0) (c .before .before .before .word-in .ensures) (c .before .if5 .taken) (c .implements-number .ensures)
 
 add-word-in-2 : tie.Need-add-word-in-2
-add-word-in-2 c = omega (arith, room (c .before .before .before .before .before .before .before .before .before .before .before .before .before .pre .1 .1 .1 .1 .0))
+add-word-in-2 c = omega (arith, room (c .before .before .before .before .before .before .before .before .before .before .before .before .before .before .pre .1 .1 .1 .1 .0))
 
 word-in-requires-2 : tie.Need-word-in-requires-2
-word-in-requires-2 c κs = omega (arith, kind-room (c .before .before .before .before .before .before .before .before .before .before .before .before .before .pre .1 .1 .1 .1 .0) USES (kind-is (c .before .before .before .before .before .before .before .before .before .before .before .before .before .pre .1 .1 .1 .1 .0) (c .before .before .before .before .before .before .before .before .before .before .before .before .before .pre .1 .1 .1 .1 .1 .0) (c .if6 .taken)))
+word-in-requires-2 c κs = omega (arith, kind-room (c .before .before .before .before .before .before .before .before .before .before .before .before .before .before .pre .1 .1 .1 .1 .0) USES (kind-is (c .before .before .before .before .before .before .before .before .before .before .before .before .before .before .pre .1 .1 .1 .1 .0) (c .before .before .before .before .before .before .before .before .before .before .before .before .before .before .pre .1 .1 .1 .1 .1 .0 .0) (c .if6 .taken)))
 
 wide-requires-2 : tie.Need-wide-requires-2
 wide-requires-2 c κs = search needs
 
 uses-number-requires : tie.Need-uses-number-requires
-uses-number-requires c κs = (c .before .before .before .before .before .before .before .before .before .before .before .before .before .before .before .pre .0, (c .before .before .before .before .before .before .before .before .before .before .before .before .before .before .before .pre .1 .0, (c .before .before .before .before .before .before .before .before .before .before .before .before .before .before .before .pre .1 .1 .0, c .before .before .before .before .before .before .before .before .before .before .before .before .before .before .before .pre .1 .1 .1 .0 .0)))
+uses-number-requires c κs = let p = c .before .before .before .before .before .before .before .before .before .before .before .before .before .before .before .before .pre in (p .0, (p .1 .0, (p .1 .1 .0, p .1 .1 .1 .1 .1 .1)))
 
 returns-6 : tie.Need-returns-6
-returns-6 c = uses-at _ _ _ _ (c .before .before .before .before .before .before .before .before .before .before .before .before .before .before .before .before .pre .1 .1 .1 .1 .0) (c .before .before .before .before .before .before .before .before .before .before .before .before .before .before .before .before .pre .1 .1 .1 .1 .1 .0) (c .before .before .before .before .before .wide .ensures .0) (c .before .before .before .before .before .before .word-in .ensures) (c .before .wide2 .ensures .0) (c .before .before .word-in2 .ensures) (c .before .before .before .if6 .taken) (c .uses-number .ensures)
+returns-6 c = uses-at _ _ _ _ (c .before .before .before .before .before .before .before .before .before .before .before .before .before .before .before .before .before .pre .1 .1 .1 .1 .0) (c .before .before .before .before .before .before .before .before .before .before .before .before .before .before .before .before .before .pre .1 .1 .1 .1 .1 .0 .0) (c .before .before .before .before .before .wide .ensures .0) (c .before .before .before .before .before .before .word-in .ensures) (c .before .wide2 .ensures .0) (c .before .before .word-in2 .ensures) (c .before .before .before .if6 .taken) (c .uses-number .ensures)
 
 add-word-in-3 : tie.Need-add-word-in-3
-add-word-in-3 c = omega (arith, room (c .before .before .before .before .before .before .before .before .before .before .before .before .before .before .pre .1 .1 .1 .1 .0))
+add-word-in-3 c = omega (arith, room (c .before .before .before .before .before .before .before .before .before .before .before .before .before .before .before .pre .1 .1 .1 .1 .0))
 
 word-in-requires-3 : tie.Need-word-in-requires-3
-word-in-requires-3 c κs = omega (arith, kind-room (c .before .before .before .before .before .before .before .before .before .before .before .before .before .before .pre .1 .1 .1 .1 .0) REFERS (kind-is (c .before .before .before .before .before .before .before .before .before .before .before .before .before .before .pre .1 .1 .1 .1 .0) (c .before .before .before .before .before .before .before .before .before .before .before .before .before .before .pre .1 .1 .1 .1 .1 .0) (c .if7 .taken)))
+word-in-requires-3 c κs = omega (arith, kind-room (c .before .before .before .before .before .before .before .before .before .before .before .before .before .before .before .pre .1 .1 .1 .1 .0) REFERS (kind-is (c .before .before .before .before .before .before .before .before .before .before .before .before .before .before .before .pre .1 .1 .1 .1 .0) (c .before .before .before .before .before .before .before .before .before .before .before .before .before .before .before .pre .1 .1 .1 .1 .1 .0 .0) (c .if7 .taken)))
 
 wide-requires-3 : tie.Need-wide-requires-3
 wide-requires-3 c κs = search needs
@@ -74,13 +74,13 @@ refers-number-requires : tie.Need-refers-number-requires
 refers-number-requires c κs = search needs
 
 returns-7 : tie.Need-returns-7
-returns-7 c = refers-at _ _ _ _ (c .before .before .before .before .before .before .before .before .before .before .before .before .before .before .before .before .before .pre .1 .1 .1 .1 .0) (c .before .before .before .before .before .before .before .before .before .before .before .before .before .before .before .before .before .pre .1 .1 .1 .1 .1 .0) (c .before .before .before .before .before .before .wide .ensures .0) (c .before .before .before .before .before .before .before .word-in .ensures) (c .before .wide3 .ensures .0) (c .before .before .word-in3 .ensures) (c .before .before .before .if7 .taken) (c .refers-number .ensures)
+returns-7 c = refers-at _ _ _ _ (c .before .before .before .before .before .before .before .before .before .before .before .before .before .before .before .before .before .before .pre .1 .1 .1 .1 .0) (c .before .before .before .before .before .before .before .before .before .before .before .before .before .before .before .before .before .before .pre .1 .1 .1 .1 .1 .0 .0) (c .before .before .before .before .before .before .wide .ensures .0) (c .before .before .before .before .before .before .before .word-in .ensures) (c .before .wide3 .ensures .0) (c .before .before .word-in3 .ensures) (c .before .before .before .if7 .taken) (c .refers-number .ensures)
 
 returns-8 : tie.Need-returns-8
-returns-8 c = builds-at _ _ _ _ (c .before .before .before .before .before .before .before .before .before .before .before .before .before .before .before .pre .1 .1 .1 .1 .0) (c .before .before .before .before .before .before .before .before .before .before .before .before .before .before .before .pre .1 .1 .1 .1 .1 .0) (c .before .before .before .before .wide .ensures .0) (c .before .before .before .before .before .word-in .ensures) (c .before .before .before .before .before .before .before .before .before .before .before .before .before .before .before .pre .1 .1 .1 .1 .1 .1) (c .before .before .before .before .before .before .before .if2 .left) (c .before .before .before .before .before .before .if3 .left) (c .before .before .before .before .before .before .before .before .if1 .left) (c .before .before .before .if5 .left) (c .before .before .if6 .left) (c .before .if7 .left) true (le-leb _ _ (c .if8 .taken))
+returns-8 c = builds-at _ _ _ _ (c .before .before .before .before .before .before .before .before .before .before .before .before .before .before .before .before .pre .1 .1 .1 .1 .0) (c .before .before .before .before .before .before .before .before .before .before .before .before .before .before .before .before .pre .1 .1 .1 .1 .1 .0 .0) (c .before .before .before .before .wide .ensures .0) (c .before .before .before .before .before .word-in .ensures) (c .before .before .before .before .before .before .before .before .before .before .before .before .before .before .before .before .pre .1 .1 .1 .1 .1 .0 .1) (c .before .before .before .before .before .before .before .if2 .left) (c .before .before .before .before .before .before .if3 .left) (c .before .before .before .before .before .before .before .before .if1 .left) (c .before .before .before .if5 .left) (c .before .before .if6 .left) (c .before .if7 .left) true (le-leb _ _ (c .if8 .taken))
 
 returns-9 : tie.Need-returns-9
-returns-9 c = builds-at _ _ _ _ (c .before .before .before .before .before .before .before .before .before .before .before .before .before .before .before .pre .1 .1 .1 .1 .0) (c .before .before .before .before .before .before .before .before .before .before .before .before .before .before .before .pre .1 .1 .1 .1 .1 .0) (c .before .before .before .before .wide .ensures .0) (c .before .before .before .before .before .word-in .ensures) (c .before .before .before .before .before .before .before .before .before .before .before .before .before .before .before .pre .1 .1 .1 .1 .1 .1) (c .before .before .before .before .before .before .before .if2 .left) (c .before .before .before .before .before .before .if3 .left) (c .before .before .before .before .before .before .before .before .if1 .left) (c .before .before .before .if5 .left) (c .before .before .if6 .left) (c .before .if7 .left) false (lt-leb _ _ (c .if8 .left))
+returns-9 c = builds-at _ _ _ _ (c .before .before .before .before .before .before .before .before .before .before .before .before .before .before .before .before .pre .1 .1 .1 .1 .0) (c .before .before .before .before .before .before .before .before .before .before .before .before .before .before .before .before .pre .1 .1 .1 .1 .1 .0 .0) (c .before .before .before .before .wide .ensures .0) (c .before .before .before .before .before .word-in .ensures) (c .before .before .before .before .before .before .before .before .before .before .before .before .before .before .before .before .pre .1 .1 .1 .1 .1 .0 .1) (c .before .before .before .before .before .before .before .if2 .left) (c .before .before .before .before .before .before .if3 .left) (c .before .before .before .before .before .before .before .before .if1 .left) (c .before .before .before .if5 .left) (c .before .before .if6 .left) (c .before .if7 .left) false (lt-leb _ _ (c .if8 .left))
 
 pub other-number-spec : {M : Type 1} → statement M
 other-number-spec =
