@@ -14,8 +14,8 @@ use Rattle.spec.specs.Rules.{staticMarker}
 use Rattle.pass.specs.Pass.{recordAt}
 use Rattle.overlay.specs.Types.{typeMarkers}
 use Rattle.overlay.proofs.Types.{satisfies-bit}
-use Rattle.second.specs.Second.{Sized}
-use Rattle.second.proofs.Positions.{kind-is, kind-not, flags-at, field-type-at}
+use Rattle.records.specs.Records.{Sized}
+use Rattle.records.proofs.Positions.{kind-is, kind-not, flags-at, field-type-at}
 use Rattle.breaks.specs.Breaking.{fromSeven, slotFits, fieldBreaks}
 use Rattle.breaks.proofs.Bits.{bit-zero, bit-one}
 

@@ -25,7 +25,7 @@ use Rattle.theory.proofs.References.{references-refers}
 use Rattle.pass.specs.Pass.{recordAt}
 use Rattle.groups.specs.Groups.{Indexed}
 use Rattle.overlay.specs.Types.{Known}
-use Rattle.second.proofs.Positions.{whole, long-enough, flags-at, own-markers-at}
+use Rattle.records.proofs.Positions.{whole, long-enough, flags-at, own-markers-at}
 use Rattle.breaks.specs.Breaking.{Standing, Refers, firstRules, headBreaks, fieldBreaks, breaksAt}
 
 -- ---- the record

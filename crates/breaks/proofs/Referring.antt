@@ -16,8 +16,8 @@ use Rattle.theory.proofs.All.{All, all-at, all-kept}
 use Rattle.pass.specs.Pass.{recordAt}
 use Rattle.groups.specs.Groups.{between, nthByte, Carries}
 use Rattle.groups.proofs.Nth.{Stands, nth-record}
-use Rattle.second.specs.Second.{Sized}
-use Rattle.second.proofs.Positions.{walk-sized, room, kind-is, kind-not, flags-at, target-at, index-at}
+use Rattle.records.specs.Records.{Sized}
+use Rattle.records.proofs.Positions.{walk-sized, room, kind-is, kind-not, flags-at, target-at, index-at}
 use Rattle.breaks.specs.Breaking.{Refers}
 use Rattle.breaks.proofs.Bits.{clear, bit-zero}
 

@@ -15,7 +15,7 @@ use Rattle.spec.specs.Rules.{staticMarker, memberAllowed, rootFits, baseFits, f
 use Rattle.spec.specs.Relations.{At}
 use Rattle.pass.specs.Pass.{recordAt}
 use Rattle.groups.specs.Groups.{Carries}
-use Rattle.second.specs.Second.{Sized}
+use Rattle.records.specs.Records.{Sized}
 
 -- 1 for a class that is not allowed, by its flags
 unfoldable pub closedBy : ℕ → ℕ

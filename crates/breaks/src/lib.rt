@@ -28,7 +28,7 @@ ghost use Rattle.view.specs.View.{Fits, spliced};
 ghost use Rattle.pass.specs.Pass.{recordAt};
 ghost use Rattle.groups.specs.Groups.{Carries, Indexed};
 ghost use Rattle.overlay.specs.Types.{Known};
-ghost use Rattle.second.specs.Second.{Sized};
+ghost use Rattle.records.specs.Records.{Sized};
 ghost use Rattle.captured.specs.Captured.{Shown};
 ghost use Rattle.breaks.specs.Breaking.{closedBy, Bans, NamesForbidden, Standing, Refers, fromSeven, ruleMarker, fixedBreaks, rootBreaks, baseBreaks, fieldBreaks, headBreaks, breaksAt};
 

@@ -29,8 +29,8 @@ use Rattle.groups.proofs.Walks.{walk-here, walk-next}
 use Rattle.groups.proofs.Nth.{Stands, nth-record}
 use Rattle.overlay.specs.Types.{Known, typeMarkers, rowMarkers}
 use Rattle.overlay.proofs.Types.{row-markers, satisfies-bit}
-use Rattle.second.specs.Second.{Sized}
-use Rattle.second.proofs.Positions.{whole, long-enough, target-at, index-at, local-type-at, walk-sized}
+use Rattle.records.specs.Records.{Sized}
+use Rattle.records.proofs.Positions.{whole, long-enough, target-at, index-at, local-type-at, walk-sized}
 use Rattle.lanes.specs.Lanes.{Inside, Enclosers, entryAt, Other, SeedsFit, Least}
 use Rattle.reach.specs.Reach.{stepsOf, outerOf, Emptied}
 use Rattle.reach.proofs.Scanning.{empty}

@@ -34,9 +34,8 @@ use crate::say::say_record;
 use crate::sheet::bytes;
 use crate::sheet::repeated;
 use crate::sheet::verdicts;
-use crate::week::adding;
+use crate::week::changing;
 use crate::week::filled;
-use crate::week::replacing;
 
 fn ask<'a>(library: &'a [u8], user: &'a [u8], case: Case, class: usize) {
     answers(
@@ -155,6 +154,34 @@ fn lent(verb: &[u8], words: &[u8], library: &mut [u8], user: &mut [u8], mut case
     sheets(verb, words, library, user, case)
 }
 
+// Whether the command asks; then what is answered is written.
+fn asked<'a>(
+    verb: &[u8],
+    words: &[u8],
+    library: &'a [u8],
+    user: &'a [u8],
+    expected: &[u8],
+    case: Case,
+) -> bool {
+    if same(verb, b"ask") {
+        ask(library, user, case, number(words));
+        return true;
+    }
+    if same(verb, b"record") {
+        say_record(start(user, case.used), number(words));
+        return true;
+    }
+    if same(verb, b"structs") {
+        counted(library, user, case);
+        return true;
+    }
+    if same(verb, b"judge") {
+        judged_apart(library, user, expected, case);
+        return true;
+    }
+    false
+}
+
 fn set(
     verb: &[u8],
     words: &[u8],
@@ -167,24 +194,11 @@ fn set(
         io::write_all(1, words);
         return begun(case);
     }
-    if same(verb, b"ask") {
-        ask(library, user, case, number(words));
-        return case;
-    }
-    if same(verb, b"record") {
-        say_record(start(user, case.used), number(words));
-        return case;
-    }
-    if same(verb, b"structs") {
-        counted(library, user, case);
-        return case;
-    }
-    if same(verb, b"judge") {
-        judged_apart(library, user, expected, case);
-        return case;
-    }
     if same(verb, b"expect") {
         case.expected = verdicts(expected, words);
+        return case;
+    }
+    if asked(verb, words, library, user, expected, case) {
         return case;
     }
     lent(verb, words, library, user, case)
@@ -204,10 +218,10 @@ fn command(
         return opened(library, user, expected, row, case);
     }
     if same(verb, b"add") {
-        return adding(library, user, row, words, case);
+        return changing(library, user, row, true, 0, words, case);
     }
     if same(verb, b"replace") {
-        return replacing(library, user, row, number(words), rest(words), case);
+        return changing(library, user, row, false, number(words), rest(words), case);
     }
     set(verb, words, library, user, expected, case)
 }

@@ -134,9 +134,11 @@ fn replace_said<'a>(
 }
 
 // A row has no line past its end.
-fn grown(lines: usize) -> usize {
-    if lines < ROW {
-        return lines + 1;
+fn grown(adds: bool, lines: usize) -> usize {
+    if adds {
+        if lines < ROW {
+            return lines + 1;
+        }
     }
     lines
 }
@@ -175,47 +177,28 @@ fn ended(
     case
 }
 
-pub(crate) fn adding(
-    library: &[u8],
+// An addition, or the replacement of a class.
+fn said<'a>(
+    library: &'a [u8],
     user: &mut [u8],
+    used: &mut usize,
+    adds: bool,
+    class: usize,
+    group: &'a [u8],
     row: &mut [u8],
-    words: &[u8],
-    case: Case,
-) -> Case {
-    let mut group = [0u8; GROUP];
-    let size = bytes(&mut group, 0, words, 0);
-    let mut before = io::large_buffer();
-    copied(&mut before, user);
-    let mut row_before = [0u8; ROW];
-    copied(&mut row_before, row);
-    let mut scratch = [KEPT; SCRATCH];
-    let mut used = case.used;
-    let accepted = add_said(
-        start(library, case.library),
-        lent(user, case.user),
-        &mut used,
-        start(&group, size),
-        lent(row, case.row),
-        lent(&mut scratch, case.scratch),
-    );
-    let lines = grown(case.lines);
-    ended(
-        &before,
-        user,
-        &row_before,
-        row,
-        &scratch,
-        accepted,
-        used,
-        lines,
-        case,
-    )
+    scratch: &mut [u8],
+) -> bool {
+    if adds {
+        return add_said(library, user, used, group, row, scratch);
+    }
+    replace_said(library, user, used, class, group, row, scratch)
 }
 
-pub(crate) fn replacing(
+pub(crate) fn changing(
     library: &[u8],
     user: &mut [u8],
     row: &mut [u8],
+    adds: bool,
     class: usize,
     words: &[u8],
     case: Case,
@@ -228,15 +211,17 @@ pub(crate) fn replacing(
     copied(&mut row_before, row);
     let mut scratch = [KEPT; SCRATCH];
     let mut used = case.used;
-    let accepted = replace_said(
+    let accepted = said(
         start(library, case.library),
         lent(user, case.user),
         &mut used,
+        adds,
         class,
         start(&group, size),
         lent(row, case.row),
         lent(&mut scratch, case.scratch),
     );
+    let lines = grown(adds, case.lines);
     ended(
         &before,
         user,
@@ -245,7 +230,7 @@ pub(crate) fn replacing(
         &scratch,
         accepted,
         used,
-        case.lines,
+        lines,
         case,
     )
 }

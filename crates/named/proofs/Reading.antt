@@ -13,8 +13,8 @@ use Rattle.theory.proofs.Bools.{eq→eqb}
 use Rattle.theory.proofs.References.{by-kind}
 use Rattle.pass.specs.Pass.{recordAt}
 use Rattle.pass.proofs.Tables.{shortest}
-use Rattle.second.specs.Second.{Sized}
-use Rattle.second.proofs.Positions.{kind-is, kind-not, last-kind, superclass-at, encloser-at, target-at, field-type-at, local-type-at}
+use Rattle.records.specs.Records.{Sized}
+use Rattle.records.proofs.Positions.{kind-is, kind-not, last-kind, superclass-at, encloser-at, target-at, field-type-at, local-type-at}
 use Rattle.named.specs.Named.{typeNamed, firstOfAll, firstNamed, secondNamed}
 
 -- ---- a type

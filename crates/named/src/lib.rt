@@ -6,7 +6,7 @@ ghost use Prim.Native.Nat.{_+_, _≤_, _<_};
 ghost use lib.ListN.{length};
 ghost use Rattle.spec.specs.Record.{tyAt};
 ghost use Rattle.pass.specs.Pass.{recordAt};
-ghost use Rattle.second.specs.Second.{Sized};
+ghost use Rattle.records.specs.Records.{Sized};
 ghost use Rattle.named.specs.Named.{typeNamed, firstNamed, secondNamed};
 
 fn wide(x: u16) -> usize

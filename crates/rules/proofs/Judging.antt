@@ -25,8 +25,8 @@ use Rattle.groups.specs.Groups.{between, Indexed, AtRecord, Carries}
 use Rattle.groups.proofs.Between.{tiled-end}
 use Rattle.groups.proofs.Walks.{walk-here, walk-next}
 use Rattle.groups.proofs.Few.{group-few}
-use Rattle.second.specs.Second.{Sized}
-use Rattle.second.proofs.Positions.{walk-sized}
+use Rattle.records.specs.Records.{Sized}
+use Rattle.records.proofs.Positions.{walk-sized}
 use Rattle.breaks.specs.Breaking.{breaksAt}
 use Rattle.rules.specs.Walk.{onlyFirst, asked, foundIn, found, afterward, classesFrom, firstClass, nextClass, walked}
 use Rattle.rules.proofs.Ascent.{Spot, left, Onward, Begins, after-self, from-there, from-past, onward, begins}

@@ -9,9 +9,10 @@ use lib.Dec.{leb, ltb}
 use Rattle.spec.specs.Record.{u16, bit, CLASS, IMPLEMENTS, FIELD, LOCAL, USES, BUILDS, MEMBER, REFERS, Ty, tyAt}
 use Rattle.spec.specs.Sheet.{Group, isInterface}
 use Rattle.pass.specs.Pass.{recordAt}
-use Rattle.second.specs.Second.{Sized, formNumber, nineUnless, typeThere, implementsNumber, fieldNumber, usesNumber, refersNumber}
+use Rattle.records.specs.Records.{Sized}
+use Rattle.second.specs.Second.{formNumber, nineUnless, typeThere, implementsNumber, fieldNumber, usesNumber, refersNumber}
 use Rattle.second.proofs.ByKind.{refusing, nine, index-there, implements-is, field-is, local-is, uses-is, builds-is, member-is, refers-is}
-use Rattle.second.proofs.Positions.{kind-is, last-kind, target-at, index-at, static-at, field-type-at, local-type-at}
+use Rattle.records.proofs.Positions.{kind-is, last-kind, target-at, index-at, static-at, field-type-at, local-type-at}
 
 -- `k` is the kind that stands there
 module _ (g : ℕ → Group) (nlib n c : ℕ) {s : List ℕ} {at : ℕ} (z : Sized s at) {k : ℕ} (ek : k ≡ u16 s (at + 2)) where

@@ -6,5 +6,4 @@ pub mod Enclosing
 pub mod Leaves
 pub mod Names
 pub mod Passing
-pub mod Positions
 pub mod Sheets

@@ -25,8 +25,9 @@ use Rattle.groups.proofs.Between.{tiled-end}
 use Rattle.groups.proofs.Walks.{walk-on, walk-here, walk-next}
 use Rattle.groups.proofs.Classes.{class-low}
 use Rattle.names.proofs.Printing.{first-length, class-first, class-opens}
-use Rattle.second.specs.Second.{Sized, classNumber, formNumber, formOf}
-use Rattle.second.proofs.Positions.{walk-sized, whole}
+use Rattle.records.specs.Records.{Sized}
+use Rattle.second.specs.Second.{classNumber, formNumber, formOf}
+use Rattle.records.proofs.Positions.{walk-sized, whole}
 use Rattle.second.proofs.ByKind.{class-is}
 
 -- ---- one record more

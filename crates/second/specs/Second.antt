@@ -6,20 +6,15 @@ use mathlib.Core.List.{List, [], _∷_, map}
 use mathlib.Core.Option.{Option}
 use Prim.Native.Nat.{ℕ, _+_, _≤_, _<_}
 use lib.Dec.{eqb, leb, ltb}
-use lib.ListN.{length, getD, drop}
+use lib.ListN.{length, getD}
 use Rattle.spec.specs.Lists.{firstOf, elem}
-use Rattle.spec.specs.Record.{bit, none16, flags, superclass, encloser, Ty, lengthFits, LOCAL, MEMBER}
-use Rattle.spec.specs.Sheet.{Group, locatedIn, wholeFirst, ofKind, isInterface}
+use Rattle.spec.specs.Record.{bit, none16, flags, superclass, encloser, Ty, LOCAL, MEMBER}
+use Rattle.spec.specs.Sheet.{Group, locatedIn, ofKind, isInterface}
 use Rattle.spec.specs.Classes.{enclosers}
 use Rattle.spec.specs.Refusals.{Refusal, refuseRecord, formTests, superclassFits, encloserFits, nameMet}
-use Rattle.pass.specs.Pass.{numberOf, recordAt}
+use Rattle.pass.specs.Pass.{numberOf}
 use Rattle.pass.specs.declared.Pass.{Pass}
 use Rattle.pass.specs.declared.Pass.the-variants.{Fine, Refused}
-
--- a whole record begins at a byte, and its length is one of its kind
-pub record Sized (s : List ℕ) (at : ℕ) : Type 0 where
-  pub whole : wholeFirst (drop at s) ≡ true
-  pub size : lengthFits (recordAt s at) ≡ true
 
 -- the number that refuses record r of class c in the second pass, or 0
 unfoldable pub formNumber : (ℕ → Group) → ℕ → ℕ → ℕ → List ℕ → ℕ

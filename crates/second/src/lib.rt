@@ -21,7 +21,8 @@ ghost use Rattle.view.specs.View.{Fits, spliced};
 ghost use Rattle.pass.specs.Pass.{recordAt, passOf};
 ghost use Rattle.groups.specs.Groups.{startOf, between, Carries, Indexed};
 ghost use Rattle.names.specs.Names.{Opens, Printed};
-ghost use Rattle.second.specs.Second.{Sized, Counts, Enclosing, typeThere, classNumber, implementsNumber, fieldNumber, usesNumber, refersNumber, formNumber, formOf, formIn, thereOrNone, superclassOk, encloserOk, firstClass, classesEnd, countOf};
+ghost use Rattle.records.specs.Records.{Sized};
+ghost use Rattle.second.specs.Second.{Counts, Enclosing, typeThere, classNumber, implementsNumber, fieldNumber, usesNumber, refersNumber, formNumber, formOf, formIn, thereOrNone, superclassOk, encloserOk, firstClass, classesEnd, countOf};
 
 fn byte_wide(x: u8) -> usize
     ensures { λ r. ⌜ r ≡ x ⌝ }

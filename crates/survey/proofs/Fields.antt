@@ -14,8 +14,8 @@ use Rattle.groups.proofs.Between.{tiled-end}
 use Rattle.groups.proofs.Walks.{walk-here, walk-next}
 use Rattle.overlay.specs.Types.{Known, rowMarkers}
 use Rattle.overlay.proofs.Types.{row-markers}
-use Rattle.second.specs.Second.{Sized}
-use Rattle.second.proofs.Positions.{walk-sized}
+use Rattle.records.specs.Records.{Sized}
+use Rattle.records.proofs.Positions.{walk-sized}
 use Rattle.breaks.specs.Breaking.{ruleMarker, fieldBreaks}
 use Rattle.breaks.proofs.Fields.{field-other, field-static, field-own}
 use Rattle.survey.specs.Survey.{Late, Passes, slotBy, FieldSet, FieldsSet}

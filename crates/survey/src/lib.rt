@@ -30,7 +30,7 @@ ghost use Rattle.view.specs.View.{Fits, spliced};
 ghost use Rattle.pass.specs.Pass.{recordAt};
 ghost use Rattle.groups.specs.Groups.{between, AtRecord, Indexed};
 ghost use Rattle.overlay.specs.Types.{Known};
-ghost use Rattle.second.specs.Second.{Sized};
+ghost use Rattle.records.specs.Records.{Sized};
 ghost use Rattle.captured.specs.Captured.{Shown};
 ghost use Rattle.breaks.specs.Breaking.{Bans, Refers, ruleMarker};
 ghost use Rattle.survey.specs.Survey.{isClean, headBreaks, anyLate, recordBreaks, Passes, ClassSet, Passing, slotBy, FieldSet, FieldsSet, RootSet, encloserBy, capturedBy, baseBy};

@@ -4,7 +4,7 @@ use mathlib.Core.Path.{_∙_}
 use native.Mathlib.Omega.{arith}
 use Rattle.spec.specs.Record.{FIELD}
 use Rattle.overlay.proofs.Types.{row-markers}
-use Rattle.second.proofs.Positions.{room, room-of}
+use Rattle.records.proofs.Positions.{room, room-of}
 use Rattle.breaks.proofs.Fields.{field-other, field-static, field-own}
 use borrow.Author.Needs.{needs}
 use Rattle.breaks.proofs.field_breaks.Statement.{statement}

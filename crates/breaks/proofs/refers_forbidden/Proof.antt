@@ -2,7 +2,7 @@
 -- Assumes nothing.
 use native.Mathlib.Omega.{arith}
 use Rattle.spec.specs.Record.{REFERS}
-use Rattle.second.proofs.Positions.{room, room-of}
+use Rattle.records.proofs.Positions.{room, room-of}
 use Rattle.breaks.proofs.Referring.{refers-other, class-there, member-room, member-is}
 use borrow.Author.Needs.{needs}
 use Rattle.breaks.proofs.refers_forbidden.Statement.{statement}

@@ -11,7 +11,7 @@ use Rattle.spec.specs.Sheet.{group as groupOf}
 use Rattle.view.specs.View.{spliced}
 use Rattle.groups.proofs.Between.{tiled-room}
 use Rattle.groups.proofs.Walks.{walk-on}
-use Rattle.second.proofs.Positions.{walk-sized, room-of}
+use Rattle.records.proofs.Positions.{walk-sized, room-of}
 use Rattle.lanes.proofs.Marking.{marks-enclosers}
 use Rattle.captured.proofs.Seeding.{record-other, owner-there, variable-there, record-uses, SeedAt, seed-start, seed-member, seed-next, seed-end}
 use Rattle.captured.proofs.seed_records.Statement.{statement}

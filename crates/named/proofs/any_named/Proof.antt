@@ -4,7 +4,7 @@ use mathlib.Core.Path.{_∙_}
 use native.Mathlib.Omega.{arith}
 use borrow.Author.Needs.{needs}
 use Rattle.spec.specs.Record.{CLASS, FIELD, LOCAL}
-use Rattle.second.proofs.Positions.{room, room-of}
+use Rattle.records.proofs.Positions.{room, room-of}
 use Rattle.named.proofs.Reading.{first-class, first-field, first-local, first-member, first-target}
 use Rattle.named.proofs.any_named.Statement.{statement}
 use Rattle.named.proofs.any_named.Tie as tie

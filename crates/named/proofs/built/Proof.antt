@@ -3,7 +3,7 @@
 use mathlib.Core.Path.{_∙_}
 use native.Mathlib.Omega.{arith}
 use borrow.Author.Needs.{needs}
-use Rattle.second.proofs.Positions.{room}
+use Rattle.records.proofs.Positions.{room}
 use Rattle.named.proofs.Reading.{builds-class, builds-none}
 use Rattle.named.proofs.built.Statement.{statement}
 use Rattle.named.proofs.built.Tie as tie

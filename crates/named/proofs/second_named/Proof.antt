@@ -4,7 +4,7 @@ use mathlib.Core.Path.{_∙_}
 use native.Mathlib.Omega.{arith}
 use borrow.Author.Needs.{needs}
 use Rattle.spec.specs.Record.{CLASS}
-use Rattle.second.proofs.Positions.{room, room-of}
+use Rattle.records.proofs.Positions.{room, room-of}
 use Rattle.named.specs.Named.{secondNamed}
 use Rattle.named.proofs.Reading.{second-class, second-none}
 use Rattle.named.proofs.second_named.Statement.{statement}

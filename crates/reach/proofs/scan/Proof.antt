@@ -7,7 +7,7 @@ use lib.ListN.{length}
 use borrow.Author.Needs.{needs}
 use Rattle.groups.proofs.Between.{tiled-room}
 use Rattle.groups.proofs.Walks.{walk-on}
-use Rattle.second.proofs.Positions.{walk-sized}
+use Rattle.records.proofs.Positions.{walk-sized}
 use Rattle.reach.proofs.Scanning.{ScanAt, scan-start, scan-next, scan-zero, scan-end}
 use Rattle.reach.proofs.scan.Statement.{statement}
 use Rattle.reach.proofs.scan.Tie as tie

@@ -6,7 +6,7 @@ use native.Mathlib.Omega.{arith}
 use lib.ListN.{length}
 use Rattle.groups.proofs.Between.{tiled-room}
 use Rattle.groups.proofs.Walks.{walk-on}
-use Rattle.second.proofs.Positions.{walk-sized}
+use Rattle.records.proofs.Positions.{walk-sized}
 use Rattle.reach.proofs.Wanting.{told-true, WantsAt, wants-start, wants-next, wants-end}
 use borrow.Author.Needs.{needs}
 use Rattle.reach.proofs.wants.Statement.{statement}

@@ -4,7 +4,7 @@ use borrow.Author.Needs.{needs}
 use mathlib.Core.Bool.{true, false}
 use borrow.Author.Tests.{le-leb, lt-leb}
 use Rattle.spec.specs.Record.{FIELD, LOCAL, USES, REFERS}
-use Rattle.second.proofs.Positions.{kind-is, kind-room, room}
+use Rattle.records.proofs.Positions.{kind-is, kind-room, room}
 use Rattle.second.proofs.ByPlace.{field-at, local-at, member-at, implements-at, uses-at, refers-at, builds-at}
 use native.Mathlib.Omega.{arith}
 use Rattle.second.proofs.other_number.Statement.{statement}

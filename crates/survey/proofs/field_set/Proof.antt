@@ -3,7 +3,7 @@
 use mathlib.Core.Path.{refl}
 use native.Mathlib.Omega.{arith}
 use Rattle.spec.specs.Record.{FIELD}
-use Rattle.second.proofs.Positions.{room-of}
+use Rattle.records.proofs.Positions.{room-of}
 use Rattle.survey.proofs.Fields.{static-set, instance-set}
 use borrow.Author.Needs.{needs}
 use Rattle.survey.proofs.field_set.Statement.{statement}

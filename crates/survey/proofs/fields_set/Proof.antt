@@ -1,7 +1,7 @@
 -- In the loop the set has only markers whose rules the fields passed do not break. The measure is what is left of the bytes.
 -- Assumes nothing.
 use mathlib.Core.Path.{sym, _∙_}
-use Rattle.second.proofs.Positions.{walk-sized}
+use Rattle.records.proofs.Positions.{walk-sized}
 use mathlib.Core.Logic.{⊎-elim}
 use Prim.Native.Nat.{_-_}
 use lib.ListN.{length}

@@ -10,7 +10,7 @@ use Rattle.spec.specs.Sheet.{group as groupOf}
 use Rattle.view.specs.View.{spliced}
 use Rattle.groups.proofs.Between.{tiled-room}
 use Rattle.groups.proofs.Walks.{walk-on}
-use Rattle.second.proofs.Positions.{walk-sized}
+use Rattle.records.proofs.Positions.{walk-sized}
 use Rattle.survey.proofs.Sets.{met, past}
 use Rattle.survey.proofs.Records.{Seeking, record-by, seek-start, seek-end, seek-refers, seek-hit, seek-next}
 use Rattle.survey.proofs.records_fine.Statement.{statement}

@@ -16,7 +16,7 @@ use Rattle.pass.proofs.Bodies.{length-fits}
 use Rattle.pass.proofs.Whole.{Whole, whole-at, at-whole, length-here, kind-here}
 use Rattle.groups.specs.Groups.{AtRecord}
 use Rattle.groups.proofs.Walks.{walk-on, size-here}
-use Rattle.second.specs.Second.{Sized}
+use Rattle.records.specs.Records.{Sized}
 
 -- ---- a record that a walk stands at
 
