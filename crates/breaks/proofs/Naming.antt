@@ -6,7 +6,7 @@ use mathlib.Core.List.{List, [], _∷_}
 use mathlib.Core.Logic.{_⊎_, inl, inr}
 use Prim.Native.Nat.{ℕ, zero, suc, _+_, _/_, _%_, _≤_, _<_}
 use native.Mathlib.Omega.{arith}
-use lib.Dec.{T, eqb, ltb, ltb→lt, nltb→le}
+use lib.Dec.{T, eqb, leb, ltb, ltb→lt, nltb→le}
 use lib.ListN.{length, getD, set, replicate, length-set}
 use lib.Seq.{getD-set-other}
 use borrow.Author.Tests.{eq-eqb, ne-eqb, lt-ltb, le-ltb}
@@ -16,15 +16,17 @@ use Rattle.spec.specs.Sheet.{Group, classRecord, isAllowed}
 use Rattle.spec.specs.Rules.{forbidden}
 use Rattle.theory.proofs.Bools.{decide}
 use Rattle.theory.proofs.Rows.{set-below}
+use Rattle.groups.specs.Groups.{between, Carries}
+use Rattle.groups.proofs.Bytes.{class-word-in}
 use Rattle.named.specs.Named.{firstNamed, secondNamed, namedBy}
 use Rattle.named.proofs.Meaning.{below, named-below}
-use Rattle.breaks.specs.Breaking.{closedBy, Bans, NamesForbidden}
+use Rattle.breaks.specs.Breaking.{closedBy, closedMember, partBy, Bans, NamesForbidden, Partial}
 use Rattle.breaks.proofs.Bits.{clear}
 
 -- ---- the row of them
 
 abbrev ban : ℕ → (ℕ → Group) → ℕ → ℕ
-ban nlib g d = elim (forbidden nlib g d) as (λ (b : Bool). ℕ) [ true ↦ 1 | false ↦ 0 ]
+ban nlib g d = elim (ltb d nlib) as (λ (b : Bool). ℕ) [ true ↦ closedBy (flags (classRecord (g d))) + partBy (g d) | false ↦ 0 ]
 
 -- the entries below d are written, the others are 0
 pub record Banning (nlib : ℕ) (g : ℕ → Group) (row : List ℕ) (d : ℕ) : Type 0 where
@@ -41,19 +43,16 @@ ban-start e = record { long = ap length e; below = λ d h. absurd (omega arith);
     zeros (suc n) (suc d) = zeros n d
 
 module _ {nlib : ℕ} {g : ℕ → Group} {row : List ℕ} {d : ℕ} (w : Banning nlib g row d) where
-  pub ban-next : d < nlib → nlib ≤ 256 → {f : ℕ} → f ≡ u16 (classRecord (g d)) 4 → {v : ℕ} → v ≡ closedBy f → Banning nlib g (set row d v) (d + 1)
-  unfolding closedBy forbidden isAllowed flags bit
-  ban-next h few {f} ef {v} ev = record {
-    long = length-set row d v ∙ w .long;
-    below = set-below (λ e x. x ≡ ban nlib g e) row d v (omega (arith, w .long)) (w .below) (ev ∙ sym (rw (lt-ltb d nlib h, ban, ← ef) (turn (f / 256 % 2) (omega arith))));
-    above = λ e k. getD-set-other row d e v 0 (λ q. omega arith) ∙ w .above e (omega arith);
+  -- the class's flags are read at byte 4 of its bytes
+  pub ban-next : d < nlib → nlib ≤ 256 → {f : ℕ} → f ≡ flags (classRecord (g d)) → {v : ℕ} → v ≡ closedBy f → {x : ℕ} → x ≡ partBy (g d)
+      → Banning nlib g (set row d (v + x)) (d + 1)
+  ban-next h few {f} ef {v} ev {x} ex = record {
+    long = length-set row d (v + x) ∙ w .long;
+    below = set-below (λ e y. y ≡ ban nlib g e) row d (v + x) (omega (arith, w .long)) (w .below) (rw (ev, ex, ef, lt-ltb d nlib h, ban));
+    above = λ e k. getD-set-other row d e (v + x) 0 (λ q. omega arith) ∙ w .above e (omega arith);
   }
-    where
-      turn : (b : ℕ) → b < 2 → _≡_ {A = ℕ} (elim (not (eqb b 1)) as (λ (x : Bool). ℕ) [ true ↦ 1 | false ↦ 0 ]) (elim (eqb b 0) as (λ (x : Bool). ℕ) [ true ↦ 1 | false ↦ 0 ])
-      turn b l = ap (λ (x : Bool). elim x as (λ (y : Bool). ℕ) [ true ↦ 1 | false ↦ 0 ]) (sym (clear b l))
 
   pub ban-end : nlib ≤ d → nlib ≤ 256 → Bans nlib g row
-  unfolding forbidden
   ban-end h few = record { few = few; long = w .long; is = λ e. go e (decide (ltb e nlib)) }
     where
       past : (e : ℕ) → nlib ≤ e → T (ltb e d) ⊎ T (not (ltb e d)) → getD row e 0 ≡ ban nlib g e
@@ -66,13 +65,58 @@ module _ {nlib : ℕ} {g : ℕ → Group} {row : List ℕ} {d : ℕ} (w : Bannin
           let l : nlib ≤ e = nltb→le e nlib t in
           past e l (decide (ltb e d))
 
--- an entry that is not 0
-ban-test : {nlib : ℕ} {g : ℕ → Group} {row : List ℕ} → Bans nlib g row → (d : ℕ) {x : ℕ} → x ≡ getD row d 0 → not (eqb x 0) ≡ forbidden nlib g d
-ban-test {nlib} {g} w d {x} e = ap (λ (y : ℕ). not (eqb y 0)) (e ∙ w .is d) ∙ go (forbidden nlib g d)
+-- ---- an entry
+
+-- what is read of a class's bytes
+module _ {bytes : List ℕ} {h : Group} (w : Carries bytes h) where
+  pub flags-in : 13 ≤ length (classRecord h) → u16 bytes 4 ≡ flags (classRecord h)
+  unfolding flags
+  flags-in l = class-word-in w l 4 (omega arith)
+
+  pub part-in : {x : ℕ} → x ≡ partBy (between bytes 0 (length bytes)) → x ≡ partBy h
+  part-in e = e ∙ ap partBy (w .records)
+
+pub ban-small : (f : ℕ) (h : Group) {v x : ℕ} → v ≡ closedBy f → x ≡ partBy h → v + x < 4
+unfolding closedBy partBy
+ban-small f h ev ex = rw (ev, ex) (go (eqb (f / 256 % 2) 0) (any closedMember h))
   where
-    go : (b : Bool) → not (eqb (elim b as (λ (y : Bool). ℕ) [ true ↦ 1 | false ↦ 0 ]) 0) ≡ b
-    go true = refl
+    go : (a b : Bool) → elim a as (λ (y : Bool). ℕ) [ true ↦ 1 | false ↦ 0 ] + elim b as (λ (y : Bool). ℕ) [ true ↦ 2 | false ↦ 0 ] < 4
+    go true true = omega arith
+    go true false = omega arith
+    go false true = omega arith
+    go false false = omega arith
+
+-- 1 of the class, 2 of its members
+pub two-parts : (f : ℕ) (h : Group) → (not (eqb ((closedBy f + partBy h) % 2) 0) ≡ eqb (f / 256 % 2) 0) × (leb 2 (closedBy f + partBy h) ≡ any closedMember h)
+unfolding closedBy partBy
+two-parts f h = go (eqb (f / 256 % 2) 0) (any closedMember h)
+  where
+    go : (a b : Bool)
+        → (not (eqb ((elim a as (λ (y : Bool). ℕ) [ true ↦ 1 | false ↦ 0 ] + elim b as (λ (y : Bool). ℕ) [ true ↦ 2 | false ↦ 0 ]) % 2) 0) ≡ a)
+        × (leb 2 (elim a as (λ (y : Bool). ℕ) [ true ↦ 1 | false ↦ 0 ] + elim b as (λ (y : Bool). ℕ) [ true ↦ 2 | false ↦ 0 ]) ≡ b)
+    go true true = (refl, refl)
+    go true false = (refl, refl)
+    go false true = (refl, refl)
+    go false false = (refl, refl)
+
+-- an odd entry
+ban-test : {nlib : ℕ} {g : ℕ → Group} {row : List ℕ} → Bans nlib g row → (d : ℕ) {x : ℕ} → x ≡ getD row d 0 → not (eqb (x % 2) 0) ≡ forbidden nlib g d
+unfolding forbidden isAllowed bit
+ban-test {nlib} {g} w d {x} e = ap (λ (y : ℕ). not (eqb (y % 2) 0)) (e ∙ w .is d) ∙ go (ltb d nlib)
+  where
+    f : ℕ
+    f = flags (classRecord (g d))
+
+    go : (b : Bool) → not (eqb (elim b as (λ (y : Bool). ℕ) [ true ↦ closedBy f + partBy (g d) | false ↦ 0 ] % 2) 0) ≡ (b && not (eqb (f / 256 % 2) 1))
+    go true = two-parts f (g d) .0 ∙ clear (f / 256 % 2) (omega arith)
     go false = refl
+
+-- an entry of 2 or more
+pub part-test : {nlib : ℕ} {row : List ℕ} {d : ℕ} → d < nlib → {x : ℕ} → x ≡ getD row d 0 → Partial nlib row d (leb 2 x)
+part-test {nlib} {row} {d} h {x} e = record { is = λ g w. rw (lt-ltb d nlib h, e ∙ (rw (lt-ltb d nlib h) at (w .is d))) (two-parts (flags (classRecord (g d))) (g d) .1) }
+
+pub part-past : {nlib : ℕ} {row : List ℕ} {d : ℕ} → nlib ≤ d → Partial nlib row d true
+part-past {nlib} {row} {d} h = record { is = λ g w. rw (le-ltb d nlib h) }
 
 -- ---- those that a record names
 
@@ -103,8 +147,8 @@ module _ {nlib : ℕ} (g : ℕ → Group) (few : nlib ≤ 256) (r : List ℕ) wh
       ∙ unfold any in ap (λ (y : Bool). p f || y) (or-false (p s))
 
 module _ {row : List ℕ} (r : List ℕ) {f : ℕ} (ef : f ≡ firstNamed false r) {x : ℕ} (ex : x ≡ getD row f 0) where
-  pub names-first : (x ≡ 0 → ⊥) → NamesForbidden row r true
-  names-first h = record { is = λ nlib g w. sym (two g (w .few) r ∙ rw (← ef, ← ban-test w f ex, ne-eqb x 0 h)) }
+  pub names-first : (x % 2 ≡ 0 → ⊥) → NamesForbidden row r true
+  names-first h = record { is = λ nlib g w. sym (two g (w .few) r ∙ rw (← ef, ← ban-test w f ex, ne-eqb (x % 2) 0 h)) }
 
-  pub names-second : x ≡ 0 → {s : ℕ} → s ≡ secondNamed false r → {y : ℕ} → y ≡ getD row s 0 → NamesForbidden row r (not (eqb y 0))
-  names-second h {s} es {y} ey = record { is = λ nlib g w. sym (two g (w .few) r ∙ rw (← ef, ← ban-test w f ex, eq-eqb x 0 h, ← es, ← ban-test w s ey)) }
+  pub names-second : x % 2 ≡ 0 → {s : ℕ} → s ≡ secondNamed false r → {y : ℕ} → y ≡ getD row s 0 → NamesForbidden row r (not (eqb (y % 2) 0))
+  names-second h {s} es {y} ey = record { is = λ nlib g w. sym (two g (w .few) r ∙ rw (← ef, ← ban-test w f ex, eq-eqb (x % 2) 0 h, ← es, ← ban-test w s ey)) }

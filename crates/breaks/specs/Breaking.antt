@@ -3,7 +3,7 @@
 use mathlib.Core.Bool.{Bool, true, false, not, _&&_, _||_}
 use mathlib.Core.List.{List, [], _∷_, _++_}
 use mathlib.Core.Path.{_≡_}
-use Prim.Native.Nat.{ℕ, _-_, _/_, _%_, _≤_, _<_}
+use Prim.Native.Nat.{ℕ, _+_, _-_, _/_, _%_, _≤_, _<_}
 use lib.Dec.{T, eqb, ltb}
 use lib.ListN.{length, getD}
 use Rattle.spec.specs.Lists.{any}
@@ -21,15 +21,26 @@ use Rattle.records.specs.Records.{Sized}
 unfoldable pub closedBy : ℕ → ℕ
 closedBy f = elim (eqb (f / 256 % 2) 0) [ true ↦ 1 | false ↦ 0 ]
 
--- the row has 1 for each library class that is not allowed, 0 for every other number
+unfoldable pub closedMember : List ℕ → Bool
+closedMember r = isKind MEMBER r && not (bit 0 (flags r))
+
+-- 2 for a class with a member that is not allowed
+unfoldable pub partBy : Group → ℕ
+partBy h = elim (any closedMember h) [ true ↦ 2 | false ↦ 0 ]
+
+-- the row has 1 for each library class that is not allowed and 2 more for one with a member that is not, 0 for every other number
 pub record Bans (nlib : ℕ) (g : ℕ → Group) (row : List ℕ) : Type 0 where
   pub few : nlib ≤ 256
   pub long : length row ≡ 256
-  pub is : (d : ℕ) → getD row d 0 ≡ elim (forbidden nlib g d) [ true ↦ 1 | false ↦ 0 ]
+  pub is : (d : ℕ) → getD row d 0 ≡ elim (ltb d nlib) [ true ↦ closedBy (flags (classRecord (g d))) + partBy (g d) | false ↦ 0 ]
 
 -- by such a row: whether a record names a library class that is not allowed
 pub record NamesForbidden (row r : List ℕ) (b : Bool) : Type 0 where
   pub is : (nlib : ℕ) (g : ℕ → Group) → Bans nlib g row → b ≡ any (forbidden nlib g) (references r)
+
+-- by such a row: whether class d is none of the library's, or has a member that is not allowed
+pub record Partial (nlib : ℕ) (row : List ℕ) (d : ℕ) (b : Bool) : Type 0 where
+  pub is : (g : ℕ → Group) → Bans nlib g row → b ≡ (not (ltb d nlib) || any closedMember (g d))
 
 -- record k of a group begins at a byte of bytes that carry the group
 pub record Standing (bytes : List ℕ) (h : Group) (k at : ℕ) : Type 0 where

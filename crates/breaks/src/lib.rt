@@ -2,7 +2,6 @@
 // A class's bytes are read as a plain slice, with the first record at 0.
 use captured::lacking;
 use groups::class_bytes;
-use groups::class_word;
 use groups::nth_in;
 use markers::clash;
 use markers::has;
@@ -26,11 +25,11 @@ ghost use Rattle.spec.specs.Rules.{memberAllowed, staticMarker};
 ghost use Rattle.spec.specs.Refusals.{formRefusal};
 ghost use Rattle.view.specs.View.{Fits, spliced};
 ghost use Rattle.pass.specs.Pass.{recordAt};
-ghost use Rattle.groups.specs.Groups.{Carries, Indexed};
+ghost use Rattle.groups.specs.Groups.{between, AtRecord, Carries, Indexed};
 ghost use Rattle.overlay.specs.Types.{Known};
 ghost use Rattle.records.specs.Records.{Sized};
 ghost use Rattle.captured.specs.Captured.{Shown};
-ghost use Rattle.breaks.specs.Breaking.{closedBy, Bans, NamesForbidden, Standing, Refers, fromSeven, ruleMarker, fixedBreaks, rootBreaks, baseBreaks, fieldBreaks, headBreaks, breaksAt};
+ghost use Rattle.breaks.specs.Breaking.{closedBy, closedMember, partBy, Bans, NamesForbidden, Partial, Standing, Refers, fromSeven, ruleMarker, fixedBreaks, rootBreaks, baseBreaks, fieldBreaks, headBreaks, breaksAt};
 
 fn wide(x: u16) -> usize
     ensures { λ r. ⌜ (r ≡ x) × (r < 65536) ⌝ }
@@ -50,7 +49,34 @@ fn closed(flags: u16) -> u8
     0
 }
 
-// Writes 1 for each library class that is not allowed, so that a record is asked by a row.
+// Whether the record is a MEMBER that is not allowed.
+fn closed_member(bytes: &[u8], at: usize) -> bool
+    requires { ⌜ Sized (now bytes) at ⌝ }
+    requires { ⌜ length (now bytes) ≤ 32768 ⌝ }
+    ensures { λ r. ⌜ r ≡ closedMember (recordAt (now (bytes .entry)) at) ⌝ }
+{
+    if word_in(bytes, at + 2) != 7 {
+        return false;
+    }
+    word_in(bytes, at + 4) % 2 == 0
+}
+
+// 2 for a class with such a member, else 0.
+fn part_closed(bytes: &[u8]) -> u8
+    requires { ⌜ AtRecord (now bytes) (length (now bytes)) 0 ⌝ }
+    ensures { λ r. ⌜ r ≡ partBy (between (now (bytes .entry)) 0 (length (now (bytes .entry)))) ⌝ }
+{
+    let mut at = 0;
+    while at < bytes.len() {
+        if closed_member(bytes, at) {
+            return 2;
+        }
+        at += wide(word_in(bytes, at));
+    }
+    0
+}
+
+// Writes 1 for each library class that is not allowed and 2 more for one with a member that is not, so that a record is asked by a row.
 pub fn bans<'a>(
     library: &'a [u8],
     user: &'a [u8],
@@ -68,23 +94,34 @@ pub fn bans<'a>(
 {
     let mut d = 0;
     while d < nlib {
-        row[d] = closed(class_word(library, user, group, cut, starts, nlib, n, d, 4));
+        let bytes = class_bytes(library, user, group, cut, starts, nlib, n, d);
+        row[d] = closed(word_in(bytes, 4)) + part_closed(bytes);
         d += 1;
     }
 }
 
-// Rule 1: the record names such a class.
+// Rule 1: the record names a class that is not allowed.
 pub fn names_forbidden(bytes: &[u8], at: usize, banned: &[u8]) -> bool
     requires { ⌜ Sized (now bytes) at ⌝ }
     requires { ⌜ length (now bytes) ≤ 32768 ⌝ }
     ensures { λ r. ⌜ NamesForbidden (now (banned .entry)) (recordAt (now (bytes .entry)) at) r ⌝ }
 {
     let first = any_named(bytes, at);
-    if known(banned, first) != 0 {
+    if known(banned, first) % 2 != 0 {
         return true;
     }
     let second = second_named(bytes, at, false);
-    known(banned, second) != 0
+    known(banned, second) % 2 != 0
+}
+
+// Whether a member of class d may be one that is not allowed: those of an open library class are not looked up.
+fn partial(nlib: usize, banned: &[u8], d: usize) -> bool
+    ensures { λ r. ⌜ Partial nlib (now (banned .entry)) d r ⌝ }
+{
+    if d < nlib {
+        return 2 <= known(banned, d);
+    }
+    true
 }
 
 // Rule 2: the record refers to a member that is not allowed.
@@ -96,6 +133,7 @@ pub fn refers_forbidden<'a>(
     starts: &[u16],
     nlib: usize,
     n: usize,
+    banned: &[u8],
     bytes: &[u8],
     at: usize,
 ) -> bool
@@ -104,12 +142,16 @@ pub fn refers_forbidden<'a>(
     requires { ⌜ Sized (now bytes) at ⌝ }
     requires { ⌜ Refers n (groupOf (now library) (spliced (now user) (now group) cut)) (recordAt (now bytes) at) ⌝ }
     requires { ⌜ length (now bytes) ≤ 32768 ⌝ }
+    requires { ⌜ Bans nlib (groupOf (now library) (spliced (now user) (now group) cut)) (now banned) ⌝ }
     ensures { λ r. ⌜ r ≡ (isKind REFERS (recordAt (now (bytes .entry)) at) && not (memberAllowed (groupOf (now (library .entry)) (spliced (now (user .entry)) (now (group .entry)) cut)) (target (recordAt (now (bytes .entry)) at)) (index (recordAt (now (bytes .entry)) at)))) ⌝ }
 {
     if word_in(bytes, at + 2) != 8 {
         return false;
     }
     let d = wide(word_in(bytes, at + 4));
+    if !partial(nlib, banned, d) {
+        return false;
+    }
     let i = wide(word_in(bytes, at + 6));
     let there = class_bytes(library, user, group, cut, starts, nlib, n, d);
     let m = nth_in(there, 7, i);
@@ -403,7 +445,18 @@ pub fn breaks<'a>(
         return names_forbidden(bytes, at, banned);
     }
     if rule == 2 {
-        return refers_forbidden(library, user, group, cut, starts, nlib, n, bytes, at);
+        return refers_forbidden(
+            library,
+            user,
+            group,
+            cut,
+            starts,
+            nlib,
+            n,
+            banned,
+            bytes,
+            at,
+        );
     }
     if rule == 3 {
         return reserved(bytes[at + 6]);

@@ -1,7 +1,7 @@
 -- The records of a class by rules 1, 2 and 5, and its CLASS record by 3, 4 and 6.
 -- Assumes nothing.
-use mathlib.Core.Path.{_≡_, refl, sym, ap, _∙_, subst}
-use mathlib.Core.Bool.{Bool, true, false, not, _&&_, _||_}
+use mathlib.Core.Path.{_≡_, sym, subst}
+use mathlib.Core.Bool.{Bool, false, not, _&&_, _||_}
 use mathlib.Core.List.{List, _∷_}
 use mathlib.Core.Option.{none}
 use Prim.Native.Nat.{ℕ, _+_, _≤_, _<_}
@@ -19,11 +19,10 @@ use Rattle.theory.proofs.Accept.{Fits, form-fits}
 use Rattle.theory.proofs.References.{references-refers}
 use Rattle.pass.specs.Pass.{recordAt}
 use Rattle.groups.specs.Groups.{between, AtRecord, Carries, Indexed}
-use Rattle.groups.proofs.Between.{tiled-end}
-use Rattle.groups.proofs.Walks.{walk-here, walk-next}
+use Rattle.groups.proofs.Walks.{walk-here}
+use Rattle.records.proofs.Seeking.{Seeking, seek-start, seek-next}
 use Rattle.breaks.specs.Breaking.{Refers}
 use Rattle.survey.specs.Survey.{headBreaks, recordBreaks}
-use Rattle.survey.proofs.Sets.{met, past}
 
 -- ---- the CLASS record
 
@@ -41,37 +40,24 @@ module _ (nlib : ℕ) (g : ℕ → Group) (r : List ℕ) {a b d : Bool} (ea : a 
   unfolding recordBreaks
   record-by = rw (ea, eb, ed)
 
--- what is left of the records tells of all
-pub record Seeking (nlib n : ℕ) (g : ℕ → Group) (bytes : List ℕ) (at : ℕ) : Type 0 where
-  pub place : AtRecord bytes (length bytes) at
+-- the records that are left, their REFERS among them
+pub record Looking (nlib n : ℕ) (g : ℕ → Group) (bytes : List ℕ) (at : ℕ) : Type 0 where
+  pub seek : Seeking (recordBreaks nlib g) bytes at
   pub left : All (Refers n g) (between bytes at (length bytes))
-  pub rest : any (recordBreaks nlib g) (between bytes 0 (length bytes)) ≡ any (recordBreaks nlib g) (between bytes at (length bytes))
 
-pub seek-start : {nlib n : ℕ} {g : ℕ → Group} {bytes : List ℕ} → AtRecord bytes (length bytes) 0 → All (Refers n g) (between bytes 0 (length bytes)) → Seeking nlib n g bytes 0
-seek-start w h = record { place = w; left = h; rest = refl }
+pub look-start : {nlib n : ℕ} {g : ℕ → Group} {bytes : List ℕ} → AtRecord bytes (length bytes) 0 → All (Refers n g) (between bytes 0 (length bytes)) → Looking nlib n g bytes 0
+look-start w h = record { seek = seek-start w; left = h }
 
-module _ {nlib n : ℕ} {g : ℕ → Group} {bytes : List ℕ} {at : ℕ} (w : Seeking nlib n g bytes at) where
-  pub seek-end : length bytes ≤ at → any (recordBreaks nlib g) (between bytes 0 (length bytes)) ≡ false
-  unfolding any
-  seek-end h = w .rest ∙ ap (any (recordBreaks nlib g)) (tiled-end bytes at (length bytes) h)
+module _ {nlib n : ℕ} {g : ℕ → Group} {bytes : List ℕ} {at : ℕ} (w : Looking nlib n g bytes at) (h : at < length bytes) where
+  left-here : All (Refers n g) (recordAt bytes at ∷ between bytes (at + u16 bytes at) (length bytes))
+  unfolding recordAt
+  left-here = subst (All (Refers n g)) (walk-here (w .seek .place) h) (w .left)
 
-  module _ (h : at < length bytes) where
-    left-here : All (Refers n g) (recordAt bytes at ∷ between bytes (at + u16 bytes at) (length bytes))
-    unfolding recordAt
-    left-here = subst (All (Refers n g)) (walk-here (w .place) h) (w .left)
+  pub look-refers : Refers n g (recordAt bytes at)
+  look-refers = left-here .0
 
-    pub seek-refers : Refers n g (recordAt bytes at)
-    seek-refers = left-here .0
-
-    rest-here : any (recordBreaks nlib g) (between bytes 0 (length bytes)) ≡ (recordBreaks nlib g (recordAt bytes at) || any (recordBreaks nlib g) (between bytes (at + u16 bytes at) (length bytes)))
-    unfolding recordAt any
-    rest-here = w .rest ∙ ap (any (recordBreaks nlib g)) (walk-here (w .place) h)
-
-    pub seek-hit : recordBreaks nlib g (recordAt bytes at) ≡ true → any (recordBreaks nlib g) (between bytes 0 (length bytes)) ≡ true
-    seek-hit e = met e (any (recordBreaks nlib g) (between bytes (at + u16 bytes at) (length bytes))) rest-here
-
-    pub seek-next : {l : ℕ} → l ≡ u16 bytes at → recordBreaks nlib g (recordAt bytes at) ≡ false → Seeking nlib n g bytes (at + l)
-    seek-next el e = rw el (record { place = walk-next (w .place) h; left = left-here .1; rest = past e rest-here })
+  pub look-next : {l : ℕ} → l ≡ u16 bytes at → recordBreaks nlib g (recordAt bytes at) ≡ false → Looking nlib n g bytes (at + l)
+  look-next el e = record { seek = seek-next (w .seek) h el e; left = rw el (left-here .1) }
 
 -- REFERS records of an accepted pair name members that are there
 all-refer : {library user : List ℕ} {nlib n : ℕ} {row : List ℕ} → Indexed library user nlib n row → formRefusal library user ≡ none → (c : ℕ) → All (Refers n (group library user)) (group library user c)

@@ -273,7 +273,18 @@ fn records_fine<'a>(
         if names_forbidden(bytes, at, banned) {
             return false;
         }
-        if refers_forbidden(library, user, group, cut, starts, nlib, n, bytes, at) {
+        if refers_forbidden(
+            library,
+            user,
+            group,
+            cut,
+            starts,
+            nlib,
+            n,
+            banned,
+            bytes,
+            at,
+        ) {
             return false;
         }
         if static_breaks(bytes, at, markers) {

@@ -8,7 +8,9 @@ use lib.ListN.{length}
 use Rattle.spec.specs.Sheet.{group}
 use Rattle.view.specs.View.{spliced}
 use Rattle.groups.proofs.Few.{classes-ordered}
-use Rattle.breaks.proofs.Naming.{Banning, ban-start, ban-next, ban-end}
+use Rattle.groups.proofs.Classes.{class-long}
+use Rattle.groups.proofs.Bytes.{class-within}
+use Rattle.breaks.proofs.Naming.{Banning, ban-start, ban-next, ban-end, ban-small, flags-in, part-in}
 use Rattle.breaks.proofs.bans.Statement.{statement}
 use Rattle.breaks.proofs.bans.Tie as tie
 
@@ -21,27 +23,31 @@ abbrev μ-loop : tie.MeasureT-loop
 loop-holds : tie.Need-loop-holds Inv-loop μ-loop
 loop-holds c = ban-start (c .before .before .before .before .before .pre .1 .1)
 
-class-word-requires : tie.Need-class-word-requires Inv-loop μ-loop
-class-word-requires c κs = let p = c .before .before .before .before .before .before .before .pre in (p .0, (p .1 .0, (omega (arith, classes-ordered (p .1 .0), c .loop-test .taken), omega arith)))
+class-bytes-requires : tie.Need-class-bytes-requires Inv-loop μ-loop
+class-bytes-requires c κs = let p = c .before .before .before .before .before .before .before .pre in (p .0, (p .1 .0, omega (arith, classes-ordered (p .1 .0), c .loop-test .taken)))
 
-closed-requires : tie.Need-closed-requires Inv-loop μ-loop
-closed-requires c κs = search needs
+word-in-requires : tie.Need-word-in-requires Inv-loop μ-loop
+word-in-requires c κs =
+    let x = c .before .before .before .before .before .before .before .before .pre .1 .0 in
+    omega (arith, class-within (c .class-bytes .ensures) (class-long x (omega (arith, classes-ordered x, c .before .loop-test .taken))))
+
+part-closed-requires : tie.Need-part-closed-requires Inv-loop μ-loop
+part-closed-requires c κs = c .before .before .class-bytes .ensures .place
+
+add-row : tie.Need-add-row Inv-loop μ-loop
+add-row c = omega (arith, ban-small _ _ (c .before .closed .ensures) (c .part-closed .ensures))
 
 slice-write-row : tie.Need-slice-write-row Inv-loop μ-loop
 slice-write-row c =
-    let p = c .before .before .before .before .before .before .before .before .before .pre .1 in
-    omega (arith, c .before .before .before .loop .inv .long, classes-ordered (p .0), p .0 .few, c .before .before .loop-test .taken)
-
-add-d : tie.Need-add-d Inv-loop μ-loop
-add-d c = omega arith
-
-loop-less : tie.Need-loop-less Inv-loop μ-loop
-loop-less c = omega arith
+    let p = c .before .before .before .before .before .before .before .before .before .before .before .pre .1 in
+    omega (arith, c .before .before .before .before .before .loop .inv .long, classes-ordered (p .0), p .0 .few, c .before .before .before .before .loop-test .taken)
 
 loop-again : tie.Need-loop-again Inv-loop μ-loop
 loop-again c =
-    let p = c .before .before .before .before .before .before .before .before .before .pre .1 in
-    ban-next (c .before .before .before .loop .inv) (c .before .before .loop-test .taken) (omega (arith, classes-ordered (p .0), p .0 .few)) (c .before .class-word .ensures) (c .closed .ensures)
+    let x = c .before .before .before .before .before .before .before .before .before .before .before .pre .1 .0 in
+    let here = c .before .before .before in
+    ban-next (here .before .before .loop .inv) (here .before .loop-test .taken) (omega (arith, classes-ordered x, x .few))
+    (c .before .before .word-in .ensures ∙ flags-in (here .class-bytes .ensures) (class-long x (omega (arith, classes-ordered x, here .before .loop-test .taken)))) (c .before .closed .ensures) (part-in (here .class-bytes .ensures) (c .part-closed .ensures))
 
 same-length : tie.Need-same-length Inv-loop μ-loop
 same-length c = c .before .loop .inv .long ∙ ap length (sym (c .before .before .before .before .before .before .before .pre .1 .1))
@@ -52,4 +58,20 @@ returns c =
     ban-end (c .before .loop .inv) (c .loop-test .left) (omega (arith, classes-ordered (p .0), p .0 .few))
 
 pub bans-spec : {M : Type 1} → statement M
-bans-spec = tie.close (tie.spec Inv-loop μ-loop loop-holds class-word-requires closed-requires slice-write-row add-d loop-less loop-again same-length returns)
+bans-spec =
+    tie.close
+    (tie.spec
+    Inv-loop
+    μ-loop
+    loop-holds
+    class-bytes-requires
+    word-in-requires
+    (λ c κs. search needs)
+    part-closed-requires
+    add-row
+    slice-write-row
+    (λ c. omega arith)
+    (λ c. omega arith)
+    loop-again
+    same-length
+    returns)

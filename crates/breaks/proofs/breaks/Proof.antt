@@ -14,7 +14,7 @@ returns : tie.Need-returns
 returns c = rule-one _ _ _ _ _ _ _ (c .before .if1 .taken) (c .names-forbidden .ensures .is _ _ (c .before .before .before .before .before .before .before .before .before .before .pre .1 .1 .1 .1 .1 .1 .1 .1))
 
 refers-forbidden-requires : tie.Need-refers-forbidden-requires
-refers-forbidden-requires c κs = let p = c .before .before .before .before .before .before .before .before .before .before .pre .1 in (c .before .before .before .before .before .before .before .before .before .before .pre .0, (p .0, (p .1 .1 .1 .1 .1 .0 .sized, (standing-refers (p .0) _ (p .1 .1 .1 .1 .1 .0) (p .1 .0), p .1 .1 .1 .1 .1 .0 .carries .place .small))))
+refers-forbidden-requires c κs = let p = c .before .before .before .before .before .before .before .before .before .before .pre .1 in (c .before .before .before .before .before .before .before .before .before .before .pre .0, (p .0, (p .1 .1 .1 .1 .1 .0 .sized, (standing-refers (p .0) _ (p .1 .1 .1 .1 .1 .0) (p .1 .0), (p .1 .1 .1 .1 .1 .0 .carries .place .small, p .1 .1 .1 .1 .1 .1 .1)))))
 
 returns-2 : tie.Need-returns-2
 returns-2 c = rule-two _ _ _ _ _ _ _ (c .before .if2 .taken) (c .refers-forbidden .ensures)
