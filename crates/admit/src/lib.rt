@@ -1,5 +1,6 @@
 // Whether a group may be put into the user sheet: 14, 15, then 3 to 11 of the sheet that it makes, read through the view, then 12.
 use form::Checked;
+use form::Refusal;
 use form::check;
 use view::Cut;
 use view::view_len;
@@ -36,24 +37,44 @@ pub fn admit<'a>(
         (now (library .entry)) new (now (starts .exit)) (now (memo .exit)) ⌝ }
 {
     if !whole_group(group) {
-        return Checked::Refused(14, 0, 0);
+        return Checked::Refused(Refusal {
+            number: 14,
+            sheet: 0,
+            byte: 0,
+        });
     }
     let size = view_len(user, group, cut);
     if user.len() < size {
-        return Checked::Refused(15, 0, 0);
+        return Checked::Refused(Refusal {
+            number: 15,
+            sheet: 0,
+            byte: 0,
+        });
     }
     if 32768 < size {
-        return Checked::Refused(15, 0, 0);
+        return Checked::Refused(Refusal {
+            number: 15,
+            sheet: 0,
+            byte: 0,
+        });
     }
     let checked = check(library, user, group, cut, starts, memo);
-    let Checked::Fine(nlib, n) = checked else {
+    let Checked::Fine(classes) = checked else {
         return checked;
     };
-    if lines < n - nlib {
-        return Checked::Refused(12, 0, 0);
+    if lines < classes.all - classes.library {
+        return Checked::Refused(Refusal {
+            number: 12,
+            sheet: 0,
+            byte: 0,
+        });
     }
     if scratch < 65536 {
-        return Checked::Refused(12, 0, 0);
+        return Checked::Refused(Refusal {
+            number: 12,
+            sheet: 0,
+            byte: 0,
+        });
     }
     checked
 }

@@ -1,53 +1,69 @@
--- Record 0 of a class: the root by its markers, and which of the tests are asked.
+-- Rules 7 to 10 by sets of markers: an instance field, and record 0 of a class.
 -- Assumes nothing.
-use mathlib.Core.Path.{_≡_, sym, ap, _∙_}
-use mathlib.Core.Bool.{Bool, true, false, not}
-use Prim.Native.Nat.{ℕ, _≤_, _<_}
+use mathlib.Core.Path.{_≡_, refl, sym, ap, _∙_}
+use mathlib.Core.Bool.{Bool, true, false, not, _&&_, _||_, and-false, or-false}
+use mathlib.Core.List.{List}
+use Prim.Native.Nat.{ℕ, _/_, _%_, _^_, _≤_, _<_}
+use native.Mathlib.Omega.{arith}
+use lib.Dec.{eqb, ltb}
 use borrow.Author.Tests.{eq-eqb, ne-eqb, lt-ltb, le-ltb}
+use Rattle.spec.specs.Record.{bit}
 use Rattle.spec.specs.Sheet.{Group}
-use Rattle.spec.specs.Classes.{hasMarker}
-use Rattle.spec.specs.Rules.{rootFits}
-use Rattle.breaks.specs.Breaking.{ruleMarker, rootBreaks, fixedBreaks, baseBreaks, headBreaks}
-use Rattle.breaks.proofs.Selecting.{at-nine, all-same, of-marker}
+use Rattle.spec.specs.Classes.{fieldSlot}
+use Rattle.slots.specs.Slots.{ruleMarker, slotFits, rootBreaks, fixedBreaks, baseBreaks, fieldBreaks, headSlots, FieldSet}
+use Rattle.slots.proofs.Sets.{twice}
+use Rattle.breaks.specs.Breaking.{FieldBreaks, headBreaks}
 
--- ---- the root
+-- a set has a rule's marker, as the code asks it
+pub marker-in : (rule set : ℕ) {s : ℕ} → s ≡ 2 ^ ruleMarker rule → {b : Bool} → b ≡ eqb (set / s % 2) 1 → b ≡ bit (ruleMarker rule) set
+unfolding bit
+marker-in rule set es eb = rw (eb, es)
 
-module _ (g : ℕ → Group) {rule : ℕ} (d : ℕ) where
-  pub root-zero : 7 ≤ rule → d ≡ 0 → false ≡ rootBreaks g rule d
-  unfolding rootBreaks rootFits
-  root-zero h e = rw e (sym (all-same h false))
+-- where a field stands in its class does not count
+anywhere : (g : ℕ → Group) (rule t k : ℕ) (r : List ℕ) → fieldBreaks g rule 0 0 r ≡ fieldBreaks g rule t k r
+unfolding fieldBreaks slotFits fieldSlot
+anywhere g rule t k r = refl
 
-  pub root-nine : rule ≡ 9 → false ≡ rootBreaks g rule d
-  unfolding rootBreaks
-  root-nine e = sym (at-nine rule (not (rootFits g 0 d)) (not (rootFits g 1 d)) false (not (rootFits g 7 d)) e)
+pub field-told : {rule : ℕ} → 7 ≤ rule → rule ≤ 10 → {row r : List ℕ} {set : ℕ} → FieldSet row r set → {s : ℕ} → s ≡ 2 ^ ruleMarker rule → {b : Bool} → b ≡ eqb (set / s % 2) 1
+    → FieldBreaks row rule r (not b)
+field-told {rule} l h {r = r} {set} f es eb = record {
+  is = λ g t k w. ap not (marker-in rule set es eb ∙ f .is g w .is rule (l, h)) ∙ twice (fieldBreaks g rule 0 0 r) ∙ anywhere g rule t k r;
+}
 
-  pub root-lacks : 7 ≤ rule → (d ≡ 0 → ⊥) → (rule ≡ 9 → ⊥) → {b : Bool} → b ≡ hasMarker g (ruleMarker rule) d → not b ≡ rootBreaks g rule d
-  unfolding rootBreaks
-  root-lacks h n n9 {b} e =
-      let q : rootFits g (ruleMarker rule) d ≡ b = (unfold rootFits in rw (ne-eqb d 0 n) (sym e)) in
-      ap not (sym q) ∙ sym (of-marker h (λ k. not (rootFits g k d)) false n9)
+-- ---- record 0
 
--- ---- a library class, or a user class
+module _ (nlib : ℕ) (g : ℕ → Group) (rule c t : ℕ) where
+  -- rule 9's second part comes to a user class alone
+  extra : Bool
+  extra = eqb rule 9 && eqb t c && baseBreaks g c
 
-module _ {nlib : ℕ} (g : ℕ → Group) (rule c : ℕ) {t : ℕ} where
-  pub head-library : t < nlib → {b : Bool} → b ≡ rootBreaks g rule t → b ≡ headBreaks nlib g rule c t
-  unfolding headBreaks
-  head-library h e = rw (lt-ltb t nlib h, headBreaks) e
+  split : headBreaks nlib g rule c t ≡ (headSlots nlib g rule t || (not (ltb t nlib) && extra))
+  unfolding headBreaks headSlots extra
+  split = go (ltb t nlib) refl
+    where
+      go : (b : Bool) → ltb t nlib ≡ b → headBreaks nlib g rule c t ≡ (headSlots nlib g rule t || (not b && (eqb rule 9 && eqb t c && baseBreaks g c)))
+      go true e = rw (e, headBreaks, headSlots) (sym (or-false (rootBreaks g rule t)))
+      go false e = rw (e, headBreaks, headSlots)
 
-  module _ (h : nlib ≤ t) {x : Bool} (ex : x ≡ fixedBreaks g rule t) where
-    pub head-fixed : x ≡ true → true ≡ headBreaks nlib g rule c t
-    unfolding headBreaks
-    head-fixed e = rw (le-ltb t nlib h, ← ex, e, headBreaks)
+  module _ {b : Bool} (eb : b ≡ not (headSlots nlib g rule t)) where
+    slots : headSlots nlib g rule t ≡ not b
+    slots = sym (twice (headSlots nlib g rule t)) ∙ ap not (sym eb)
 
-    module _ (e : x ≡ false) where
+    pub head-lacks : not b ≡ true → true ≡ headBreaks nlib g rule c t
+    head-lacks h = rw (split, slots, h)
+
+    module _ (h : not b ≡ false) where
+      rest : headBreaks nlib g rule c t ≡ (not (ltb t nlib) && extra)
+      rest = rw (split, slots, h)
+
       pub head-not-nine : (rule ≡ 9 → ⊥) → false ≡ headBreaks nlib g rule c t
-      unfolding headBreaks
-      head-not-nine n = rw (le-ltb t nlib h, ← ex, e, ne-eqb rule 9 n, headBreaks)
+      unfolding extra
+      head-not-nine n = sym (rest ∙ rw (ne-eqb rule 9 n) (and-false (not (ltb t nlib))))
 
       pub head-above : rule ≡ 9 → (t ≡ c → ⊥) → false ≡ headBreaks nlib g rule c t
-      unfolding headBreaks
-      head-above o n = rw (le-ltb t nlib h, ← ex, e, eq-eqb rule 9 o, ne-eqb t c n, headBreaks)
+      unfolding extra
+      head-above o n = sym (rest ∙ rw (eq-eqb rule 9 o, ne-eqb t c n) (and-false (not (ltb t nlib))))
 
-      pub head-own : rule ≡ 9 → t ≡ c → {b : Bool} → b ≡ baseBreaks g c → b ≡ headBreaks nlib g rule c t
-      unfolding headBreaks
-      head-own o q eb = rw (le-ltb t nlib h, ← ex, e, eq-eqb rule 9 o, eq-eqb t c q, headBreaks) eb
+      pub head-own : nlib ≤ c → rule ≡ 9 → t ≡ c → {x : Bool} → x ≡ baseBreaks g c → x ≡ headBreaks nlib g rule c t
+      unfolding extra
+      head-own u o q ex = ex ∙ sym (rest ∙ rw (le-ltb t nlib (omega arith), eq-eqb rule 9 o, eq-eqb t c q))

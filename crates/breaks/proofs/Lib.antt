@@ -1,10 +1,5 @@
-pub mod Bits
-pub mod Selecting
 pub mod Naming
 pub mod Referring
-pub mod Fields
-pub mod Heads
-pub mod Fixed
-pub mod Bases
 pub mod Places
+pub mod Heads
 pub mod Lines

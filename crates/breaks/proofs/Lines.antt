@@ -11,7 +11,8 @@ use Rattle.spec.specs.Classes.{lineage, root}
 use Rattle.theory.proofs.Falls.{Falls}
 use Rattle.theory.proofs.Lines.{lineage-library, root-library}
 use Rattle.theory.proofs.Form.{Super, lineage-up, root-up}
-use Rattle.breaks.specs.Breaking.{rootBreaks, slotsBreak, lineBreaks}
+use Rattle.breaks.specs.Breaking.{lineBreaks}
+use Rattle.slots.specs.Slots.{rootBreaks, slotsBreak}
 
 module _ (nlib : ℕ) (g : ℕ → Group) (f : Falls g) (rule : ℕ) {t : ℕ} where
   pub line-library : t < nlib → rootBreaks g rule t ≡ lineBreaks nlib g rule t

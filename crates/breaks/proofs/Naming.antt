@@ -16,12 +16,12 @@ use Rattle.spec.specs.Sheet.{Group, classRecord, isAllowed}
 use Rattle.spec.specs.Rules.{forbidden}
 use Rattle.theory.proofs.Bools.{decide}
 use Rattle.theory.proofs.Rows.{set-below}
-use Rattle.groups.specs.Groups.{between, Carries}
-use Rattle.groups.proofs.Bytes.{class-word-in}
+use Rattle.records.specs.Records.{between, Carries}
+use Rattle.records.proofs.Carried.{class-word-in}
 use Rattle.named.specs.Named.{firstNamed, secondNamed, namedBy}
 use Rattle.named.proofs.Meaning.{below, named-below}
 use Rattle.breaks.specs.Breaking.{closedBy, closedMember, partBy, Bans, NamesForbidden, Partial}
-use Rattle.breaks.proofs.Bits.{clear}
+use Rattle.slots.proofs.Bits.{clear}
 
 -- ---- the row of them
 

@@ -22,11 +22,12 @@ use Rattle.theory.proofs.All.{All}
 use Rattle.theory.proofs.Accept.{Fits, form-fits}
 use Rattle.theory.proofs.Form.{group-one-class}
 use Rattle.theory.proofs.References.{references-refers}
-use Rattle.pass.specs.Pass.{recordAt}
+use Rattle.records.specs.Records.{recordAt}
 use Rattle.groups.specs.Groups.{Indexed}
 use Rattle.overlay.specs.Types.{Known}
 use Rattle.records.proofs.Positions.{whole, long-enough, flags-at, own-markers-at}
-use Rattle.breaks.specs.Breaking.{Standing, Refers, firstRules, headBreaks, fieldBreaks, breaksAt}
+use Rattle.breaks.specs.Breaking.{Standing, Refers, firstRules, headBreaks, breaksAt}
+use Rattle.slots.specs.Slots.{fieldBreaks}
 
 -- ---- the record
 
@@ -45,7 +46,8 @@ module _ {library user : List ℕ} {nlib n : ℕ} {starts : List ℕ} (x : Index
 
   pub standing-refers : formRefusal library user ≡ none → Refers n (group library user) (recordAt bytes at)
   standing-refers e =
-      let f : Fits (classCount library) (total library user) (group library user) t r = all-here (Fits (classCount library) (total library user) (group library user) t) (form-fits library user e t) (w .is) in
+      let f : Fits (classCount library) (total library user) (group library user) t r = all-here (Fits (classCount library) (total library user) (group library user) t) (form-fits library user e t)
+      (w .is) in
       record {
         class = λ u. let a = subst (All (λ d. d < total library user)) (references-refers r u) (f .there) in omega (arith, a .0, x .n-is);
         member = f .member;

@@ -15,13 +15,11 @@ use Rattle.spec.specs.Sheet.{Group, ofKind}
 use Rattle.spec.specs.Rules.{memberAllowed}
 use Rattle.theory.proofs.Bools.{eq→eqb, true-t}
 use Rattle.theory.proofs.All.{All, all-at, all-kept}
-use Rattle.pass.specs.Pass.{recordAt}
-use Rattle.groups.specs.Groups.{between, nthByte, Carries}
-use Rattle.groups.proofs.Nth.{Stands, nth-record}
-use Rattle.records.specs.Records.{Sized}
+use Rattle.records.proofs.Nth.{Stands, nth-record}
+use Rattle.records.specs.Records.{Sized, recordAt, between, nthByte, Carries}
 use Rattle.records.proofs.Positions.{walk-sized, room, kind-is, kind-not, flags-at, target-at, index-at}
 use Rattle.breaks.specs.Breaking.{closedMember, Bans, Partial, Refers}
-use Rattle.breaks.proofs.Bits.{clear, bit-zero}
+use Rattle.slots.proofs.Bits.{clear, bit-zero}
 
 -- `k` is the kind that stands there
 pub refers-other : {s : List ℕ} {at : ℕ} → Sized s at → {k : ℕ} → k ≡ u16 s (at + 2) → (g : ℕ → Group) → (k ≡ REFERS → ⊥)
@@ -66,7 +64,8 @@ open-at (r ∷ h) i l e = go (isKind MEMBER r) i l e (open-at h)
 
 -- ---- a member at its place
 
-module _ {n : ℕ} {g : ℕ → Group} {s : List ℕ} {at : ℕ} (z : Sized s at) {k : ℕ} (ek : k ≡ u16 s (at + 2)) (e : k ≡ REFERS) (f : Refers n g (recordAt s at)) {d w : ℕ} (ed : d ≡ w) (ew : w ≡ u16 s (at + 4)) where
+module _ {n : ℕ} {g : ℕ → Group} {s : List ℕ} {at : ℕ} (z : Sized s at) {k : ℕ} (ek : k ≡ u16 s (at + 2)) (e : k ≡ REFERS) (f : Refers n g (recordAt s at)) {d w : ℕ} (ed : d ≡ w)
+    (ew : w ≡ u16 s (at + 4)) where
   refers : T (isKind REFERS (recordAt s at))
   refers = eq→eqb (kind-is z ek e)
 

@@ -1,21 +1,27 @@
 -- Whether one record of one class breaks a rule, in the judging of a class.
 -- Assumes nothing.
 use mathlib.Core.Bool.{Bool, true, false, not, _&&_, _||_}
-use mathlib.Core.List.{List, [], _∷_, _++_}
+use mathlib.Core.List.{List, [], _∷_}
 use mathlib.Core.Path.{_≡_}
-use Prim.Native.Nat.{ℕ, _+_, _-_, _/_, _%_, _≤_, _<_}
+use mathlib.Core.Option.{none}
+use Prim.Native.Nat.{ℕ, _+_, _/_, _%_, _≤_, _<_}
 use lib.Dec.{T, eqb, ltb}
-use lib.ListN.{length, getD}
+use lib.ListN.{length, getD, take, drop}
 use Rattle.spec.specs.Lists.{any}
 use Rattle.spec.specs.Record.{bit, isKind, MEMBER, REFERS, flags, ownMarkers, target, index, fieldTy, isFinal, references}
-use Rattle.spec.specs.Sheet.{Group, classRecord, ofKind, isStaticField, isInstanceField}
-use Rattle.spec.specs.Markers.{Immutable, Powerless, Selfless, Token, Throwable, Enum, DeepSelfless, clash}
-use Rattle.spec.specs.Classes.{Slot, fieldSlot, superclasses, overlay, satisfies, encloserSlots, capturedSlots, lineage, root}
-use Rattle.spec.specs.Rules.{staticMarker, memberAllowed, rootFits, baseFits, forbidden}
+use Rattle.spec.specs.Sheet.{Group, group, classRecord, ofKind, isStaticField, isInterface}
+use Rattle.spec.specs.Markers.{Token, Throwable, Enum, clash}
+use Rattle.spec.specs.Classes.{overlay, satisfies, lineage, root}
+use Rattle.spec.specs.Rules.{staticMarker, memberAllowed, forbidden}
+use Rattle.spec.specs.Refusals.{formRefusal}
 use Rattle.spec.specs.Relations.{At}
-use Rattle.pass.specs.Pass.{recordAt}
-use Rattle.groups.specs.Groups.{Carries}
-use Rattle.records.specs.Records.{Sized}
+use Rattle.records.specs.Records.{Sized, recordAt, Carries}
+use Rattle.groups.specs.declared.Classes.{Classes}
+use Rattle.groups.specs.Groups.{Indexed}
+use Rattle.overlay.specs.Types.{Known}
+use Rattle.captured.specs.Captured.{Shown}
+use Rattle.slots.specs.Slots.{fixedBreaks, rootBreaks, baseBreaks, fieldBreaks, slotsBreak}
+use Rattle.breaks.specs.declared.Step.{Step}
 
 -- 1 for a class that is not allowed, by its flags
 unfoldable pub closedBy : ℕ → ℕ
@@ -42,6 +48,10 @@ pub record NamesForbidden (row r : List ℕ) (b : Bool) : Type 0 where
 pub record Partial (nlib : ℕ) (row : List ℕ) (d : ℕ) (b : Bool) : Type 0 where
   pub is : (g : ℕ → Group) → Bans nlib g row → b ≡ (not (ltb d nlib) || any closedMember (g d))
 
+-- by a row of overlay markers: whether a record is an instance field that does not pass a rule
+pub record FieldBreaks (row : List ℕ) (rule : ℕ) (r : List ℕ) (b : Bool) : Type 0 where
+  pub is : (g : ℕ → Group) (t k : ℕ) → Known g row → b ≡ fieldBreaks g rule t k r
+
 -- record k of a group begins at a byte of bytes that carry the group
 pub record Standing (bytes : List ℕ) (h : Group) (k at : ℕ) : Type 0 where
   pub carries : Carries bytes h
@@ -53,44 +63,38 @@ pub record Refers (n : ℕ) (g : ℕ → Group) (r : List ℕ) : Type 0 where
   pub class : T (isKind REFERS r) → target r < n
   pub member : T (isKind REFERS r) → index r < length (ofKind MEMBER (g (target r)))
 
--- what rules 7, 8, 9 and 10 have, each its own
-unfoldable pub fromSeven : {A : Type 0} → ℕ → A → A → A → A → A
-fromSeven rule a b c d = getD (a ∷ b ∷ c ∷ []) (rule - 7) d
+-- ---- what is known when the rules are asked
 
-unfoldable pub ruleMarker : ℕ → ℕ
-ruleMarker rule = fromSeven rule Immutable Powerless Selfless DeepSelfless
+-- one row for both: the overlay markers of each class, then what is not allowed of it
+abbrev pub markersIn : List ℕ → List ℕ
+markersIn facts = take 256 (drop 0 facts)
 
-module _ (g : ℕ → Group) where
-  -- ---- one record of one class
+abbrev pub bansIn : List ℕ → List ℕ
+bansIn facts = take 256 (drop 256 facts)
 
-  -- a slot passes the rule
-  unfoldable pub slotFits : ℕ → Slot → Bool
-  slotFits rule s =
-      fromSeven rule
-      (s .final && satisfies g Immutable (s .type))
-      (satisfies g Powerless (s .type))
-      (s .final && not (s .transient))
-      (satisfies g DeepSelfless (s .type))
+pub record Facts (nlib : ℕ) (g : ℕ → Group) (facts : List ℕ) : Type 0 where
+  pub long : length facts ≡ 768
+  pub known : Known g (markersIn facts)
+  pub bans : Bans nlib g (bansIn facts)
 
-  -- record 0: the encloser and the captured variables
-  unfoldable pub fixedBreaks : ℕ → ℕ → Bool
-  fixedBreaks rule t = any (λ s. not (slotFits rule s)) (encloserSlots g t ++ capturedSlots g t)
+-- two sheets that passed both passes, and the rows that hold what was found in them
+pub record Judging (library user starts : List ℕ) (classes : Classes) (row lanes : List ℕ) : Type 0 where
+  pub indexed : Indexed library user (classes .library) (classes .all) starts
+  pub formed : formRefusal library user ≡ none
+  pub facts : Facts (classes .library) (group library user) row
+  pub shown : Shown (group library user) (classes .all) lanes
 
-  -- record 0 of the root
-  unfoldable pub rootBreaks : ℕ → ℕ → Bool
-  rootBreaks rule d = fromSeven rule (not (rootFits g Immutable d)) (not (rootFits g Powerless d)) false (not (rootFits g DeepSelfless d))
-
-  -- record 0 of the class itself: rule 9's second part
-  unfoldable pub baseBreaks : ℕ → Bool
-  baseBreaks c = any (λ s. not (baseFits g (flags (classRecord (g c))) s)) (superclasses (g c))
-
-  -- the other records
-  unfoldable pub fieldBreaks : ℕ → ℕ → ℕ → List ℕ → Bool
-  fieldBreaks rule t k r = isInstanceField r && not (slotFits rule (fieldSlot t (k, r)))
-
-  -- the own slots of class t
-  unfoldable pub slotsBreak : ℕ → ℕ → Bool
-  slotsBreak rule t = fixedBreaks rule t || any (fieldBreaks rule 0 0) (g t)
+-- a step of the walk: a rule, a user class that is judged, and a record of a class that the rule asks in its judging
+pub record AtStep (g : ℕ → Group) (classes : Classes) (bytes : List ℕ) (step : Step) : Type 0 where
+  pub user-class : classes .library ≤ step .class
+  pub there : step .class < classes .all
+  pub asked-there : step .asked < classes .all
+  pub rule-first : 1 ≤ step .rule
+  pub rule-last : step .rule ≤ 10
+  pub standing : Standing bytes (g (step .asked)) (step .number) (step .at)
+  pub third : step .rule ≡ 3 → step .number ≡ 0
+  pub sixth : step .rule ≡ 6 → step .number ≡ 0
+  pub concrete : 7 ≤ step .rule → T (not (isInterface (g (step .class))))
 
 module _ (nlib : ℕ) (g : ℕ → Group) where
   -- the slots of c and its superclasses, or its root

@@ -1,41 +1,55 @@
 // Whether one record of one class breaks a rule. Nothing is searched here: captured variables and overlay markers stand in their rows.
 // A class's bytes are read as a plain slice, with the first record at 0.
-use captured::lacking;
+use groups::Classes;
 use groups::class_bytes;
-use groups::nth_in;
+use markers::ENUM;
+use markers::IMMUTABLE;
+use markers::THROWABLE;
+use markers::TOKEN;
 use markers::clash;
 use markers::has;
 use named::any_named;
 use named::second_named;
 use overlay::known;
 use overlay::type_markers;
-use view::Cut;
-use view::word_in;
+use records::ALLOWED;
+use records::FIELD;
+use records::FIELD_TYPE_AT;
+use records::FLAGS_AT;
+use records::INDEX_AT;
+use records::KIND_AT;
+use records::MARKERS_AT;
+use records::MEMBER;
+use records::REFERS;
+use records::STATIC;
+use records::TARGET_AT;
+use records::nth_in;
+use records::wide;
+use records::word_in;
+use slots::base_breaks;
+use slots::field_set;
+use slots::head_set;
+use slots::rule_set;
 ghost use mathlib.Core.Path.{_≡_};
 ghost use mathlib.Core.Bool.{not, _&&_, _||_};
-ghost use mathlib.Core.Option.{none};
-ghost use Prim.Native.Nat.{ℕ, _^_, _≤_, _<_};
-ghost use lib.Dec.{T};
+ghost use Prim.Native.Nat.{ℕ, _≤_, _<_};
 ghost use lib.ListN.{length, replicate};
 ghost use Rattle.spec.specs.Record.{u16, bit, isKind, REFERS, target, index, fieldTy, isFinal};
-ghost use Rattle.spec.specs.Sheet.{Group, group as groupOf, isStaticField, isInterface};
+ghost use Rattle.spec.specs.Sheet.{Group, group as groupOf, isStaticField};
 ghost use Rattle.spec.specs.Markers.{Token, Throwable, Enum};
 ghost use Rattle.spec.specs.Classes.{satisfies};
 ghost use Rattle.spec.specs.Rules.{memberAllowed, staticMarker};
-ghost use Rattle.spec.specs.Refusals.{formRefusal};
-ghost use Rattle.view.specs.View.{Fits, spliced};
-ghost use Rattle.pass.specs.Pass.{recordAt};
-ghost use Rattle.groups.specs.Groups.{between, AtRecord, Carries, Indexed};
+ghost use Rattle.groups.specs.Groups.{Indexed};
 ghost use Rattle.overlay.specs.Types.{Known};
-ghost use Rattle.records.specs.Records.{Sized};
-ghost use Rattle.captured.specs.Captured.{Shown};
-ghost use Rattle.breaks.specs.Breaking.{closedBy, closedMember, partBy, Bans, NamesForbidden, Partial, Standing, Refers, fromSeven, ruleMarker, fixedBreaks, rootBreaks, baseBreaks, fieldBreaks, headBreaks, breaksAt};
+ghost use Rattle.records.specs.Records.{Sized, recordAt, between, AtRecord};
+ghost use Rattle.breaks.specs.Breaking.{closedBy, closedMember, partBy, Bans, NamesForbidden, Partial, FieldBreaks, Refers, Judging, AtStep, breaksAt};
 
-fn wide(x: u16) -> usize
-    ensures { λ r. ⌜ (r ≡ x) × (r < 65536) ⌝ }
-{
-    x as usize
-}
+// The row of what is known of each class: its overlay markers, then from these bytes on what is not allowed of it and the set that its slots pass.
+pub const BANS_AT: usize = 256;
+
+pub const SETS_AT: usize = 512;
+
+pub const FACTS: usize = 768;
 
 // ---- rules 1 to 6
 
@@ -43,7 +57,7 @@ fn wide(x: u16) -> usize
 fn closed(flags: u16) -> u8
     ensures { λ r. ⌜ r ≡ closedBy flags ⌝ }
 {
-    if flags / 256 % 2 == 0 {
+    if flags / ALLOWED % 2 == 0 {
         return 1;
     }
     0
@@ -55,10 +69,10 @@ fn closed_member(bytes: &[u8], at: usize) -> bool
     requires { ⌜ length (now bytes) ≤ 32768 ⌝ }
     ensures { λ r. ⌜ r ≡ closedMember (recordAt (now (bytes .entry)) at) ⌝ }
 {
-    if word_in(bytes, at + 2) != 7 {
+    if word_in(bytes, at + KIND_AT) != MEMBER {
         return false;
     }
-    word_in(bytes, at + 4) % 2 == 0
+    word_in(bytes, at + FLAGS_AT) % 2 == 0
 }
 
 // 2 for a class with such a member, else 0.
@@ -77,25 +91,18 @@ fn part_closed(bytes: &[u8]) -> u8
 }
 
 // Writes 1 for each library class that is not allowed and 2 more for one with a member that is not, so that a record is asked by a row.
-pub fn bans<'a>(
-    library: &'a [u8],
-    user: &'a [u8],
-    group: &'a [u8],
-    cut: Cut,
-    starts: &[u16],
-    nlib: usize,
-    n: usize,
-    row: &mut [u8],
-)
-    requires { ⌜ Fits cut (now user) (now group) ⌝ }
-    requires { ⌜ Indexed (now library) (spliced (now user) (now group) cut) nlib n (now starts) ⌝ }
-    requires { ⌜ now row ≡ replicate 256 0 ⌝ }
-    ensures { λ r. ⌜ Bans nlib (groupOf (now (library .entry)) (spliced (now (user .entry)) (now (group .entry)) cut)) (now (row .exit)) ⌝ }
+pub fn bans<'a>(library: &'a [u8], user: &'a [u8], starts: &[u16], classes: Classes, row: &mut [u8])
+    ghost { ℕ → Group }
+    requires { λ g. ⌜ groupOf (now library) (now user) ≡ g ⌝ }
+    requires { λ g. ⌜ Indexed (now library) (now user) (classes .library) (classes .all) (now starts) ⌝ }
+    requires { λ g. ⌜ now row ≡ replicate 256 0 ⌝ }
+    ensures { λ g r. ⌜ Bans (classes .library) g (now (row .exit)) ⌝ }
 {
+    let end = classes.library;
     let mut d = 0;
-    while d < nlib {
-        let bytes = class_bytes(library, user, group, cut, starts, nlib, n, d);
-        row[d] = closed(word_in(bytes, 4)) + part_closed(bytes);
+    while d < end {
+        let bytes = class_bytes(library, user, starts, classes, d);
+        row[d] = closed(word_in(bytes, FLAGS_AT)) + part_closed(bytes);
         d += 1;
     }
 }
@@ -128,60 +135,60 @@ fn partial(nlib: usize, banned: &[u8], d: usize) -> bool
 pub fn refers_forbidden<'a>(
     library: &'a [u8],
     user: &'a [u8],
-    group: &'a [u8],
-    cut: Cut,
     starts: &[u16],
-    nlib: usize,
-    n: usize,
+    classes: Classes,
     banned: &[u8],
     bytes: &[u8],
     at: usize,
 ) -> bool
-    requires { ⌜ Fits cut (now user) (now group) ⌝ }
-    requires { ⌜ Indexed (now library) (spliced (now user) (now group) cut) nlib n (now starts) ⌝ }
-    requires { ⌜ Sized (now bytes) at ⌝ }
-    requires { ⌜ Refers n (groupOf (now library) (spliced (now user) (now group) cut)) (recordAt (now bytes) at) ⌝ }
-    requires { ⌜ length (now bytes) ≤ 32768 ⌝ }
-    requires { ⌜ Bans nlib (groupOf (now library) (spliced (now user) (now group) cut)) (now banned) ⌝ }
-    ensures { λ r. ⌜ r ≡ (isKind REFERS (recordAt (now (bytes .entry)) at) && not (memberAllowed (groupOf (now (library .entry)) (spliced (now (user .entry)) (now (group .entry)) cut)) (target (recordAt (now (bytes .entry)) at)) (index (recordAt (now (bytes .entry)) at)))) ⌝ }
+    ghost { ℕ → Group }
+    requires { λ g. ⌜ groupOf (now library) (now user) ≡ g ⌝ }
+    requires { λ g. ⌜ Indexed (now library) (now user) (classes .library) (classes .all) (now starts) ⌝ }
+    requires { λ g. ⌜ Sized (now bytes) at ⌝ }
+    requires { λ g. ⌜ Refers (classes .all) g (recordAt (now bytes) at) ⌝ }
+    requires { λ g. ⌜ length (now bytes) ≤ 32768 ⌝ }
+    requires { λ g. ⌜ Bans (classes .library) g (now banned) ⌝ }
+    ensures { λ g r. ⌜ r ≡ (isKind REFERS (recordAt (now (bytes .entry)) at)
+        && not (memberAllowed g (target (recordAt (now (bytes .entry)) at)) (index (recordAt (now (bytes .entry)) at)))) ⌝ }
 {
-    if word_in(bytes, at + 2) != 8 {
+    if word_in(bytes, at + KIND_AT) != REFERS {
         return false;
     }
-    let d = wide(word_in(bytes, at + 4));
-    if !partial(nlib, banned, d) {
+    let d = wide(word_in(bytes, at + TARGET_AT));
+    if !partial(classes.library, banned, d) {
         return false;
     }
-    let i = wide(word_in(bytes, at + 6));
-    let there = class_bytes(library, user, group, cut, starts, nlib, n, d);
-    let m = nth_in(there, 7, i);
-    word_in(there, m + 4) % 2 == 0
+    let i = wide(word_in(bytes, at + INDEX_AT));
+    let there = class_bytes(library, user, starts, classes, d);
+    let m = nth_in(there, MEMBER, i);
+    word_in(there, m + FLAGS_AT) % 2 == 0
 }
 
 // Rule 3: Token, Throwable or Enum among own markers.
 pub fn reserved(m: u8) -> bool
     ensures { λ r. ⌜ r ≡ (bit Token m || bit Throwable m || bit Enum m) ⌝ }
 {
-    m / 16 % 2 + m / 32 % 2 + m / 64 % 2 != 0
+    m / TOKEN % 2 + m / THROWABLE % 2 + m / ENUM % 2 != 0
 }
 
 // Rule 5: a static field that is not final or not of an Immutable type.
 pub fn static_breaks(bytes: &[u8], at: usize, markers: &[u8]) -> bool
     requires { ⌜ Sized (now bytes) at ⌝ }
     requires { ⌜ length (now bytes) ≤ 32768 ⌝ }
-    ensures { λ r. ⌜ ((g : ℕ → Group) → Known g (now (markers .entry)) → r ≡ (isStaticField (recordAt (now (bytes .entry)) at) && not (isFinal (recordAt (now (bytes .entry)) at) && satisfies g staticMarker (fieldTy (recordAt (now (bytes .entry)) at))))) ⌝ }
+    ensures { λ r. ⌜ ((g : ℕ → Group) → Known g (now (markers .entry)) → r ≡ (isStaticField (recordAt (now (bytes .entry)) at)
+        && not (isFinal (recordAt (now (bytes .entry)) at) && satisfies g staticMarker (fieldTy (recordAt (now (bytes .entry)) at))))) ⌝ }
 {
-    if word_in(bytes, at + 2) != 3 {
+    if word_in(bytes, at + KIND_AT) != FIELD {
         return false;
     }
-    let flags = word_in(bytes, at + 4);
-    if flags / 4 % 2 == 0 {
+    let flags = word_in(bytes, at + FLAGS_AT);
+    if flags / STATIC % 2 == 0 {
         return false;
     }
     if flags % 2 == 0 {
         return true;
     }
-    !has(type_markers(bytes, at + 6, markers), 1)
+    !has(type_markers(bytes, at + FIELD_TYPE_AT, markers), IMMUTABLE)
 }
 
 // Rule 6: an initialization flag, 5 to 7.
@@ -193,299 +200,81 @@ pub fn lets_out(flags: u16) -> bool
 
 // ---- rules 7 to 10
 
-// The marker of a rule, as a set of its own.
-pub fn rule_set(rule: u8) -> u8
-    requires { ⌜ 7 ≤ rule ⌝ }
-    ensures { λ r. ⌜ (r ≡ 2 ^ ruleMarker rule) × (0 < r) ⌝ }
-{
-    if rule == 7 {
-        return 1;
-    }
-    if rule == 8 {
-        return 2;
-    }
-    if rule == 9 {
-        return 4;
-    }
-    128
-}
-
-// Whether a slot passes: final or not, transient or not, and the markers of its type.
-pub fn slot_fits(rule: u8, fixed: bool, transient: bool, set: u8) -> bool
-    requires { ⌜ 7 ≤ rule ⌝ }
-    ensures { λ r. ⌜ r ≡ fromSeven rule (fixed && bit 0 set) (bit 1 set) (fixed && not transient) (bit 7 set) ⌝ }
-{
-    if rule == 7 {
-        if fixed {
-            return has(set, 1);
-        }
-        return false;
-    }
-    if rule == 8 {
-        return has(set, 2);
-    }
-    if rule == 9 {
-        if fixed {
-            return !transient;
-        }
-        return false;
-    }
-    has(set, 128)
-}
-
 // An instance field that does not pass.
-pub fn field_breaks(bytes: &[u8], at: usize, markers: &[u8], rule: u8) -> bool
+fn field_breaks(bytes: &[u8], at: usize, markers: &[u8], rule: u8) -> bool
     requires { ⌜ Sized (now bytes) at ⌝ }
-    requires { ⌜ (length (now bytes) ≤ 32768) × (7 ≤ rule) ⌝ }
-    ensures { λ r. ⌜ ((g : ℕ → Group) (t k : ℕ) → Known g (now (markers .entry)) → r ≡ fieldBreaks g rule t k (recordAt (now (bytes .entry)) at)) ⌝ }
+    requires { ⌜ (length (now bytes) ≤ 32768) × (7 ≤ rule) × (rule ≤ 10) ⌝ }
+    ensures { λ r. ⌜ FieldBreaks (now (markers .entry)) rule (recordAt (now (bytes .entry)) at) r ⌝ }
 {
-    if word_in(bytes, at + 2) != 3 {
+    if word_in(bytes, at + KIND_AT) != FIELD {
         return false;
     }
-    let flags = word_in(bytes, at + 4);
-    if flags / 4 % 2 == 1 {
-        return false;
-    }
-    let set = type_markers(bytes, at + 6, markers);
-    !slot_fits(rule, flags % 2 == 1, flags / 2 % 2 == 1, set)
+    !has(field_set(bytes, at, markers), rule_set(rule))
 }
 
-// The root lacks the rule's marker; class 0 needs none.
-pub fn root_breaks(markers: &[u8], rule: u8, d: usize) -> bool
-    requires { ⌜ 7 ≤ rule ⌝ }
-    ensures { λ r. ⌜ ((g : ℕ → Group) → Known g (now (markers .entry)) → r ≡ rootBreaks g rule d) ⌝ }
-{
-    if d == 0 {
-        return false;
-    }
-    if rule == 9 {
-        return false;
-    }
-    !has(known(markers, d), rule_set(rule))
+// ---- all ten
+
+// Where the walk over rules, classes and records stands: the rule, the class that is judged, the class that is asked, and the number of its record
+// that begins at a byte of its bytes.
+pub struct Step {
+    pub rule: u8,
+    pub class: usize,
+    pub asked: usize,
+    pub number: usize,
+    pub at: usize,
 }
 
-// The encloser or a captured variable of class t does not pass. Neither changes, so rule 9 has nothing to say.
-pub fn fixed_breaks<'a>(
-    library: &'a [u8],
-    user: &'a [u8],
-    group: &'a [u8],
-    cut: Cut,
-    starts: &[u16],
-    nlib: usize,
-    n: usize,
-    markers: &[u8],
-    row: &[u8],
-    rule: u8,
-    t: usize,
-    bytes: &[u8],
-) -> bool
-    requires { ⌜ Fits cut (now user) (now group) ⌝ }
-    requires { ⌜ Indexed (now library) (spliced (now user) (now group) cut) nlib n (now starts) ⌝ }
-    requires { ⌜ formRefusal (now library) (spliced (now user) (now group) cut) ≡ none ⌝ }
-    requires { ⌜ Known (groupOf (now library) (spliced (now user) (now group) cut)) (now markers) ⌝ }
-    requires { ⌜ Shown (groupOf (now library) (spliced (now user) (now group) cut)) n (now row) ⌝ }
-    requires { ⌜ (t < n) × (7 ≤ rule) ⌝ }
-    requires { ⌜ Carries (now bytes) (groupOf (now library) (spliced (now user) (now group) cut) t) ⌝ }
-    ensures { λ r. ⌜ r ≡ fixedBreaks (groupOf (now (library .entry)) (spliced (now (user .entry)) (now (group .entry)) cut)) rule t ⌝ }
-{
-    if rule == 9 {
-        return false;
-    }
-    if lacking(row, lane_of(rule), t) {
-        return true;
-    }
-    if word_in(bytes, 4) / 2 % 2 == 0 {
-        return false;
-    }
-    let e = wide(word_in(bytes, 10));
-    !has(known(markers, e), rule_set(rule))
-}
-
-// The lane that has the captured variables for a rule.
-fn lane_of(rule: u8) -> usize
-    requires { ⌜ 7 ≤ rule ⌝ }
-    ensures { λ r. ⌜ (r ≡ fromSeven rule 0 1 2 2) × (r < 3) ⌝ }
-{
-    if rule == 7 {
-        return 0;
-    }
-    if rule == 8 {
-        return 1;
-    }
-    2
-}
-
-// Rule 9's second part.
-pub fn base_breaks<'a>(
-    library: &'a [u8],
-    user: &'a [u8],
-    group: &'a [u8],
-    cut: Cut,
-    starts: &[u16],
-    nlib: usize,
-    n: usize,
-    markers: &[u8],
-    c: usize,
-    bytes: &[u8],
-) -> bool
-    requires { ⌜ Fits cut (now user) (now group) ⌝ }
-    requires { ⌜ Indexed (now library) (spliced (now user) (now group) cut) nlib n (now starts) ⌝ }
-    requires { ⌜ formRefusal (now library) (spliced (now user) (now group) cut) ≡ none ⌝ }
-    requires { ⌜ Known (groupOf (now library) (spliced (now user) (now group) cut)) (now markers) ⌝ }
-    requires { ⌜ (nlib ≤ c) × (c < n) × T (not (isInterface (groupOf (now library) (spliced (now user) (now group) cut) c))) ⌝ }
-    requires { ⌜ Carries (now bytes) (groupOf (now library) (spliced (now user) (now group) cut) c) ⌝ }
-    ensures { λ r. ⌜ r ≡ baseBreaks (groupOf (now (library .entry)) (spliced (now (user .entry)) (now (group .entry)) cut)) c ⌝ }
-{
-    let s = wide(word_in(bytes, 8));
-    if has(known(markers, s), 4) {
-        return false;
-    }
-    if s != 0 {
-        return true;
-    }
-    word_in(bytes, 4) / 4 % 8 != 3
-}
-
-// What stands at record 0 of class t.
-fn head_breaks<'a>(
-    library: &'a [u8],
-    user: &'a [u8],
-    group: &'a [u8],
-    cut: Cut,
-    starts: &[u16],
-    nlib: usize,
-    n: usize,
-    markers: &[u8],
-    row: &[u8],
-    rule: u8,
-    c: usize,
-    t: usize,
-    bytes: &[u8],
-) -> bool
-    requires { ⌜ Fits cut (now user) (now group) ⌝ }
-    requires { ⌜ Indexed (now library) (spliced (now user) (now group) cut) nlib n (now starts) ⌝ }
-    requires { ⌜ formRefusal (now library) (spliced (now user) (now group) cut) ≡ none ⌝ }
-    requires { ⌜ Known (groupOf (now library) (spliced (now user) (now group) cut)) (now markers) ⌝ }
-    requires { ⌜ Shown (groupOf (now library) (spliced (now user) (now group) cut)) n (now row) ⌝ }
-    requires { ⌜ (nlib ≤ c) × (c < n) × T (not (isInterface (groupOf (now library) (spliced (now user) (now group) cut) c))) ⌝ }
-    requires { ⌜ (t < n) × (7 ≤ rule) ⌝ }
-    requires { ⌜ Carries (now bytes) (groupOf (now library) (spliced (now user) (now group) cut) t) ⌝ }
-    ensures { λ r. ⌜ r ≡ headBreaks nlib (groupOf (now (library .entry)) (spliced (now (user .entry)) (now (group .entry)) cut)) rule c t ⌝ }
-{
-    if t < nlib {
-        return root_breaks(markers, rule, t);
-    }
-    if fixed_breaks(
-        library,
-        user,
-        group,
-        cut,
-        starts,
-        nlib,
-        n,
-        markers,
-        row,
-        rule,
-        t,
-        bytes,
-    ) {
-        return true;
-    }
-    if rule != 9 {
-        return false;
-    }
-    if t != c {
-        return false;
-    }
-    base_breaks(
-        library,
-        user,
-        group,
-        cut,
-        starts,
-        nlib,
-        n,
-        markers,
-        c,
-        bytes,
-    )
-}
-
-// In the judging of class c: record k of class t, which begins at `at` of the class's bytes, breaks the rule.
+// Whether the record breaks the rule.
 pub fn breaks<'a>(
     library: &'a [u8],
     user: &'a [u8],
-    group: &'a [u8],
-    cut: Cut,
     starts: &[u16],
-    nlib: usize,
-    n: usize,
-    markers: &[u8],
-    row: &[u8],
-    banned: &[u8],
-    rule: u8,
-    c: usize,
-    t: usize,
-    k: usize,
+    classes: Classes,
+    facts: &[u8],
+    lanes: &[u8],
     bytes: &[u8],
-    at: usize,
+    step: Step,
 ) -> bool
-    requires { ⌜ Fits cut (now user) (now group) ⌝ }
-    requires { ⌜ Indexed (now library) (spliced (now user) (now group) cut) nlib n (now starts) ⌝ }
-    requires { ⌜ formRefusal (now library) (spliced (now user) (now group) cut) ≡ none ⌝ }
-    requires { ⌜ Known (groupOf (now library) (spliced (now user) (now group) cut)) (now markers) ⌝ }
-    requires { ⌜ Shown (groupOf (now library) (spliced (now user) (now group) cut)) n (now row) ⌝ }
-    requires { ⌜ (nlib ≤ c) × (c < n) × (t < n) × (1 ≤ rule) ⌝ }
-    requires { ⌜ Standing (now bytes) (groupOf (now library) (spliced (now user) (now group) cut) t) k at ⌝ }
-    requires { ⌜ (rule ≡ 3 → k ≡ 0) × (rule ≡ 6 → k ≡ 0) × (7 ≤ rule → T (not (isInterface (groupOf (now library) (spliced (now user) (now group) cut) c)))) ⌝ }
-    requires { ⌜ Bans nlib (groupOf (now library) (spliced (now user) (now group) cut)) (now banned) ⌝ }
-    ensures { λ r. ⌜ r ≡ breaksAt nlib (groupOf (now (library .entry)) (spliced (now (user .entry)) (now (group .entry)) cut)) rule c t k (recordAt (now (bytes .entry)) at) ⌝ }
+    ghost { ℕ → Group }
+    requires { λ g. ⌜ groupOf (now library) (now user) ≡ g ⌝ }
+    requires { λ g. ⌜ Judging (now library) (now user) (now starts) classes (now facts) (now lanes) ⌝ }
+    requires { λ g. ⌜ AtStep g classes (now bytes) step ⌝ }
+    ensures { λ g r. ⌜ r ≡ breaksAt (classes .library) g (step .rule) (step .class) (step .asked) (step .number) (recordAt (now (bytes .entry)) (step .at)) ⌝ }
 {
+    let rule = step.rule;
+    let at = step.at;
+    let markers = &facts[0..BANS_AT];
+    let banned = &facts[BANS_AT..SETS_AT];
     if rule == 1 {
         return names_forbidden(bytes, at, banned);
     }
     if rule == 2 {
-        return refers_forbidden(
-            library,
-            user,
-            group,
-            cut,
-            starts,
-            nlib,
-            n,
-            banned,
-            bytes,
-            at,
-        );
+        return refers_forbidden(library, user, starts, classes, banned, bytes, at);
     }
     if rule == 3 {
-        return reserved(bytes[at + 6]);
+        return reserved(bytes[at + MARKERS_AT]);
     }
     if rule == 4 {
-        return clash(known(markers, t));
+        return clash(known(markers, step.asked));
     }
     if rule == 5 {
         return static_breaks(bytes, at, markers);
     }
     if rule == 6 {
-        return lets_out(word_in(bytes, at + 4));
+        return lets_out(word_in(bytes, at + FLAGS_AT));
     }
-    if k != 0 {
+    if step.number != 0 {
         return field_breaks(bytes, at, markers, rule);
     }
-    head_breaks(
-        library,
-        user,
-        group,
-        cut,
-        starts,
-        nlib,
-        n,
-        markers,
-        row,
-        rule,
-        c,
-        t,
-        bytes,
-    )
+    let set = head_set(bytes, markers, lanes, classes.library, step.asked);
+    if !has(set, rule_set(rule)) {
+        return true;
+    }
+    if rule != 9 {
+        return false;
+    }
+    if step.asked != step.class {
+        return false;
+    }
+    base_breaks(bytes, markers)
 }

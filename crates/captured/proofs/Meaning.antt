@@ -220,7 +220,8 @@ module _ {library user : List ℕ} {nlib n : ℕ} {starts : List ℕ} (x : Index
           let i = index (u .bytes) in
           let s : Uses (g (q .last)) y i = record { bytes = u .bytes; member = u .member; ofKind = u .uses; owner = u .owner; variable = refl } in
           mem-any (lacks (laneMarker k))
-          (mem-gather (λ (v : ℕ × ℕ). map (variableSlot (v .0)) (localAt (g (v .0)) (v .1))) (captures-is l y i .1 (record { last = q .last; chain = q .chain; uses = s })) (slot-in y (g y) i (variables (q .last) y i s)))
+          (mem-gather (λ (v : ℕ × ℕ). map (variableSlot (v .0)) (localAt (g (v .0)) (v .1))) (captures-is l y i .1 (record { last = q .last; chain = q .chain; uses = s }))
+          (slot-in y (g y) i (variables (q .last) y i s)))
           (false-t (ap (satisfies g (laneMarker k)) (slot-type y (g y) i) ∙ u .lacking))
 
       -- its owner is at least the entry of the class that uses it, and that entry passes down the chain
@@ -257,5 +258,6 @@ module _ {library user : List ℕ} {nlib n : ℕ} {starts : List ℕ} (x : Index
       shown =
           record {
             lane = λ k l hk hl.
-                t-same (ltb (entryAt after k l) 255) (lacksCaptured g (laneMarker k) l) (λ t. there k l hk hl (ltb→lt (entryAt after k l) 255 t)) (λ t. lt→ltb (entryAt after k l) 255 (back k l hk hl t));
+                t-same (ltb (entryAt after k l) 255) (lacksCaptured g (laneMarker k) l) (λ t. there k l hk hl (ltb→lt (entryAt after k l) 255 t))
+                (λ t. lt→ltb (entryAt after k l) 255 (back k l hk hl t));
           }

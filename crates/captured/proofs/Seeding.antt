@@ -2,7 +2,8 @@
 -- Assumes nothing.
 use mathlib.Core.Path.{_≡_, refl, sym, ap, ap₂, _∙_, subst}
 use mathlib.Core.Bool.{Bool, true, false}
-use mathlib.Core.List.{List, [], _∷_, _++_, append-nil, append-assoc, List·Memᴰ, List·Memᴰ·head, List·Memᴰ·not-nil, List·Memᴰ·append-cases, Memᴰ·append-left, Memᴰ·append-right, List·Memᴰ·eq-of-singleton}
+use mathlib.Core.List.{List, [], _∷_, _++_, append-nil, append-assoc, List·Memᴰ, List·Memᴰ·head, List·Memᴰ·not-nil, List·Memᴰ·append-cases, Memᴰ·append-left, Memᴰ·append-right}
+use mathlib.Core.List.{List·Memᴰ·eq-of-singleton}
 use mathlib.Core.Logic.{_⊎_, inl, inr, ⊎-elim}
 use mathlib.Core.Option.{none}
 use Prim.Native.Nat.{ℕ, zero, suc, _+_, _*_, _/_, _%_, _^_, _≤_, _<_}
@@ -21,15 +22,14 @@ use Rattle.theory.proofs.All.{all-at, all-kept, of-members, at-member}
 use Rattle.theory.proofs.Members.{mem-keep}
 use Rattle.theory.proofs.References.{references-uses}
 use Rattle.theory.proofs.Accept.{Fits, form-fits}
-use Rattle.pass.specs.Pass.{recordAt}
-use Rattle.pass.proofs.Whole.{kind-here}
-use Rattle.groups.specs.Groups.{between, nthByte, AtRecord, Carries, Indexed}
-use Rattle.groups.proofs.Between.{tiled-end}
-use Rattle.groups.proofs.Walks.{walk-here, walk-next}
-use Rattle.groups.proofs.Nth.{Stands, nth-record}
+use Rattle.records.proofs.Whole.{kind-here}
+use Rattle.records.proofs.Between.{tiled-end}
+use Rattle.groups.specs.Groups.{Indexed}
+use Rattle.records.proofs.Walks.{walk-here, walk-next}
+use Rattle.records.proofs.Nth.{Stands, nth-record}
 use Rattle.overlay.specs.Types.{Known, typeMarkers, rowMarkers}
 use Rattle.overlay.proofs.Types.{row-markers, satisfies-bit}
-use Rattle.records.specs.Records.{Sized}
+use Rattle.records.specs.Records.{Sized, recordAt, between, nthByte, AtRecord, Carries}
 use Rattle.records.proofs.Positions.{whole, long-enough, target-at, index-at, local-type-at, walk-sized}
 use Rattle.lanes.specs.Lanes.{Inside, Enclosers, entryAt, Other, SeedsFit, Least}
 use Rattle.reach.specs.Reach.{stepsOf, outerOf, Emptied}
@@ -147,7 +147,8 @@ module _ {marks : List ℕ} {markers m d : ℕ} where
 
 kept-kind : (k : ℕ) (h : Group) (i : ℕ) → i < length (ofKind k h) → kind (getD (ofKind k h) i []) ≡ k
 unfolding ofKind
-kept-kind k h i l = eqb→eq (kind (getD (ofKind k h) i [])) k (all-at (λ r. Unit {0} × T (isKind k r)) [] (ofKind k h) (all-kept (λ r. Unit {0}) (isKind k) h (of-members (λ r. Unit {0}) h (λ r e. tt))) i l .1)
+kept-kind k h i l = eqb→eq (kind (getD (ofKind k h) i [])) k
+    (all-at (λ r. Unit {0} × T (isKind k r)) [] (ofKind k h) (all-kept (λ r. Unit {0}) (isKind k) h (of-members (λ r. Unit {0}) h (λ r e. tt))) i l .1)
 
 -- where it is found in the bytes of its class, there is its type
 module _ {bytes : List ℕ} {h : Group} (w : Carries bytes h) (i : ℕ) (l : i < length (ofKind LOCAL h)) {at : ℕ} (ea : at ≡ nthByte LOCAL i 0 (between bytes 0 (length bytes))) where
@@ -200,7 +201,8 @@ module _ {library user : List ℕ} {nlib n : ℕ} {starts : List ℕ} (x : Index
     owner-there =
         subst (λ (t : ℕ). d < t) (sym (x .n-is))
         (subst (λ (t : ℕ). t < total library user) (sym owner)
-        (at-member (λ t. t < total library user) (references (recordAt s at)) (fits .there) (subst (List·Memᴰ (target (recordAt s at))) (sym (references-uses (recordAt s at) (eq→eqb uses))) (List·Memᴰ·head refl))))
+        (at-member (λ t. t < total library user) (references (recordAt s at)) (fits .there)
+        (subst (List·Memᴰ (target (recordAt s at))) (sym (references-uses (recordAt s at) (eq→eqb uses))) (List·Memᴰ·head refl))))
 
     module _ {i w : ℕ} (ei : i ≡ w) (ew : w ≡ u16 s (at + 6)) where
       number : i ≡ index (recordAt s at)
@@ -210,7 +212,8 @@ module _ {library user : List ℕ} {nlib n : ℕ} {starts : List ℕ} (x : Index
       variable-there = rw (number, owner) (fits .local (eq→eqb uses))
 
       -- the lanes whose marker the variable's type lacks are lowered to its owner
-      pub record-uses : {markers : ℕ} {marks row row′ : List ℕ} → markers ≡ typeMarkers g (localTy (getD (ofKind LOCAL (g d)) i [])) → Enclosers (outerOf g) m marks → Lowering (InLanes marks markers 3 m d) row row′
+      pub record-uses : {markers : ℕ} {marks row row′ : List ℕ} → markers ≡ typeMarkers g (localTy (getD (ofKind LOCAL (g d)) i [])) → Enclosers (outerOf g) m marks
+          → Lowering (InLanes marks markers 3 m d) row row′
           → Lowering (ByRecords g m (recordAt s at ∷ [])) row row′
       record-uses {markers} {marks} em right f = lower-same f there back
         where
@@ -290,7 +293,8 @@ module _ {g : ℕ → Group} {m : ℕ} {row₀ row s : List ℕ} {at : ℕ} (f :
       })
 
   pub seed-end : length s ≤ at → Lowering (ByRecords g m (g m)) row₀ row
-  seed-end h = subst (λ (rs : Group). Lowering (ByRecords g m rs) row₀ row) (sym (append-nil (f .done)) ∙ ap (λ (rs : Group). f .done ++ rs) (sym (tiled-end s at (length s) h)) ∙ f .split) (f .lowered)
+  seed-end h = subst (λ (rs : Group). Lowering (ByRecords g m rs) row₀ row) (sym (append-nil (f .done)) ∙ ap (λ (rs : Group). f .done ++ rs) (sym (tiled-end s at (length s) h)) ∙ f .split)
+      (f .lowered)
 
 -- a class without USES wants nothing
 unused : {g : ℕ → Group} {m i x : ℕ} → length (ofKind USES (g m)) ≡ 0 → ByRecords g m (g m) i x → ⊥
@@ -326,7 +330,8 @@ module _ {g : ℕ → Group} where
 
 -- ---- the whole
 
-module _ {library user : List ℕ} {nlib n : ℕ} {starts : List ℕ} (x : Indexed library user nlib n starts) (ok : formRefusal library user ≡ none) {before clear seeds : List ℕ} (c : Emptied 768 before clear)
+module _ {library user : List ℕ} {nlib n : ℕ} {starts : List ℕ} (x : Indexed library user nlib n starts) (ok : formRefusal library user ≡ none) {before clear seeds : List ℕ}
+    (c : Emptied 768 before clear)
     (f : Lowering (ByClasses (group library user) n) clear seeds) where
   fit : (k m : ℕ) → k < 3 → m < n → entryAt seeds k m < 255 → Wanted (group library user) (laneMarker k) m (group library user m) (entryAt seeds k m)
   fit k m hk hm v = ⊎-elim (λ e. absurd (omega (arith, c .none (k * 256 + m) (omega (arith, x .few)), e))) (λ q. go q) (f .from (k * 256 + m))
@@ -344,7 +349,8 @@ module _ {library user : List ℕ} {nlib n : ℕ} {starts : List ℕ} (x : Index
   pub captures-fit : SeedsFit (outerOf (group library user)) n 3 seeds
   captures-fit = seeds-fit x ok seeds fit low
 
-  pub captures-end : {after : List ℕ} → Least (stepsOf (group library user) true) (outerOf (group library user)) n 3 seeds after → length after ≡ length seeds → Captured (group library user) n before after
+  pub captures-end : {after : List ℕ} → Least (stepsOf (group library user) true) (outerOf (group library user)) n 3 seeds after → length after ≡ length seeds
+      → Captured (group library user) n before after
   unfolding Other
   captures-end {after} l e =
       record {

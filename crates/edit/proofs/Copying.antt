@@ -30,39 +30,45 @@ module _ (d : List ℕ) (at : ℕ) (s : List ℕ) (n : ℕ) (room : at + n ≤ l
 
 -- b is the buffer d with the first i of n bytes of s put at `at`
 pub record Copied (d : List ℕ) (at : ℕ) (s : List ℕ) (n : ℕ) (b : List ℕ) (i : ℕ) : Type 0 where
+  pub room : at + n ≤ length d
+  pub long : n ≤ length s
   pub few : i ≤ n
   pub now : b ≡ paste d at s i
 
-pub copy-start : (d : List ℕ) (at : ℕ) (s : List ℕ) (n i : ℕ) → i ≡ 0 → Copied d at s n d i
-copy-start d at s n i e = rw e (record { few = omega arith; now = paste-zero d at s })
+pub copy-start : (d : List ℕ) (at : ℕ) (s : List ℕ) (n i : ℕ) → i ≡ 0 → at + n ≤ length d → n ≤ length s → Copied d at s n d i
+copy-start d at s n i e room long = rw e (record { room = room; long = long; few = omega arith; now = paste-zero d at s })
 
-module _ {d : List ℕ} {at : ℕ} {s : List ℕ} {n : ℕ} {b : List ℕ} {i : ℕ} (c : Copied d at s n b i) (room : at + n ≤ length d) (long : n ≤ length s) where
+module _ {d : List ℕ} {at : ℕ} {s : List ℕ} {n : ℕ} {b : List ℕ} {i : ℕ} (c : Copied d at s n b i) where
   pub copy-long : length b ≡ length d
-  copy-long = ap length (c .now) ∙ length-paste d at s i (omega (arith, c .few)) (omega (arith, c .few))
+  copy-long = ap length (c .now) ∙ length-paste d at s i (omega arith) (omega arith)
 
   pub copy-ahead : (k : ℕ) → at + i ≤ k → getD b k 0 ≡ getD d k 0
-  copy-ahead k h = ap (λ (l : List ℕ). getD l k 0) (c .now) ∙ paste-after d at s i (omega (arith, c .few)) (omega (arith, c .few)) k h
+  copy-ahead k h = ap (λ (l : List ℕ). getD l k 0) (c .now) ∙ paste-after d at s i (omega arith) (omega arith) k h
 
   pub copy-next : i < n → {p v j : ℕ} → p ≡ at + i → v ≡ getD s i 0 → j ≡ i + 1 → Copied d at s n (set b p v) j
   copy-next h ep ev ej = rw (ep, ev, ej) (record {
+    room = c .room;
+    long = c .long;
     few = omega arith;
     now = ap (λ (l : List ℕ). set l (at + i) (getD s i 0)) (c .now) ∙ paste-suc d at s i 0 (omega arith) (omega arith) ∙ ap (paste d at s) (sym (add-one i));
   })
 
   pub copy-end : n ≤ i → b ≡ paste d at s n
-  copy-end h = let e : i ≡ n = omega (arith, c .few) in c .now ∙ ap (paste d at s) e
+  copy-end h = let e : i ≡ n = omega arith in c .now ∙ ap (paste d at s) e
 
 -- ---- from the last byte back
 
 -- b is the buffer d with all but the first i of n bytes of s put at `at`
 pub record Backed (d : List ℕ) (at : ℕ) (s : List ℕ) (n : ℕ) (b : List ℕ) (i : ℕ) : Type 0 where
+  pub room : at + n ≤ length d
+  pub long : n ≤ length s
   pub few : i ≤ n
   pub now : b ≡ paste d (at + i) (drop i s) (n - i)
 
-pub back-start : (d : List ℕ) (at : ℕ) (s : List ℕ) (n : ℕ) → Backed d at s n d n
-back-start d at s n =
+pub back-start : (d : List ℕ) (at : ℕ) (s : List ℕ) (n : ℕ) → at + n ≤ length d → n ≤ length s → Backed d at s n d n
+back-start d at s n room long =
     let e : n - n ≡ 0 = omega arith in
-    record { few = omega arith; now = paste-zero d (at + n) (drop n s) ∙ ap (paste d (at + n) (drop n s)) (sym e) }
+    record { room = room; long = long; few = omega arith; now = paste-zero d (at + n) (drop n s) ∙ ap (paste d (at + n) (drop n s)) (sym e) }
 
 -- one more byte in front
 paste-front : (d : List ℕ) (m : ℕ) (s : List ℕ) (j n : ℕ) → m < length d → j < length s → j < n
@@ -78,21 +84,22 @@ paste-front d m s j n hd hs h =
     ∙ sym (append-assoc (take m d) (getD s j 0 ∷ ys) (drop (suc m + (n - suc j)) d))
     ∙ ap₂ (λ (x y : List ℕ). (take m d ++ x) ++ y) (sym (ap₂ (λ (a : ℕ) (l : List ℕ). take a l) e (drop-cons s j 0 hs))) (ap (λ (a : ℕ). drop a d) k)
 
-module _ {d : List ℕ} {at : ℕ} {s : List ℕ} {n : ℕ} {b : List ℕ} {i : ℕ} (c : Backed d at s n b i) (room : at + n ≤ length d) (long : n ≤ length s) where
+module _ {d : List ℕ} {at : ℕ} {s : List ℕ} {n : ℕ} {b : List ℕ} {i : ℕ} (c : Backed d at s n b i) where
   rest-long : n - i ≤ length (drop i s)
   rest-long = omega (arith, length-drop i s)
 
   pub back-long : length b ≡ length d
-  back-long = ap length (c .now) ∙ length-paste d (at + i) (drop i s) (n - i) (omega (arith, c .few)) rest-long
+  back-long = ap length (c .now) ∙ length-paste d (at + i) (drop i s) (n - i) (omega arith) rest-long
 
   pub back-ahead : (k : ℕ) → k < at + i → getD b k 0 ≡ getD d k 0
-  back-ahead k h = ap (λ (l : List ℕ). getD l k 0) (c .now) ∙ paste-before d (at + i) (drop i s) (n - i) (omega (arith, c .few)) rest-long k h
+  back-ahead k h = ap (λ (l : List ℕ). getD l k 0) (c .now) ∙ paste-before d (at + i) (drop i s) (n - i) (omega arith) rest-long k h
 
   pub back-next : {p v j : ℕ} → i ≡ suc j → p ≡ at + j → v ≡ getD s j 0 → Backed d at s n (set b p v) j
   back-next {p} {v} {j} ei ep ev = rw (ep, ev) (record {
-    few = omega (arith, c .few);
+    room = c .room;
+    long = c .long;
+    few = omega arith;
     now =
-        let f = c .few in
         let m : at + suc j ≡ suc (at + j) = omega arith in
         ap (λ (l : List ℕ). set l (at + j) (getD s j 0)) (c .now ∙ ap (λ (x : ℕ). paste d (at + x) (drop x s) (n - x)) ei ∙ ap (λ (x : ℕ). paste d x (drop (suc j) s) (n - suc j)) m)
         ∙ paste-front d (at + j) s j n (omega arith) (omega arith) (omega arith);

@@ -2,6 +2,8 @@
 use crate::line::same;
 use crate::say;
 use verifier::Judged;
+use verifier::SCRATCH_BYTES;
+use verifier::VERDICT_BYTES;
 use verifier::judge;
 
 // More than a judging needs, so that bytes past its need are lent and must be left as they are.
@@ -33,29 +35,29 @@ pub(crate) fn lent<'a>(buffer: &'a mut [u8], n: usize) -> &'a mut [u8] {
 
 // The verdicts of the first `classes` classes: all of the row where it has no more.
 pub(crate) fn verdicts<'a>(row: &'a [u8], classes: usize) -> &'a [u8] {
-    if classes < row.len() / 2 {
-        return &row[0..classes * 2];
+    if classes < row.len() / VERDICT_BYTES {
+        return &row[0..classes * VERDICT_BYTES];
     }
     row
 }
 
 // What lies past those verdicts.
 pub(crate) fn past<'a>(row: &'a [u8], classes: usize) -> &'a [u8] {
-    if classes < row.len() / 2 {
-        return &row[classes * 2..];
+    if classes < row.len() / VERDICT_BYTES {
+        return &row[classes * VERDICT_BYTES..];
     }
     &row[0..0]
 }
 
-// After an accepted judging the scratch is zero in its first 65,536 bytes and as it was past them.
+// After an accepted judging the scratch is zero in the bytes that a judging takes and as it was past them.
 pub(crate) fn is_clean(scratch: &[u8]) -> bool {
-    if scratch.len() < 65536 {
+    if scratch.len() < SCRATCH_BYTES {
         return false;
     }
-    if !only(&scratch[0..65536], 0) {
+    if !only(&scratch[0..SCRATCH_BYTES], 0) {
         return false;
     }
-    only(&scratch[65536..], KEPT)
+    only(&scratch[SCRATCH_BYTES..], KEPT)
 }
 
 pub(crate) fn say_wrong() {
@@ -108,8 +110,8 @@ fn say_judged(judged: Judged, row: &[u8], scratch: &[u8], expected: &[u8]) -> us
             compare(verdicts(row, classes), expected);
             classes
         }
-        Judged::Refused(n, sheet, byte) => {
-            say::refused(b": ", n, sheet, byte);
+        Judged::Refused(refusal) => {
+            say::refused(b": ", refusal);
             say_refused(row, scratch);
             compare(b"", expected);
             0

@@ -2,8 +2,11 @@
 use reader::Found;
 use reader::nth;
 use verdicts::faulted;
+use verifier::Judged;
 use verifier::Marked;
 use verifier::Placed;
+use verifier::Refusal;
+use verifier::judge;
 use verifier::marks;
 use verifier::name;
 use verifier::name_place;
@@ -13,17 +16,17 @@ pub(crate) fn number(text: &[u8], x: usize) {
     io::print_decimal(1, x as u64);
 }
 
-pub(crate) fn refused(text: &[u8], n: u8, sheet: u8, byte: usize) {
+pub(crate) fn refused(text: &[u8], refusal: Refusal) {
     io::write_all(1, text);
-    number(b"refused ", n as usize);
-    number(b" sheet ", sheet as usize);
-    number(b" byte ", byte);
+    number(b"refused ", refusal.number as usize);
+    number(b" sheet ", refusal.sheet as usize);
+    number(b" byte ", refusal.byte);
 }
 
 fn say_marks<'a>(library: &'a [u8], user: &'a [u8], used: usize, class: usize) {
     match marks(library, user, used, class) {
         Marked::Fine(set) => number(b": markers ", set as usize),
-        Marked::Refused(n, sheet, byte) => refused(b": ", n, sheet, byte),
+        Marked::Refused(refusal) => refused(b": ", refusal),
     }
 }
 
@@ -34,7 +37,7 @@ fn say_place<'a>(library: &'a [u8], user: &'a [u8], used: usize, class: usize) {
             number(b" at ", start);
             number(b", bytes ", size);
         }
-        Placed::Refused(n, sheet, byte) => refused(b"; name ", n, sheet, byte),
+        Placed::Refused(refusal) => refused(b"; name ", refusal),
     }
 }
 
@@ -66,10 +69,20 @@ pub(crate) fn say_record(sheet: &[u8], n: usize) {
     io::write_all(1, b"\n");
 }
 
+// None where judging refuses.
+fn classes(judged: Judged) -> usize {
+    match judged {
+        Judged::Fine(classes, _) => classes,
+        Judged::Refused(_) => 0,
+    }
+}
+
 // How many user classes are faulted, counted through a row of structs.
 pub(crate) fn say_faulted<'a>(library: &'a [u8], user: &'a [u8], used: usize) {
+    let mut row = [0u8; 512];
     let mut scratch = [0u8; 65536];
-    number(b": faulted ", faulted(library, user, used, &mut scratch));
+    let n = classes(judge(library, user, used, &mut row, &mut scratch));
+    number(b": faulted ", faulted(&row, n));
     io::write_all(1, b"\n");
 }
 

@@ -13,8 +13,7 @@ use crate::judging::verdicts;
 use crate::line::same;
 use crate::say;
 use crate::sheet::bytes;
-use verifier::Added;
-use verifier::Replaced;
+use verifier::Changed;
 use verifier::add;
 use verifier::replace;
 
@@ -91,53 +90,31 @@ fn is_refused(before: &[u8], after: &[u8], row_before: &[u8], row: &[u8], scratc
     only(scratch, KEPT)
 }
 
-// Writes the answer; whether the call was accepted.
-fn add_said<'a>(
-    library: &'a [u8],
-    user: &mut [u8],
-    used: &mut usize,
-    group: &'a [u8],
-    row: &mut [u8],
-    scratch: &mut [u8],
-) -> bool {
-    match add(library, user, used, group, row, scratch) {
-        Added::Fine(class) => {
-            say::number(b": class ", class);
+// Writes the answer, a class or how many dependents; whether the call was accepted.
+fn say_changed(adds: bool, changed: Changed) -> bool {
+    match changed {
+        Changed::Fine(number) => {
+            if adds {
+                say::number(b": class ", number);
+            } else {
+                say::number(b": dependents ", number);
+            }
             true
         }
-        Added::Refused(n, sheet, byte) => {
-            say::refused(b": ", n, sheet, byte);
+        Changed::Refused(refusal) => {
+            say::refused(b": ", refusal);
             false
         }
     }
 }
 
-fn replace_said<'a>(
-    library: &'a [u8],
-    user: &mut [u8],
-    used: &mut usize,
-    class: usize,
-    group: &'a [u8],
-    row: &mut [u8],
-    scratch: &mut [u8],
-) -> bool {
-    match replace(library, user, used, class, group, row, scratch) {
-        Replaced::Fine(dependents) => {
-            say::number(b": dependents ", dependents);
-            true
-        }
-        Replaced::Refused(n, sheet, byte) => {
-            say::refused(b": ", n, sheet, byte);
-            false
-        }
-    }
-}
-
-// A row has no line past its end.
-fn grown(adds: bool, lines: usize) -> usize {
+// An accepted addition gives the row a line; a row has none past its end.
+fn grown(adds: bool, accepted: bool, lines: usize) -> usize {
     if adds {
-        if lines < ROW {
-            return lines + 1;
+        if accepted {
+            if lines < ROW {
+                return lines + 1;
+            }
         }
     }
     lines
@@ -152,7 +129,7 @@ fn say_ended(used: usize, lines: usize, row: &[u8], is_right: bool) {
     io::write_all(1, b"\n");
 }
 
-// The case after a call that gives the row `lines` lines and the user sheet `used` bytes, if it was accepted.
+// The case after a call, whose `lines` are the row's by now, and the user sheet of `used` bytes.
 fn ended(
     before: &[u8],
     user: &[u8],
@@ -161,15 +138,13 @@ fn ended(
     scratch: &[u8],
     accepted: bool,
     used: usize,
-    lines: usize,
     mut case: Case,
 ) -> Case {
     if accepted {
-        let beyond = past(row, lines);
+        let beyond = past(row, case.lines);
         let is_right = is_accepted(before, user, case.used, used, beyond, scratch);
-        say_ended(used, lines, row, is_right);
+        say_ended(used, case.lines, row, is_right);
         case.used = used;
-        case.lines = lines;
         return case;
     }
     let is_right = is_refused(before, user, row_before, row, scratch);
@@ -177,7 +152,7 @@ fn ended(
     case
 }
 
-// An addition, or the replacement of a class.
+// An addition, or the replacement of a class; whether the call was accepted.
 fn said<'a>(
     library: &'a [u8],
     user: &mut [u8],
@@ -189,9 +164,50 @@ fn said<'a>(
     scratch: &mut [u8],
 ) -> bool {
     if adds {
-        return add_said(library, user, used, group, row, scratch);
+        let added = add(library, user, used, group, row, scratch);
+        return say_changed(adds, added);
     }
-    replace_said(library, user, used, class, group, row, scratch)
+    let changed = replace(library, user, used, class, group, row, scratch);
+    say_changed(adds, changed)
+}
+
+// With copies of what the call may write, to be compared.
+fn compared<'a>(
+    library: &'a [u8],
+    user: &mut [u8],
+    row: &mut [u8],
+    adds: bool,
+    class: usize,
+    group: &'a [u8],
+    mut case: Case,
+) -> Case {
+    let mut before = io::large_buffer();
+    copied(&mut before, user);
+    let mut row_before = [0u8; ROW];
+    copied(&mut row_before, row);
+    let mut scratch = [KEPT; SCRATCH];
+    let mut used = case.used;
+    let accepted = said(
+        start(library, case.library),
+        lent(user, case.user),
+        &mut used,
+        adds,
+        class,
+        group,
+        lent(row, case.row),
+        lent(&mut scratch, case.scratch),
+    );
+    case.lines = grown(adds, accepted, case.lines);
+    ended(
+        &before,
+        user,
+        &row_before,
+        row,
+        &scratch,
+        accepted,
+        used,
+        case,
+    )
 }
 
 pub(crate) fn changing(
@@ -205,32 +221,5 @@ pub(crate) fn changing(
 ) -> Case {
     let mut group = [0u8; GROUP];
     let size = bytes(&mut group, 0, words, 0);
-    let mut before = io::large_buffer();
-    copied(&mut before, user);
-    let mut row_before = [0u8; ROW];
-    copied(&mut row_before, row);
-    let mut scratch = [KEPT; SCRATCH];
-    let mut used = case.used;
-    let accepted = said(
-        start(library, case.library),
-        lent(user, case.user),
-        &mut used,
-        adds,
-        class,
-        start(&group, size),
-        lent(row, case.row),
-        lent(&mut scratch, case.scratch),
-    );
-    let lines = grown(adds, case.lines);
-    ended(
-        &before,
-        user,
-        &row_before,
-        row,
-        &scratch,
-        accepted,
-        used,
-        lines,
-        case,
-    )
+    compared(library, user, row, adds, class, start(&group, size), case)
 }

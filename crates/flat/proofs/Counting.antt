@@ -10,20 +10,20 @@ use lib.Dec.{eqb}
 use lib.ListN.{length, getD}
 use borrow.Author.Tests.{eq-eqb, ne-eqb}
 use Rattle.spec.specs.Lists.{count, span}
-use Rattle.spec.specs.Verdicts.{flatLines, flatAt}
+use Rattle.spec.specs.Verdicts.{verdictBytes, flatLines, flatAt}
 use Rattle.theory.proofs.Counts.{step, count-none, count-more}
 use Rattle.flat.specs.Row.{faultedIn, markedIn}
 
 module _ (row : List ℕ) (n : ℕ) where
-  pub lines-few : n < length row / 2 → n ≡ min n (flatLines row)
+  pub lines-few : n < length row / verdictBytes → n ≡ min n (flatLines row)
   unfolding flatLines
   lines-few h = omega arith
 
-  pub lines-all : length row / 2 ≤ n → length row / 2 ≡ min n (flatLines row)
+  pub lines-all : length row / verdictBytes ≤ n → length row / verdictBytes ≡ min n (flatLines row)
   unfolding flatLines
   lines-all h = omega arith
 
-  pub lines-room : {end : ℕ} → end ≡ min n (flatLines row) → 2 * end ≤ length row
+  pub lines-room : {end : ℕ} → end ≡ min n (flatLines row) → verdictBytes * end ≤ length row
   unfolding flatLines
   lines-room e = omega arith
 
@@ -56,13 +56,13 @@ abbrev pub faultedAt : List ℕ → ℕ → Bool
 faultedAt row i = not (eqb (flatAt row i .rule) 0)
 
 module _ (row : List ℕ) (i : ℕ) where
-  pub rule-clean : {x : ℕ} → x ≡ getD row (2 * i) 0 → x ≡ 0 → faultedAt row i ≡ false
+  pub rule-clean : {x : ℕ} → x ≡ getD row (verdictBytes * i) 0 → x ≡ 0 → faultedAt row i ≡ false
   unfolding flatAt
-  rule-clean e z = rw (eq-eqb (getD row (2 * i) 0) 0 (sym e ∙ z))
+  rule-clean e z = rw (eq-eqb (getD row (verdictBytes * i) 0) 0 (sym e ∙ z))
 
-  pub rule-broken : {x : ℕ} → x ≡ getD row (2 * i) 0 → (x ≡ 0 → ⊥) → faultedAt row i ≡ true
+  pub rule-broken : {x : ℕ} → x ≡ getD row (verdictBytes * i) 0 → (x ≡ 0 → ⊥) → faultedAt row i ≡ true
   unfolding flatAt
-  rule-broken e z = rw (ne-eqb (getD row (2 * i) 0) 0 (λ w. z (e ∙ w)))
+  rule-broken e z = rw (ne-eqb (getD row (verdictBytes * i) 0) 0 (λ w. z (e ∙ w)))
 
 pub faulted-is : (row : List ℕ) {end k m : ℕ} → m ≡ count (faultedAt row) (span 0 end) → end ≡ k → m ≡ faultedIn row k
 unfolding faultedIn

@@ -1,3 +1,4 @@
 pub mod Rewriting
 pub mod Counting
+pub mod Learning
 pub mod Clearing

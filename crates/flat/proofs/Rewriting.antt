@@ -1,19 +1,19 @@
 -- The row while verdicts are written, class by class.
 -- Assumes nothing.
-use mathlib.Core.Path.{_≡_, refl, sym, ap, _∙_, subst}
+use mathlib.Core.Path.{_≡_, refl, sym, ap, ap₂, _∙_, subst}
 use mathlib.Core.Bool.{Bool, true, false, _&&_}
 use mathlib.Core.List.{List}
-use Prim.Native.Nat.{ℕ, _+_, _*_, _-_, _≤_, _<_}
+use Prim.Native.Nat.{ℕ, _+_, _-_, _≤_, _<_}
 use native.Mathlib.Decide.{ℕ-discrete}
 use native.Mathlib.Omega.{arith}
-use lib.Dec.{T-not, eqb, ltb, eqb→eq, ltb→lt, nltb→le}
-use lib.ListN.{length, getD, set}
+use lib.Dec.{eqb, ltb, ltb→lt, nltb→le}
+use lib.ListN.{length, getD}
 use borrow.Author.Tests.{ne-eqb, lt-ltb, le-ltb}
 use Rattle.spec.specs.Rules.{Verdict}
 use Rattle.spec.specs.Verdicts.{flatLines, flatRewritten}
-use Rattle.theory.proofs.Bools.{false-t, true-t, eq→eqb}
-use Rattle.theory.proofs.FlatRow.{rewritten-length, rewritten-none, rewritten-same, rewritten-more}
-use Rattle.flat.specs.Row.{putIf, chosen}
+use Rattle.theory.proofs.Bools.{false-t, true-t}
+use Rattle.theory.proofs.FlatRow.{rewritten-length, rewritten-lines, rewritten-none, rewritten-same, rewritten-more}
+use Rattle.flat.specs.Row.{putAt, chosen}
 
 pub record Rewriting (nlib n : ℕ) (v : ℕ → Verdict) (marks before row : List ℕ) (c : ℕ) : Type 0 where
   pub low : nlib ≤ c
@@ -52,21 +52,6 @@ kept nlib c marks i h = go (ℕ-discrete (nlib + i) c)
 
 -- ---- the loop
 
--- ---- one class
-
--- as many bytes as verdicts need
-pub lines-bytes : (row : List ℕ) {k : ℕ} → k ≤ flatLines row → 2 * k ≤ length row
-unfolding flatLines
-lines-bytes row h = omega arith
-
-pub put-not : (b : Bool) (at : ℕ) (w : Verdict) (row : List ℕ) → b ≡ false → row ≡ putIf b at w row
-unfolding putIf
-put-not b at w row e = rw e
-
-pub put-yes : (b : Bool) (at : ℕ) (w w′ : Verdict) (row : List ℕ) → b ≡ true → w′ ≡ w → set (set row at (w′ .rule)) (at + 1) (w′ .recordNumber) ≡ putIf b at w row
-unfolding putIf
-put-yes b at w w′ row e q = rw (e, q)
-
 pub rewrite-start : (nlib n : ℕ) (v : ℕ → Verdict) (marks row : List ℕ) → nlib ≤ n → Rewriting nlib n v marks row row nlib
 rewrite-start nlib n v marks row h = record { low = omega arith; high = h; now = rewritten-none v row (chosen nlib nlib marks) (λ i. false-t (unmarked nlib nlib marks i (omega arith))) }
 
@@ -75,36 +60,28 @@ module _ {nlib n : ℕ} {v : ℕ → Verdict} {marks before row : List ℕ} {c :
   rewrite-long = ap length (f .now) ∙ rewritten-length (chosen nlib c marks) v before
 
   pub lines-same : n - nlib ≤ flatLines before → n - nlib ≤ flatLines row
-  unfolding flatLines
-  lines-same h = omega (arith, rewrite-long)
+  lines-same h = omega (arith, ap flatLines (f .now), rewritten-lines (chosen nlib c marks) v before)
 
-  -- the class whose verdict is the (c - nlib)-th
-  pub class-is : (w : ℕ → Verdict) → putIf (eqb (getD marks c 0) 0) (2 * (c - nlib)) (w c) row ≡ putIf (eqb (getD marks c 0) 0) (2 * (c - nlib)) (w (nlib + (c - nlib))) row
-  class-is w = ap (λ (k : ℕ). putIf (eqb (getD marks c 0) 0) (2 * (c - nlib)) (w k) row) (let e : c ≡ nlib + (c - nlib) = omega (arith, f .low) in e)
+  pub rewrite-passed : c < n → (getD marks c 0 ≡ 0 → ⊥) → {row′ : List ℕ} → row′ ≡ row → Rewriting nlib n v marks before row′ (c + 1)
+  rewrite-passed h q e = record {
+    low = omega (arith, f .low);
+    high = omega arith;
+    now = e ∙ f .now ∙ rewritten-same v before (chosen nlib c marks) (chosen nlib (c + 1) marks) (λ i. kept nlib c marks i q);
+  }
 
-  pub rewrite-next : {row′ : List ℕ} → c < n → n - nlib ≤ flatLines before → row′ ≡ putIf (eqb (getD marks c 0) 0) (2 * (c - nlib)) (v (c - nlib)) row → Rewriting nlib n v marks before row′ (c + 1)
-  unfolding putIf
-  rewrite-next {row′} h room e = go (eqb (getD marks c 0) 0) refl e
-    where
-      go : (b : Bool) → eqb (getD marks c 0) 0 ≡ b
-          → row′ ≡ elim b as (λ (x : Bool). List ℕ) [ true ↦ set (set row (2 * (c - nlib)) (v (c - nlib) .rule)) (2 * (c - nlib) + 1) (v (c - nlib) .recordNumber) | false ↦ row ]
-          → Rewriting nlib n v marks before row′ (c + 1)
-      go true q e =
-          let w : nlib + (c - nlib) ≡ c = omega (arith, f .low) in
-          record {
-            low = omega (arith, f .low);
-            high = omega arith;
-            now =
-                e ∙ ap (λ (r : List ℕ). set (set r (2 * (c - nlib)) (v (c - nlib) .rule)) (2 * (c - nlib) + 1) (v (c - nlib) .recordNumber)) (f .now)
-                ∙ rewritten-more v before (chosen nlib c marks) (chosen nlib (c + 1) marks) (c - nlib) (omega (arith, f .low))
-                (true-t (here nlib c marks (c - nlib) w (eqb→eq (getD marks c 0) 0 (true-t q)))) (λ k ne. others nlib c marks k (λ z. ne (omega (arith, z))));
-          }
-      go false q e =
-          record {
-            low = omega (arith, f .low);
-            high = omega arith;
-            now = e ∙ f .now ∙ rewritten-same v before (chosen nlib c marks) (chosen nlib (c + 1) marks) (λ i. kept nlib c marks i (λ z. T-not (eqb (getD marks c 0) 0) (false-t q) (eq→eqb z)));
-          }
+  pub rewrite-put : c < n → getD marks c 0 ≡ 0 → n - nlib ≤ flatLines before → {w : Verdict} → w ≡ v (c - nlib) → {row′ : List ℕ} → row′ ≡ putAt (c - nlib) w row
+      → Rewriting nlib n v marks before row′ (c + 1)
+  unfolding putAt
+  rewrite-put h q room ew e =
+      let z : nlib + (c - nlib) ≡ c = omega (arith, f .low) in
+      record {
+        low = omega (arith, f .low);
+        high = omega arith;
+        now =
+            e ∙ ap₂ (putAt (c - nlib)) ew (f .now)
+            ∙ rewritten-more v before (chosen nlib c marks) (chosen nlib (c + 1) marks) (c - nlib) (omega (arith, f .low)) (true-t (here nlib c marks (c - nlib) z q))
+            (λ k ne. others nlib c marks k (λ z. ne (omega (arith, z))));
+      }
 
   pub rewrite-end : n ≤ c → row ≡ flatRewritten (chosen nlib n marks) v before
   rewrite-end h = let e : c ≡ n = omega (arith, f .high) in subst (λ (k : ℕ). row ≡ flatRewritten (chosen nlib k marks) v before) e (f .now)

@@ -1,17 +1,18 @@
 -- Which verdicts of the flat row are written, and how many are faulted.
 -- Assumes nothing.
-use mathlib.Core.Bool.{Bool, true, false, not, _&&_}
+use mathlib.Core.Bool.{Bool, not, _&&_}
 use mathlib.Core.List.{List}
-use Prim.Native.Nat.{ℕ, _+_}
+use Prim.Native.Nat.{ℕ, _+_, _*_}
 use lib.Dec.{eqb, ltb}
-use lib.ListN.{getD, set}
+use lib.ListN.{getD}
+use lib.Seq.{sets}
 use Rattle.spec.specs.Lists.{count, span}
 use Rattle.spec.specs.Rules.{Verdict}
-use Rattle.spec.specs.Verdicts.{flatAt}
+use Rattle.spec.specs.Verdicts.{verdictBytes, flatAt, bytesOf}
 
--- a verdict written at a byte of the row, if a test passes
-unfoldable pub putIf : Bool → ℕ → Verdict → List ℕ → List ℕ
-putIf b at v row = elim b [ true ↦ set (set row at (v .rule)) (at + 1) (v .recordNumber) | false ↦ row ]
+-- a verdict's bytes written at its place of the row
+unfoldable pub putAt : ℕ → Verdict → List ℕ → List ℕ
+putAt i v row = sets row (verdictBytes * i) (bytesOf v)
 
 -- the i-th user class is below class n, and its mark is 0: so a search for dependents leaves it
 unfoldable pub chosen : ℕ → ℕ → List ℕ → ℕ → Bool

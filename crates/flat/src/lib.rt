@@ -1,195 +1,134 @@
-// The flat verdict row, two bytes a user class: verdicts written where they change, faulted ones counted.
+// The flat verdict row, a few bytes a user class: verdicts written where they change, faulted ones counted.
+use breaks::BANS_AT;
+use breaks::FACTS;
+use breaks::SETS_AT;
 use breaks::bans;
 use captured::captures;
+use groups::Classes;
 use lanes::fill;
 use overlay::overlays;
 use rules::Verdict;
 use rules::verdict_of;
 use survey::clean;
 use survey::passes;
-use view::Cut;
 ghost use mathlib.Core.Path.{_≡_};
 ghost use mathlib.Core.Option.{none};
-ghost use Prim.Native.Nat.{_+_, _*_, _-_, _≤_, _<_, min};
-ghost use lib.Dec.{eqb};
-ghost use lib.ListN.{length, getD};
-ghost use Rattle.spec.specs.Sheet.{group as groupOf};
+ghost use Prim.Native.Nat.{ℕ, _+_, _-_, _≤_, _<_, min};
+ghost use lib.ListN.{length, replicate};
+ghost use Rattle.spec.specs.Sheet.{Group, group as groupOf};
 ghost use Rattle.spec.specs.Rules.{verdictOf};
 ghost use Rattle.spec.specs.Refusals.{formRefusal, scratchLength};
 ghost use Rattle.spec.specs.Promises.{cleared};
 ghost use Rattle.spec.specs.Verdicts.{flatLines, flatRewritten};
-ghost use Rattle.view.specs.View.{Fits, spliced};
 ghost use Rattle.groups.specs.Groups.{Indexed};
 ghost use Rattle.overlay.specs.Memo.{memoOf};
-ghost use Rattle.overlay.specs.Types.{Known};
-ghost use Rattle.captured.specs.Captured.{Shown};
-ghost use Rattle.breaks.specs.Breaking.{Bans};
+ghost use Rattle.captured.specs.Captured.{Captured};
+ghost use Rattle.breaks.specs.Breaking.{Judging};
 ghost use Rattle.rules.specs.Line.{lineOf};
 ghost use Rattle.rules.specs.Walk.{Kept};
-ghost use Rattle.survey.specs.Survey.{Passing};
-ghost use Rattle.flat.specs.Row.{putIf, chosen, faultedIn, markedIn};
+ghost use Rattle.survey.specs.Survey.{Passing, setsIn};
+ghost use Rattle.flat.specs.Row.{putAt, chosen, faultedIn, markedIn};
+
+// How many bytes a verdict takes in the row, and how many a judging is lent to work in.
+pub const VERDICT_BYTES: usize = 2;
+
+pub const SCRATCH_BYTES: usize = 65536;
+
+// ---- what is known of each class
+
+// Fills the row of facts: overlay markers, what is not allowed, and the sets that slots pass; and the lanes of captured variables.
+fn learn<'a>(
+    library: &'a [u8],
+    user: &'a [u8],
+    starts: &[u16],
+    classes: Classes,
+    memo: &mut [u16],
+    facts: &mut [u8],
+    lanes: &mut [u8],
+)
+    ghost { ℕ → Group }
+    requires { λ g. ⌜ groupOf (now library) (now user) ≡ g ⌝ }
+    requires { λ g. ⌜ Indexed (now library) (now user) (classes .library) (classes .all) (now starts) ⌝ }
+    requires { λ g. ⌜ formRefusal (now library) (now user) ≡ none ⌝ }
+    requires { λ g. ⌜ now memo ≡ memoOf g (classes .library) ⌝ }
+    requires { λ g. ⌜ (now facts ≡ replicate 768 0) × (768 ≤ length (now lanes)) ⌝ }
+    ensures memo { λ g r. ⌜ now (memo .exit) ≡ memoOf g (classes .all) ⌝ }
+    ensures facts { λ g r. ⌜ Judging (now (library .entry)) (now (user .entry)) (now (starts .entry)) classes (now (facts .exit)) (now (lanes .exit)) ⌝ }
+    ensures sets { λ g r. ⌜ Passing (classes .library) (classes .all) g (setsIn (now (facts .exit))) ⌝ }
+    ensures lanes { λ g r. ⌜ Captured g (classes .all) (now (lanes .entry)) (now (lanes .exit)) ⌝ }
+{
+    overlays(library, user, starts, classes, memo, &mut facts[0..BANS_AT]);
+    bans(library, user, starts, classes, &mut facts[BANS_AT..SETS_AT]);
+    captures(library, user, starts, classes, &facts[0..BANS_AT], lanes);
+    passes(library, user, starts, classes, facts, lanes);
+}
+
+// ---- writing
 
 // The verdict of class c: a clean class needs no walk over the rules.
 fn judged<'a>(
     library: &'a [u8],
     user: &'a [u8],
-    group: &'a [u8],
-    cut: Cut,
     starts: &[u16],
-    nlib: usize,
-    n: usize,
-    markers: &[u8],
-    row: &[u8],
-    sets: &[u8],
-    banned: &[u8],
+    classes: Classes,
+    facts: &[u8],
+    lanes: &[u8],
     c: usize,
     kept: &mut [u8],
 ) -> Verdict
-    requires { ⌜ Fits cut (now user) (now group) ⌝ }
-    requires { ⌜ Indexed (now library) (spliced (now user) (now group) cut) nlib n (now starts) ⌝ }
-    requires { ⌜ formRefusal (now library) (spliced (now user) (now group) cut) ≡ none ⌝ }
-    requires { ⌜ Known (groupOf (now library) (spliced (now user) (now group) cut)) (now markers) ⌝ }
-    requires { ⌜ Shown (groupOf (now library) (spliced (now user) (now group) cut)) n (now row) ⌝ }
-    requires { ⌜ Passing nlib n (groupOf (now library) (spliced (now user) (now group) cut)) (now sets) ⌝ }
-    requires { ⌜ (nlib ≤ c) × (c < n) ⌝ }
-    requires { ⌜ Kept nlib n (groupOf (now library) (spliced (now user) (now group) cut)) (now kept) ⌝ }
-    requires { ⌜ Bans nlib (groupOf (now library) (spliced (now user) (now group) cut)) (now banned) ⌝ }
-    ensures verdict { λ r. ⌜ lineOf r ≡ verdictOf nlib (groupOf (now (library .entry)) (spliced (now (user .entry)) (now (group .entry)) cut)) c ⌝ }
-    ensures kept { λ r. ⌜ Kept nlib n (groupOf (now (library .entry)) (spliced (now (user .entry)) (now (group .entry)) cut)) (now (kept .exit)) ⌝ }
+    ghost { ℕ → Group }
+    requires { λ g. ⌜ groupOf (now library) (now user) ≡ g ⌝ }
+    requires { λ g. ⌜ Judging (now library) (now user) (now starts) classes (now facts) (now lanes) ⌝ }
+    requires { λ g. ⌜ Passing (classes .library) (classes .all) g (setsIn (now facts)) ⌝ }
+    requires { λ g. ⌜ (classes .library ≤ c) × (c < classes .all) ⌝ }
+    requires { λ g. ⌜ Kept (classes .library) (classes .all) g (now kept) ⌝ }
+    ensures verdict { λ g r. ⌜ lineOf r ≡ verdictOf (classes .library) g c ⌝ }
+    ensures kept { λ g r. ⌜ Kept (classes .library) (classes .all) g (now (kept .exit)) ⌝ }
 {
-    if clean(
-        library,
-        user,
-        group,
-        cut,
-        starts,
-        nlib,
-        n,
-        markers,
-        sets,
-        banned,
-        c,
-    ) {
+    if clean(library, user, starts, classes, facts, c) {
         return Verdict { rule: 0, record: 0 };
     }
-    verdict_of(
-        library,
-        user,
-        group,
-        cut,
-        starts,
-        nlib,
-        n,
-        markers,
-        row,
-        banned,
-        c,
-        kept,
-    )
+    verdict_of(library, user, starts, classes, facts, lanes, c, kept)
 }
 
-// Writes the verdict of class c if its mark is 0.
-fn rewrite_class<'a>(
-    library: &'a [u8],
-    user: &'a [u8],
-    group: &'a [u8],
-    cut: Cut,
-    starts: &[u16],
-    nlib: usize,
-    n: usize,
-    markers: &[u8],
-    row: &[u8],
-    sets: &[u8],
-    banned: &[u8],
-    marks: &[u8],
-    c: usize,
-    kept: &mut [u8],
-    verdicts: &mut [u8],
-)
-    requires { ⌜ Fits cut (now user) (now group) ⌝ }
-    requires { ⌜ Indexed (now library) (spliced (now user) (now group) cut) nlib n (now starts) ⌝ }
-    requires { ⌜ formRefusal (now library) (spliced (now user) (now group) cut) ≡ none ⌝ }
-    requires { ⌜ Known (groupOf (now library) (spliced (now user) (now group) cut)) (now markers) ⌝ }
-    requires { ⌜ Shown (groupOf (now library) (spliced (now user) (now group) cut)) n (now row) ⌝ }
-    requires { ⌜ Passing nlib n (groupOf (now library) (spliced (now user) (now group) cut)) (now sets) ⌝ }
-    requires { ⌜ (256 ≤ length (now marks)) × (n - nlib ≤ flatLines (now verdicts)) ⌝ }
-    requires { ⌜ (nlib ≤ c) × (c < n) ⌝ }
-    requires { ⌜ Kept nlib n (groupOf (now library) (spliced (now user) (now group) cut)) (now kept) ⌝ }
-    requires { ⌜ Bans nlib (groupOf (now library) (spliced (now user) (now group) cut)) (now banned) ⌝ }
-    ensures verdicts { λ r. ⌜ now (verdicts .exit) ≡ putIf (eqb (getD (now (marks .entry)) c 0) 0) (2 * (c - nlib)) (verdictOf nlib (groupOf (now (library .entry)) (spliced (now (user .entry)) (now (group .entry)) cut)) c) (now (verdicts .entry)) ⌝ }
-    ensures kept { λ r. ⌜ Kept nlib n (groupOf (now (library .entry)) (spliced (now (user .entry)) (now (group .entry)) cut)) (now (kept .exit)) ⌝ }
+// Writes line i of the row.
+fn put(verdicts: &mut [u8], i: usize, verdict: Verdict)
+    requires { ⌜ i < flatLines (now verdicts) ⌝ }
+    ensures { λ r. ⌜ now (verdicts .exit) ≡ putAt i (lineOf verdict) (now (verdicts .entry)) ⌝ }
 {
-    if marks[c] != 0 {
-        return;
-    }
-    let verdict = judged(
-        library,
-        user,
-        group,
-        cut,
-        starts,
-        nlib,
-        n,
-        markers,
-        row,
-        sets,
-        banned,
-        c,
-        kept,
-    );
-    let at = 2 * (c - nlib);
+    let at = VERDICT_BYTES * i;
     verdicts[at] = verdict.rule;
     verdicts[at + 1] = verdict.record;
 }
 
-// Writes the verdict of each user class whose mark is 0; every other verdict stays.
-pub fn rewrite<'a>(
+// Writes the verdict of each user class whose mark is 0.
+fn rewrite<'a>(
     library: &'a [u8],
     user: &'a [u8],
-    group: &'a [u8],
-    cut: Cut,
     starts: &[u16],
-    nlib: usize,
-    n: usize,
-    markers: &[u8],
-    row: &[u8],
-    sets: &[u8],
-    banned: &[u8],
+    classes: Classes,
+    facts: &[u8],
+    lanes: &[u8],
     marks: &[u8],
-    kept: &mut [u8],
     verdicts: &mut [u8],
 )
-    requires { ⌜ Fits cut (now user) (now group) ⌝ }
-    requires { ⌜ Indexed (now library) (spliced (now user) (now group) cut) nlib n (now starts) ⌝ }
-    requires { ⌜ formRefusal (now library) (spliced (now user) (now group) cut) ≡ none ⌝ }
-    requires { ⌜ Known (groupOf (now library) (spliced (now user) (now group) cut)) (now markers) ⌝ }
-    requires { ⌜ Shown (groupOf (now library) (spliced (now user) (now group) cut)) n (now row) ⌝ }
-    requires { ⌜ Passing nlib n (groupOf (now library) (spliced (now user) (now group) cut)) (now sets) ⌝ }
-    requires { ⌜ (256 ≤ length (now marks)) × (n - nlib ≤ flatLines (now verdicts)) ⌝ }
-    requires { ⌜ Kept nlib n (groupOf (now library) (spliced (now user) (now group) cut)) (now kept) ⌝ }
-    requires { ⌜ Bans nlib (groupOf (now library) (spliced (now user) (now group) cut)) (now banned) ⌝ }
-    ensures verdicts { λ r. ⌜ now (verdicts .exit) ≡ flatRewritten (chosen nlib n (now (marks .entry))) (λ i. verdictOf nlib (groupOf (now (library .entry)) (spliced (now (user .entry)) (now (group .entry)) cut)) (nlib + i)) (now (verdicts .entry)) ⌝ }
-    ensures kept { λ r. ⌜ Kept nlib n (groupOf (now (library .entry)) (spliced (now (user .entry)) (now (group .entry)) cut)) (now (kept .exit)) ⌝ }
+    ghost { ℕ → Group }
+    requires { λ g. ⌜ groupOf (now library) (now user) ≡ g ⌝ }
+    requires { λ g. ⌜ Judging (now library) (now user) (now starts) classes (now facts) (now lanes) ⌝ }
+    requires { λ g. ⌜ Passing (classes .library) (classes .all) g (setsIn (now facts)) ⌝ }
+    requires { λ g. ⌜ (256 ≤ length (now marks)) × (classes .all - classes .library ≤ flatLines (now verdicts)) ⌝ }
+    ensures { λ g r. ⌜ now (verdicts .exit) ≡ flatRewritten (chosen (classes .library) (classes .all) (now (marks .entry)))
+        (λ i. verdictOf (classes .library) g (classes .library + i)) (now (verdicts .entry)) ⌝ }
 {
+    let nlib = classes.library;
+    let end = classes.all;
+    let mut kept = [0u8; 1024];
     let mut c = nlib;
-    while c < n {
-        rewrite_class(
-            library,
-            user,
-            group,
-            cut,
-            starts,
-            nlib,
-            n,
-            markers,
-            row,
-            sets,
-            banned,
-            marks,
-            c,
-            kept,
-            verdicts,
-        );
+    while c < end {
+        if marks[c] == 0 {
+            let verdict = judged(library, user, starts, classes, facts, lanes, c, &mut kept);
+            put(verdicts, c - nlib, verdict);
+        }
         c += 1;
     }
 }
@@ -198,88 +137,47 @@ pub fn rewrite<'a>(
 pub fn rejudge<'a>(
     library: &'a [u8],
     user: &'a [u8],
-    group: &'a [u8],
-    cut: Cut,
     starts: &[u16],
-    nlib: usize,
-    n: usize,
+    classes: Classes,
     memo: &mut [u16],
     marks: &[u8],
     verdicts: &mut [u8],
     scratch: &mut [u8],
 )
-    requires { ⌜ Fits cut (now user) (now group) ⌝ }
-    requires { ⌜ Indexed (now library) (spliced (now user) (now group) cut) nlib n (now starts) ⌝ }
-    requires { ⌜ formRefusal (now library) (spliced (now user) (now group) cut) ≡ none ⌝ }
-    requires { ⌜ now memo ≡ memoOf (groupOf (now library) (spliced (now user) (now group) cut)) nlib ⌝ }
-    requires { ⌜ (256 ≤ length (now marks)) × (n - nlib ≤ flatLines (now verdicts)) × (scratchLength ≤ length (now scratch)) ⌝ }
-    ensures memo { λ r. ⌜ now (memo .exit) ≡ memoOf (groupOf (now (library .entry)) (spliced (now (user .entry)) (now (group .entry)) cut)) n ⌝ }
-    ensures verdicts { λ r. ⌜ now (verdicts .exit) ≡ flatRewritten (chosen nlib n (now (marks .entry))) (λ i. verdictOf nlib (groupOf (now (library .entry)) (spliced (now (user .entry)) (now (group .entry)) cut)) (nlib + i)) (now (verdicts .entry)) ⌝ }
-    ensures scratch { λ r. ⌜ now (scratch .exit) ≡ cleared (now (scratch .entry)) ⌝ }
+    ghost { ℕ → Group }
+    requires { λ g. ⌜ groupOf (now library) (now user) ≡ g ⌝ }
+    requires { λ g. ⌜ Indexed (now library) (now user) (classes .library) (classes .all) (now starts) ⌝ }
+    requires { λ g. ⌜ formRefusal (now library) (now user) ≡ none ⌝ }
+    requires { λ g. ⌜ now memo ≡ memoOf g (classes .library) ⌝ }
+    requires { λ g. ⌜ (256 ≤ length (now marks)) × (classes .all - classes .library ≤ flatLines (now verdicts)) ⌝ }
+    requires { λ g. ⌜ scratchLength ≤ length (now scratch) ⌝ }
+    ensures memo { λ g r. ⌜ now (memo .exit) ≡ memoOf g (classes .all) ⌝ }
+    ensures verdicts { λ g r. ⌜ now (verdicts .exit) ≡ flatRewritten (chosen (classes .library) (classes .all) (now (marks .entry)))
+        (λ i. verdictOf (classes .library) g (classes .library + i)) (now (verdicts .entry)) ⌝ }
+    ensures scratch { λ g r. ⌜ now (scratch .exit) ≡ cleared (now (scratch .entry)) ⌝ }
 {
-    let mut markers = [0u8; 256];
-    overlays(
-        library,
-        user,
-        group,
-        cut,
-        starts,
-        nlib,
-        n,
-        memo,
-        &mut markers,
-    );
-    captures(
-        library,
-        user,
-        group,
-        cut,
-        starts,
-        nlib,
-        n,
-        &markers,
-        scratch,
-    );
-    let mut sets = [0u8; 256];
-    passes(
-        library,
-        user,
-        group,
-        cut,
-        starts,
-        nlib,
-        n,
-        &markers,
-        scratch,
-        &mut sets,
-    );
-    let mut banned = [0u8; 256];
-    bans(library, user, group, cut, starts, nlib, n, &mut banned);
-    let mut kept = [0u8; 1024];
+    let mut facts = [0u8; FACTS];
+    learn(library, user, starts, classes, memo, &mut facts, scratch);
     rewrite(
         library,
         user,
-        group,
-        cut,
         starts,
-        nlib,
-        n,
-        &markers,
+        classes,
+        &facts,
         scratch,
-        &sets,
-        &banned,
         marks,
-        &mut kept,
         verdicts,
     );
-    fill(scratch, 65536, 0);
+    fill(scratch, SCRATCH_BYTES, 0);
 }
+
+// ---- counting
 
 // How many of the first n verdicts the row has room for.
 fn lines_of(verdicts: &[u8], n: usize) -> usize
     ensures { λ r. ⌜ r ≡ min n (flatLines (now (verdicts .entry))) ⌝ }
 {
-    let lines = verdicts.len() / 2;
+    let lines = verdicts.len() / VERDICT_BYTES;
     if n < lines {
         return n;
     }
@@ -294,7 +192,7 @@ pub fn faulted(verdicts: &[u8], n: usize) -> usize
     let mut i = 0;
     let mut m = 0;
     while i < end {
-        if verdicts[2 * i] != 0 {
+        if verdicts[VERDICT_BYTES * i] != 0 {
             m += 1;
         }
         i += 1;
@@ -307,13 +205,13 @@ pub fn marked(marks: &[u8], n: usize) -> usize
     requires { ⌜ n ≤ length (now marks) ⌝ }
     ensures { λ r. ⌜ r ≡ markedIn (now (marks .entry)) n ⌝ }
 {
-    let mut c = 0;
+    let mut i = 0;
     let mut m = 0;
-    while c < n {
-        if marks[c] == 0 {
+    while i < n {
+        if marks[i] == 0 {
             m += 1;
         }
-        c += 1;
+        i += 1;
     }
     m
 }

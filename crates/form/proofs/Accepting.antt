@@ -10,8 +10,8 @@ use lib.Dec.{ltb}
 use lib.ListN.{length, take, replicate}
 use borrow.Author.Tests.{lt-ltb, le-ltb}
 use Rattle.spec.specs.Lists.{firstOf}
-use Rattle.spec.specs.Sheet.{Group, classCount, total, group, groupStart, locatedIn, located}
-use Rattle.spec.specs.Refusals.{Refusal, refuseIf, refuseRecord, formTests, deemedTests, recordRefusal, tornRefusal, noClassRefusal}
+use Rattle.spec.specs.Sheet.{classCount, total, group, groupStart, locatedIn, located}
+use Rattle.spec.specs.Refusals.{Refusal as Reason, refuseIf, refuseRecord, formTests, deemedTests, recordRefusal, tornRefusal, noClassRefusal}
 use Rattle.spec.specs.Refusals.{formRefusal, deemedRefusal, sheetRefusal, sizeRefusal, presentRefusal}
 use Rattle.theory.proofs.Bools.{nltb}
 use Rattle.theory.proofs.Answers.{some≢none, first-some, first-only, first-past, first-append, keep-head, none-if, Gives}
@@ -22,16 +22,19 @@ use Rattle.pass.specs.declared.Pass.{Pass}
 use Rattle.pass.specs.declared.Pass.the-variants.{Fine as Passes, Refused as Stops}
 use Rattle.pass.proofs.Places.{answer}
 use Rattle.groups.specs.Groups.{startOf, Indexed}
-use Rattle.groups.proofs.Classes.{in-library}
+use Rattle.groups.proofs.Held.{in-library}
 use Rattle.overlay.specs.Memo.{memoOf}
 use Rattle.overlay.proofs.Memos.{memo-none, memo-length}
 use Rattle.overlay.proofs.Turns.{classes-few}
 use Rattle.second.specs.Second.{formIn, firstClass}
-use Rattle.form.specs.Form.{firstDeemed, passesRefusal, laterRefusal, Starts, Ready, checkedOf}
+use Rattle.groups.specs.declared.Classes.{Classes}
+use Rattle.form.specs.Form.{firstDeemed, passesRefusal, laterRefusal, Starts, Ready, fine, refuse, refusalOf, checkedOf}
+use Rattle.form.specs.declared.Refusal.{Refusal}
 use Rattle.form.specs.declared.Checked.{Checked}
 use Rattle.form.specs.declared.Checked.the-variants.{Fine, Refused}
 use Rattle.form.proofs.Passes.{Names, along-names, passes-none, stops-some}
 use Rattle.form.proofs.DeemedRecords.{library-deemed, user-deemed}
+use Rattle.form.proofs.Alone.{alone-falls, alone-deemed, alone-memo}
 
 -- ---- answers along two sheets
 
@@ -44,8 +47,8 @@ first-split f xs ys = ap firstOf (map-append f xs ys) ∙ first-append (map f xs
 abbrev pub Fresh : List ℕ → List ℕ → Type 0
 Fresh row memo = (length row ≡ 256) × (memo ≡ replicate 256 65535)
 
-module _ {o : Option Refusal} {library user row memo : List ℕ} where
-  pub ready-fresh : {r : Refusal} → o ≡ some r → Fresh row memo → Ready o library user row memo
+module _ {o : Option Reason} {library user row memo : List ℕ} where
+  pub ready-fresh : {r : Reason} → o ≡ some r → Fresh row memo → Ready o library user row memo
   ready-fresh e f = record {
     long = f .0;
     memo-long = ap length (f .1);
@@ -60,7 +63,7 @@ module _ {o : Option Refusal} {library user row memo : List ℕ} where
     ready-memo e = r .memo-asked ∙ ap (memoOf (group library user)) (r .all-asked e)
 
     -- and another refusal after it
-    pub ready-refused : {p : Option Refusal} {s : Refusal} → p ≡ some s → Ready p library user row memo
+    pub ready-refused : {p : Option Reason} {s : Reason} → p ≡ some s → Ready p library user row memo
     ready-refused e = record {
       long = r .long;
       memo-long = r .memo-long;
@@ -139,7 +142,7 @@ module _ {library user : List ℕ} {nlib n : ℕ} {row : List ℕ} (x : Indexed 
 
   -- the second pass of the library sheet ended with p
   module _ {p : Pass} (ep : p ≡ passOf (formIn (group library user) nlib n 0 (firstClass nlib 0) library) (firstClass nlib 0 + classCount library)) where
-    pub later-first : {number byte : ℕ} {memo : List ℕ} → p ≡ Stops number byte → memo ≡ replicate 256 65535 → Later (Refused number 0 byte) memo
+    pub later-first : {number byte : ℕ} {memo : List ℕ} → p ≡ Stops number byte → memo ≡ replicate 256 65535 → Later (refuse number 0 byte) memo
     unfolding laterRefusal
     later-first f m =
         let o = first-some _ (stops-some _ _ (form-names library user nlib n 0 (firstClass nlib 0) library) (sym f ∙ ep)) in
@@ -151,7 +154,7 @@ module _ {library user : List ℕ} {nlib n : ℕ} {row : List ℕ} (x : Indexed 
       library-fits : formIn (group library user) nlib n 0 (firstClass nlib 0) library ≡ none
       library-fits = passes-none (formIn (group library user) nlib n 0 (firstClass nlib 0) library) (sym fp ∙ ep) .0
 
-      pub later-second : {number byte : ℕ} {memo : List ℕ} → q ≡ Stops number byte → memo ≡ replicate 256 65535 → Later (Refused number 1 byte) memo
+      pub later-second : {number byte : ℕ} {memo : List ℕ} → q ≡ Stops number byte → memo ≡ replicate 256 65535 → Later (refuse number 1 byte) memo
       unfolding laterRefusal
       later-second f m =
           let o = stops-some _ _ (form-names library user nlib n 1 (firstClass nlib 1) user) (sym f ∙ eq) in
@@ -163,15 +166,22 @@ module _ {library user : List ℕ} {nlib n : ℕ} {row : List ℕ} (x : Indexed 
         form-none =
             form-sheets ∙ first-past _ _ library-fits ∙ passes-none (formIn (group library user) nlib n 1 (firstClass nlib 1) user) (sym fq ∙ eq) .0
 
-        pub later-falls : Falls (group library user)
+        later-falls : Falls (group library user)
         later-falls = form-falls library user form-none
 
         then-deemed : laterRefusal library user ≡ deemedRefusal library user
         unfolding laterRefusal
         then-deemed = first-past _ _ form-none
 
-        module _ {c : ℕ} {memo : List ℕ} (h : (c ≡ firstDeemed (group library user) nlib) × (memo ≡ memoOf (group library user) (min nlib (c + 1)))) where
-          rows : {o : Option Refusal} → (o ≡ none → c < nlib → ⊥) → Ready o library user row memo
+        -- what the library's classes say beside an empty sheet they say beside the user sheet
+        pub later-alone : Falls (group library [])
+        later-alone = alone-falls x later-falls
+
+        module _ {c : ℕ} {memo : List ℕ} (d : (c ≡ firstDeemed (group library []) nlib) × (memo ≡ memoOf (group library []) (min nlib (c + 1)))) where
+          h : (c ≡ firstDeemed (group library user) nlib) × (memo ≡ memoOf (group library user) (min nlib (c + 1)))
+          h = (d .0 ∙ alone-deemed x later-falls, d .1 ∙ alone-memo x later-falls (omega arith))
+
+          rows : {o : Option Reason} → (o ≡ none → c < nlib → ⊥) → Ready o library user row memo
           rows f = record {
             long = x .long;
             memo-long = memo-length (group library user) (min nlib (c + 1)) (h .1) (omega (arith, classes-few x));
@@ -181,41 +191,39 @@ module _ {library user : List ℕ} {nlib n : ℕ} {row : List ℕ} (x : Indexed 
             indexed = λ _. rw (← x .nlib-is, ← x .n-is) x;
           }
 
-          pub later-deemed : c < nlib → {b : ℕ} → b ≡ startOf library user c → Later (Refused 11 0 b) memo
+          pub later-deemed : c < nlib → {b : ℕ} → b ≡ startOf library user c → Later (refuse 11 0 b) memo
           later-deemed l e = let o = then-deemed ∙ deemed-found (h .0) l e in (rw o, rows (λ n. absurd (some≢none _ (sym o ∙ n))))
 
-          pub later-fine : (c < nlib → ⊥) → Later (Fine nlib n) memo
+          pub later-fine : (c < nlib → ⊥) → Later (fine nlib n) memo
           later-fine l = (rw (then-deemed ∙ deemed-none (h .0) l), rows (λ _. l))
 
 -- ---- check: 2 to 11
 
-pub fine-none : (o : Option Refusal) {k m a b : ℕ} → Fine k m ≡ checkedOf o a b → (o ≡ none) × ((k ≡ a) × (m ≡ b))
-fine-none none e = (refl, (cc, cc))
+pub fine-none : (o : Option Reason) {k : Classes} {a b : ℕ} → Fine k ≡ checkedOf o a b → (o ≡ none) × ((k .library ≡ a) × (k .all ≡ b))
+fine-none none {k} {a} {b} e = let q : k ≡ record { library = a; all = b } = cc in (refl, (ap (λ (c : Classes). c .library) q, ap (λ (c : Classes). c .all) q))
 fine-none (some r) e = absurd (let z : _≡_ {A = ℕ} 0 1 = cc in omega arith)
 
-pub refused-is : (o : Option Refusal) (a b : ℕ) {number sheet byte : ℕ} → Refused number sheet byte ≡ checkedOf o a b → o ≡ some (record { number = number; sheet = sheet; byte = byte })
+pub refused-is : (o : Option Reason) (a b : ℕ) {r : Refusal} → Refused r ≡ checkedOf o a b → o ≡ some (refusalOf r)
 refused-is none a b e = absurd (let z : _≡_ {A = ℕ} 0 1 = cc in omega arith)
-refused-is (some r) a b {number} {sheet} {byte} e =
-    let n : number ≡ r .number = cc in
-    let s : sheet ≡ r .sheet = cc in
-    let t : byte ≡ r .byte = cc in
-    rw (n, s, t)
+refused-is (some s) a b {r} e =
+    let q : r ≡ record { number = s .number; sheet = s .sheet; byte = s .byte } = cc in
+    sym (ap (λ (x : Refusal). some (refusalOf x)) q)
 
 module _ {library user row : List ℕ} {p : Checked} (e : (p ≡ checkedOf (passesRefusal library user) (classCount library) (total library user)) × Starts library user row) where
-  module _ {k m : ℕ} (f : p ≡ Fine k m) where
-    all-passed : (passesRefusal library user ≡ none) × ((k ≡ classCount library) × (m ≡ total library user))
+  module _ {k : Classes} (f : p ≡ Fine k) where
+    all-passed : (passesRefusal library user ≡ none) × ((k .library ≡ classCount library) × (k .all ≡ total library user))
     all-passed = fine-none (passesRefusal library user) (sym f ∙ e .0)
 
-    pub check-indexed : Indexed library user k m row
+    pub check-indexed : Indexed library user (k .library) (k .all) row
     check-indexed = rw (all-passed .1 .0, all-passed .1 .1) (e .1 .indexed (all-passed .0))
 
-    pub check-later : {r : Checked} {memo : List ℕ} → (r ≡ checkedOf (laterRefusal library user) k m) × Ready (laterRefusal library user) library user row memo
+    pub check-later : {r : Checked} {memo : List ℕ} → (r ≡ checkedOf (laterRefusal library user) (k .library) (k .all)) × Ready (laterRefusal library user) library user row memo
         → (r ≡ checkedOf (sheetRefusal library user) (classCount library) (total library user)) × Ready (sheetRefusal library user) library user row memo
     check-later {r} h =
         let o : sheetRefusal library user ≡ laterRefusal library user = sheet-parts library user ∙ first-past _ _ (all-passed .0) in
         (rw (o, ← (all-passed .1 .0), ← (all-passed .1 .1)) (h .0), rw o (h .1))
 
-  pub check-passed : {number sheet byte : ℕ} {memo : List ℕ} → p ≡ Refused number sheet byte → memo ≡ replicate 256 65535
+  pub check-passed : {r : Refusal} {memo : List ℕ} → p ≡ Refused r → memo ≡ replicate 256 65535
       → (p ≡ checkedOf (sheetRefusal library user) (classCount library) (total library user)) × Ready (sheetRefusal library user) library user row memo
   check-passed f m =
       let q = refused-is (passesRefusal library user) (classCount library) (total library user) (sym f ∙ e .0) in
@@ -231,15 +239,15 @@ module _ (library user : List ℕ) (used : ℕ) where
       (p ≡ checkedOf (presentRefusal library user used) (classCount library) (total library (take used user)))
       × Ready (presentRefusal library user used) library (take used user) row memo
 
-  size-first : {r : Refusal} → sizeRefusal library user used ≡ some r → presentRefusal library user used ≡ some r
+  size-first : {r : Reason} → sizeRefusal library user used ≡ some r → presentRefusal library user used ≡ some r
   unfolding presentRefusal
   size-first e = first-some _ e
 
   module _ {row memo : List ℕ} (rows : Fresh row memo) where
-    refused : {r : Refusal} → sizeRefusal library user used ≡ some r → Presents (Refused (r .number) (r .sheet) (r .byte)) row memo
+    refused : {r : Reason} → sizeRefusal library user used ≡ some r → Presents (refuse (r .number) (r .sheet) (r .byte)) row memo
     refused e = let o = size-first e in (rw o, ready-fresh o rows)
 
-    pub library-long : 32768 < length library → Presents (Refused 1 0 0) row memo
+    pub library-long : 32768 < length library → Presents (refuse 1 0 0) row memo
     unfolding sizeRefusal refuseIf firstOf
     library-long h = refused (let o : sizeRefusal library user used ≡ some (record { number = 1; sheet = 0; byte = 0 }) = rw (lt-ltb 32768 (length library) h) in o)
 
@@ -248,12 +256,12 @@ module _ (library user : List ℕ) (used : ℕ) where
     unfolding sizeRefusal
     user-size b e = first-past _ _ (none-if (ltb 32768 (length library)) 1 0 0 (nltb 32768 (length library) (omega arith))) ∙ rw e
 
-    pub used-long : {row memo : List ℕ} → Fresh row memo → 32768 < used → Presents (Refused 1 1 0) row memo
+    pub used-long : {row memo : List ℕ} → Fresh row memo → 32768 < used → Presents (refuse 1 1 0) row memo
     unfolding refuseIf
     used-long rows h = refused rows (user-size true (rw (lt-ltb 32768 used h)))
 
     module _ (u : 32768 < used → ⊥) where
-      pub used-past : {row memo : List ℕ} → Fresh row memo → length user < used → Presents (Refused 1 1 0) row memo
+      pub used-past : {row memo : List ℕ} → Fresh row memo → length user < used → Presents (refuse 1 1 0) row memo
       unfolding refuseIf
       used-past rows h = refused rows (user-size true (rw (le-ltb 32768 used (omega arith), lt-ltb (length user) used h)))
 

@@ -24,6 +24,9 @@ use Rattle.form.specs.Form.{deemedBreaks, deemedFrom, firstDeemed}
 use Rattle.form.proofs.Deeming.{from-stop, from-on}
 
 module _ (g : ℕ → Group) (nlib : ℕ) where
+  abbrev answers : List Located → List (Option Refusal)
+  answers ls = map (answer (deemedTests g nlib)) ls
+
   -- ---- one record
 
   at-class : (l : Located) → isClass (l .bytes) ≡ true → l .class < nlib → answer (deemedTests g nlib) l ≡ refuseIf (deemedBreaks (l .class) (overlay g (l .class))) 11 (l .sheet) (l .byte)
@@ -81,58 +84,58 @@ module _ (g : ℕ → Group) (nlib : ℕ) where
   -- ---- along the records
 
   abbrev Along : ℕ → ℕ → ℕ → ℕ → List (List ℕ) → Type 0
-  Along at n k b rs = n + length (splitGroups rs .groups) ≤ nlib → firstOf (map (answer (deemedTests g nlib)) (locate 0 at n k b rs)) ≡ found at n (splitGroups rs)
+  Along at n k b rs = n + length (splitGroups rs .groups) ≤ nlib → firstOf (answers (locate 0 at n k b rs)) ≡ found at n (splitGroups rs)
 
   along-class : (at n k b : ℕ) (r : List ℕ) (rs : List (List ℕ)) → isClass r ≡ true → Along (at + length r) (suc n) 1 (kind r) rs → Along at n k b (r ∷ rs)
   unfolding refuseIf firstOf
   along-class at n k b r rs e f h =
       let q = ap (λ (t : Split). length (t .groups)) (split-class r rs e) in
-      let w : firstOf (map (answer (deemedTests g nlib)) (locate 0 at n k b (r ∷ rs))) ≡ firstOf (refuseIf (deemedBreaks n (overlay g n)) 11 0 at ∷ map (answer (deemedTests g nlib)) (locate 0 (at + length r) (suc n) 1 (kind r) rs)) =
-      rw (locate-class 0 at n k b r rs e) (ap (λ (o : Option Refusal). firstOf (o ∷ map (answer (deemedTests g nlib)) (locate 0 (at + length r) (suc n) 1 (kind r) rs))) (at-class _ e (omega arith))) in
+      let w : firstOf (answers (locate 0 at n k b (r ∷ rs))) ≡ firstOf (refuseIf (deemedBreaks n (overlay g n)) 11 0 at ∷ answers (locate 0 (at + length r) (suc n) 1 (kind r) rs)) =
+      rw (locate-class 0 at n k b r rs e) (ap (λ (o : Option Refusal). firstOf (o ∷ answers (locate 0 (at + length r) (suc n) 1 (kind r) rs))) (at-class _ e (omega arith))) in
       w ∙ go (deemedBreaks n (overlay g n)) refl (f (omega arith)) ∙ sym (ap (found at n) (split-class r rs e))
     where
-      go : (x : Bool) → deemedBreaks n (overlay g n) ≡ x → firstOf (map (answer (deemedTests g nlib)) (locate 0 (at + length r) (suc n) 1 (kind r) rs)) ≡ found (at + length r) (suc n) (splitGroups rs)
-          → firstOf (refuseIf x 11 0 at ∷ map (answer (deemedTests g nlib)) (locate 0 (at + length r) (suc n) 1 (kind r) rs)) ≡ found at n (ontoClass r (splitGroups rs))
+      go : (x : Bool) → deemedBreaks n (overlay g n) ≡ x → firstOf (answers (locate 0 (at + length r) (suc n) 1 (kind r) rs)) ≡ found (at + length r) (suc n) (splitGroups rs)
+          → firstOf (refuseIf x 11 0 at ∷ answers (locate 0 (at + length r) (suc n) 1 (kind r) rs)) ≡ found at n (ontoClass r (splitGroups rs))
       go true d ih = sym (found-stop at n r (splitGroups rs) d)
       go false d ih = ih ∙ sym (found-on at n r (splitGroups rs) d)
 
   along-other : (at n k b : ℕ) (r : List ℕ) (rs : List (List ℕ)) → isClass r ≡ false → Along (at + length r) n (suc k) (kind r) rs → Along at n k b (r ∷ rs)
   along-other at n k b r rs e f h =
       let q = ap (λ (t : Split). length (t .groups)) (split-other r rs e) in
-      let w : firstOf (map (answer (deemedTests g nlib)) (locate 0 at n k b (r ∷ rs))) ≡ firstOf (map (answer (deemedTests g nlib)) (locate 0 (at + length r) n (suc k) (kind r) rs)) =
+      let w : firstOf (answers (locate 0 at n k b (r ∷ rs))) ≡ firstOf (answers (locate 0 (at + length r) n (suc k) (kind r) rs)) =
       rw (locate-other 0 at n k b r rs e) (skip-none _ _ (at-other _ e)) in
       w ∙ f (omega arith) ∙ sym (found-loose at n r (splitGroups rs)) ∙ sym (ap (found at n) (split-other r rs e))
 
   along : (at n k b : ℕ) (rs : List (List ℕ)) → Along at n k b rs
   along at n k b [] h =
-      let z : firstOf (map (answer (deemedTests g nlib)) (locate 0 at n k b [])) ≡ none = (unfold locate firstOf in refl) in z ∙ sym (found-nil at n)
+      let z : firstOf (answers (locate 0 at n k b [])) ≡ none = (unfold locate firstOf in refl) in z ∙ sym (found-nil at n)
   along at n k b (r ∷ rs) h = go (isClass r) refl (along (at + length r) (suc n) 1 (kind r) rs) (along (at + length r) n (suc k) (kind r) rs)
     where
       go : (x : Bool) → isClass r ≡ x → Along (at + length r) (suc n) 1 (kind r) rs → Along (at + length r) n (suc k) (kind r) rs
-          → firstOf (map (answer (deemedTests g nlib)) (locate 0 at n k b (r ∷ rs))) ≡ found at n (splitGroups (r ∷ rs))
+          → firstOf (answers (locate 0 at n k b (r ∷ rs))) ≡ found at n (splitGroups (r ∷ rs))
       go true e f f′ = along-class at n k b r rs e f h
       go false e f f′ = along-other at n k b r rs e f′ h
 
   -- user classes are not asked
-  along-user : (s at n k b : ℕ) (rs : List (List ℕ)) → nlib ≤ n → firstOf (map (answer (deemedTests g nlib)) (locate s at n k b rs)) ≡ none
+  along-user : (s at n k b : ℕ) (rs : List (List ℕ)) → nlib ≤ n → firstOf (answers (locate s at n k b rs)) ≡ none
   along-user s at n k b [] h = unfold locate firstOf in refl
   along-user s at n k b (r ∷ rs) h = go (isClass r) refl (along-user s (at + length r) (suc n) 1 (kind r) rs (omega arith)) (along-user s (at + length r) n (suc k) (kind r) rs h)
     where
-      go : (x : Bool) → isClass r ≡ x → firstOf (map (answer (deemedTests g nlib)) (locate s (at + length r) (suc n) 1 (kind r) rs)) ≡ none
-          → firstOf (map (answer (deemedTests g nlib)) (locate s (at + length r) n (suc k) (kind r) rs)) ≡ none → firstOf (map (answer (deemedTests g nlib)) (locate s at n k b (r ∷ rs))) ≡ none
+      go : (x : Bool) → isClass r ≡ x → firstOf (answers (locate s (at + length r) (suc n) 1 (kind r) rs)) ≡ none
+          → firstOf (answers (locate s (at + length r) n (suc k) (kind r) rs)) ≡ none → firstOf (answers (locate s at n k b (r ∷ rs))) ≡ none
       go true e f f′ = rw (locate-class s at n k b r rs e) (skip-none _ _ (at-user _ e h) ∙ f)
       go false e f f′ = rw (locate-other s at n k b r rs e) (skip-none _ _ (at-other _ e) ∙ f′)
 
   -- ---- the two sheets
 
   pub library-deemed : (s : List ℕ) → splitGroups (recordsOf s) .loose ≡ [] → classCount s ≡ nlib
-      → firstOf (map (answer (deemedTests g nlib)) (locatedIn 0 0 s)) ≡ refuseIf (ltb (firstDeemed g nlib) nlib) 11 0 (groupStart s (firstDeemed g nlib))
+      → firstOf (answers (locatedIn 0 0 s)) ≡ refuseIf (ltb (firstDeemed g nlib) nlib) 11 0 (groupStart s (firstDeemed g nlib))
   unfolding locatedIn classCount groupsOf firstDeemed found
   library-deemed s l e =
       let d : ℕ = deemedFrom g 0 nlib in
       let z : d - 0 ≡ d = omega arith in
       along 0 0 0 0 (recordsOf s) (omega arith) ∙ rw (e, zero-add nlib, z, sheet-start s l d)
 
-  pub user-deemed : (s : List ℕ) → firstOf (map (answer (deemedTests g nlib)) (locatedIn 1 nlib s)) ≡ none
+  pub user-deemed : (s : List ℕ) → firstOf (answers (locatedIn 1 nlib s)) ≡ none
   unfolding locatedIn
   user-deemed s = along-user 1 0 nlib 0 0 (recordsOf s) (le-refl nlib)

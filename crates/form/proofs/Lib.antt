@@ -2,4 +2,5 @@ pub mod Deeming
 pub mod Passes
 pub mod Parts
 pub mod DeemedRecords
+pub mod Alone
 pub mod Accepting

@@ -24,8 +24,7 @@ use Rattle.pass.specs.declared.Pass.{Pass}
 use Rattle.pass.specs.declared.Pass.the-variants.{Fine as Passes, Refused as Stops}
 use Rattle.pass.proofs.Starts.{filled-below, filled-start}
 use Rattle.groups.specs.Groups.{startOf}
-use Rattle.form.specs.Form.{passesRefusal, Starts, checkedOf}
-use Rattle.form.specs.declared.Checked.the-variants.{Fine, Refused}
+use Rattle.form.specs.Form.{passesRefusal, Starts, fine, refuse, checkedOf}
 
 -- ---- answers
 
@@ -85,7 +84,7 @@ module _ {library row₀ row : List ℕ} {p : Pass} (w : Went 0 0 library row₀
   first-long = w .rows .long ∙ l
 
   module _ (user : List ℕ) (a b : ℕ) where
-    pub first-refused : {number byte : ℕ} → p ≡ Stops number byte → (Refused number 0 byte ≡ checkedOf (passesRefusal library user) a b) × Starts library user row
+    pub first-refused : {number byte : ℕ} → p ≡ Stops number byte → (refuse number 0 byte ≡ checkedOf (passesRefusal library user) a b) × Starts library user row
     first-refused e =
         let q = stops-some _ _ (pass-names 0 0 library) (sym e ∙ w .answer) in
         let o = passes-parts library user ∙ first-some _ q in
@@ -104,7 +103,7 @@ module _ {library row₀ row : List ℕ} {p : Pass} (w : Went 0 0 library row₀
     pub first-room : 256 ≤ length row
     first-room = omega (arith, first-long)
 
-    pub first-empty : (user : List ℕ) (a b : ℕ) → k ≡ 0 → (Refused 7 0 (length library) ≡ checkedOf (passesRefusal library user) a b) × Starts library user row
+    pub first-empty : (user : List ℕ) (a b : ℕ) → k ≡ 0 → (refuse 7 0 (length library) ≡ checkedOf (passesRefusal library user) a b) × Starts library user row
     unfolding noClassRefusal refuseIf
     first-empty user a b z =
         let c : noClassRefusal library ≡ some (record { number = 7; sheet = 0; byte = length library }) = rw (eq-eqb (classCount library) 0 (sym first-count ∙ z)) in
@@ -126,7 +125,7 @@ module _ {library row₀ row : List ℕ} {p : Pass} (w : Went 0 0 library row₀
           passes-parts library user ∙ skip-none _ _ first-none-found ∙ skip-none _ _ (some-class z)
           ∙ ap (λ (m : ℕ). firstOf (passRefusal 1 m user ∷ [])) (sym first-count)
 
-      pub second-refused : (a b : ℕ) {number byte : ℕ} → q ≡ Stops number byte → (Refused number 1 byte ≡ checkedOf (passesRefusal library user) a b) × Starts library user row₂
+      pub second-refused : (a b : ℕ) {number byte : ℕ} → q ≡ Stops number byte → (refuse number 1 byte ≡ checkedOf (passesRefusal library user) a b) × Starts library user row₂
       second-refused a b e₂ =
           let o = then-second ∙ first-some _ (stops-some (passRefusal 1 k user) (k + classCount user) (pass-names 1 k user) (sym e₂ ∙ w₂ .answer)) in
           (rw o, refused-starts last-long o)
@@ -174,7 +173,7 @@ module _ {library row₀ row : List ℕ} {p : Pass} (w : Went 0 0 library row₀
                 rw (le-ltb c (classCount library) g, startOf) (user-start c (omega (arith, first-count)) h ∙ ap (λ (m : ℕ). groupStart user (c - m)) first-count)
 
         pub second-fine : length library ≤ 32768 → length user ≤ 32768
-            → (Fine k n ≡ checkedOf (passesRefusal library user) (classCount library) (total library user)) × Starts library user row₂
+            → (fine k n ≡ checkedOf (passesRefusal library user) (classCount library) (total library user)) × Starts library user row₂
         unfolding total
         second-fine hl hu =
             let o = then-second ∙ none-first _ (second-none-found, tt) in

@@ -11,9 +11,10 @@ use Rattle.spec.specs.Lists.{firstOf}
 use Rattle.spec.specs.Sheet.{Group, classCount, total, group}
 use Rattle.spec.specs.Markers.{clash}
 use Rattle.spec.specs.Classes.{overlay}
-use Rattle.spec.specs.Refusals.{Refusal, recordRefusal, tornRefusal, noClassRefusal, formRefusal, deemedRefusal}
+use Rattle.spec.specs.Refusals.{Refusal as Reason, recordRefusal, tornRefusal, noClassRefusal, formRefusal, deemedRefusal}
 use Rattle.groups.specs.Groups.{Indexed}
 use Rattle.overlay.specs.Memo.{memoOf}
+use Rattle.form.specs.declared.Refusal.{Refusal}
 use Rattle.form.specs.declared.Checked.{Checked}
 use Rattle.form.specs.declared.Checked.the-variants.{Fine, Refused}
 
@@ -32,7 +33,7 @@ firstDeemed g nlib = deemedFrom g 0 nlib
 -- ---- the whole
 
 -- 2 to 7 of two sheets, and 8 to 11
-unfoldable pub passesRefusal : List ℕ → List ℕ → Option Refusal
+unfoldable pub passesRefusal : List ℕ → List ℕ → Option Reason
 passesRefusal library user =
     firstOf
     (recordRefusal 0 0 library
@@ -42,7 +43,7 @@ passesRefusal library user =
     ∷ tornRefusal 1 user
     ∷ [])
 
-unfoldable pub laterRefusal : List ℕ → List ℕ → Option Refusal
+unfoldable pub laterRefusal : List ℕ → List ℕ → Option Reason
 laterRefusal library user = firstOf (formRefusal library user ∷ deemedRefusal library user ∷ [])
 
 -- where nothing is refused by 2 to 7, the row is right
@@ -52,7 +53,7 @@ pub record Starts (library user row : List ℕ) : Type 0 where
 
 -- the rows after a check that ends with o: the memo knows the classes below `asked` and no other; where nothing is refused those are the library's, and the
 -- starts are right
-pub record Ready (o : Option Refusal) (library user row memo : List ℕ) : Type 0 where
+pub record Ready (o : Option Reason) (library user row memo : List ℕ) : Type 0 where
   pub long : length row ≡ 256
   pub memo-long : length memo ≡ 256
   pub asked : ℕ
@@ -60,6 +61,17 @@ pub record Ready (o : Option Refusal) (library user row memo : List ℕ) : Type 
   pub all-asked : o ≡ none → asked ≡ classCount library
   pub indexed : o ≡ none → Indexed library user (classCount library) (total library user) row
 
-abbrev pub checkedOf : Option Refusal → ℕ → ℕ → Checked
-checkedOf none nlib n = Fine nlib n
-checkedOf (some r) nlib n = Refused (r .number) (r .sheet) (r .byte)
+-- ---- what a check answers
+
+abbrev pub fine : ℕ → ℕ → Checked
+fine nlib n = Fine (record { library = nlib; all = n })
+
+abbrev pub refuse : ℕ → ℕ → ℕ → Checked
+refuse number sheet byte = Refused (record { number = number; sheet = sheet; byte = byte })
+
+abbrev pub refusalOf : Refusal → Reason
+refusalOf r = record { number = r .number; sheet = r .sheet; byte = r .byte }
+
+abbrev pub checkedOf : Option Reason → ℕ → ℕ → Checked
+checkedOf none nlib n = fine nlib n
+checkedOf (some r) nlib n = refuse (r .number) (r .sheet) (r .byte)

@@ -1,30 +1,39 @@
 // Acceptance: the deemed markers (11), and all of 1 to 11 of a library sheet and a view.
-use groups::group_start;
+use groups::Classes;
 use markers::clash;
 use names::prints;
 use overlay::overlay;
 use pass::Pass;
 use pass::first_pass;
-use second::counts;
+use records::wide;
+use second::heads;
 use second::second_pass;
 use view::Cut;
+use view::View;
 ghost use mathlib.Core.Path.{_≡_};
-ghost use mathlib.Core.List.{List};
+ghost use mathlib.Core.List.{List, []};
 ghost use Prim.Native.Nat.{ℕ, _+_, _≤_, min};
 ghost use lib.ListN.{length, take, replicate};
 ghost use Rattle.spec.specs.Sheet.{Group, group as groupOf, classCount, total};
 ghost use Rattle.spec.specs.Refusals.{sheetRefusal, presentRefusal};
 ghost use Rattle.theory.proofs.Falls.{Falls};
-ghost use Rattle.view.specs.View.{Fits, spliced};
+ghost use Rattle.view.specs.View.{Fits, spliced, Views};
 ghost use Rattle.pass.specs.Pass.{passRefusal, passOf, Filled};
 ghost use Rattle.groups.specs.Groups.{Indexed};
 ghost use Rattle.overlay.specs.Memo.{memoOf};
 ghost use Rattle.form.specs.Form.{deemedBreaks, firstDeemed, passesRefusal, laterRefusal, Starts, Ready, checkedOf};
 
-// The numbers of library classes and of all classes, or the refusal: number, sheet, byte.
+// Why sheets are turned away: the number, the sheet (0 library, 1 user) and the byte in it.
+pub struct Refusal {
+    pub number: u8,
+    pub sheet: u8,
+    pub byte: usize,
+}
+
+// The classes, or the refusal.
 pub enum Checked {
-    Fine(usize, usize),
-    Refused(u8, u8, usize),
+    Fine(Classes),
+    Refused(Refusal),
 }
 
 // Whether the deemed markers of class c are refused: they clash, or class 0 has any.
@@ -40,21 +49,12 @@ fn deemed_breaks(c: usize, m: u8) -> bool
     false
 }
 
-// The first library class whose deemed markers are refused, or the number of library classes.
-fn deemed<'a>(
-    library: &'a [u8],
-    user: &'a [u8],
-    group: &'a [u8],
-    cut: Cut,
-    starts: &[u16],
-    nlib: usize,
-    n: usize,
-    memo: &mut [u16],
-) -> usize
+// The first library class whose deemed markers are refused, or the number of library classes. A library class has no supertype in the user sheet, so
+// the library is asked beside an empty one.
+fn deemed(library: &[u8], starts: &[u16], nlib: usize, memo: &mut [u16]) -> usize
     ghost { ℕ → Group }
-    requires { λ g. ⌜ groupOf (now library) (spliced (now user) (now group) cut) ≡ g ⌝ }
-    requires { λ g. ⌜ Fits cut (now user) (now group) ⌝ }
-    requires { λ g. ⌜ Indexed (now library) (spliced (now user) (now group) cut) nlib n (now starts) ⌝ }
+    requires { λ g. ⌜ groupOf (now library) [] ≡ g ⌝ }
+    requires { λ g. ⌜ Indexed (now library) [] nlib nlib (now starts) ⌝ }
     requires { λ g. ⌜ Falls g ⌝ }
     requires { λ g. ⌜ now memo ≡ replicate 256 65535 ⌝ }
     ensures class { λ g r. ⌜ r ≡ firstDeemed g nlib ⌝ }
@@ -62,7 +62,11 @@ fn deemed<'a>(
 {
     let mut c = 0;
     while c < nlib {
-        let m = overlay(library, user, group, cut, starts, nlib, n, c, memo);
+        let classes = Classes {
+            library: nlib,
+            all: nlib,
+        };
+        let m = overlay(library, &library[0..0], starts, classes, c, memo);
         if deemed_breaks(c, m) {
             return c;
         }
@@ -74,12 +78,13 @@ fn deemed<'a>(
 // The first pass of a view, where `base` classes stand before it: of the bytes before the cut, of the group, then of the bytes after the cut. Each is a
 // plain slice.
 fn view_pass<'a>(user: &'a [u8], group: &'a [u8], cut: Cut, base: usize, starts: &mut [u16]) -> Pass
-    requires { ⌜ Fits cut (now user) (now group) ⌝ }
-    requires { ⌜ length (spliced (now user) (now group) cut) ≤ 32768 ⌝ }
-    requires { ⌜ (base ≤ 256) × (256 ≤ length (now starts)) ⌝ }
-    ensures answer { λ r. ⌜ r ≡ passOf (passRefusal 1 base (spliced (now (user .entry)) (now (group .entry)) cut)) (base + classCount (spliced (now (user .entry)) (now (group .entry)) cut)) ⌝ }
-    ensures starts { λ r. ⌜ Filled (passRefusal 1 base (spliced (now (user .entry)) (now (group .entry)) cut)) base 0
-        (spliced (now (user .entry)) (now (group .entry)) cut) (now (starts .entry)) (now (starts .exit)) ⌝ }
+    ghost { List ℕ }
+    requires { λ view. ⌜ spliced (now user) (now group) cut ≡ view ⌝ }
+    requires { λ view. ⌜ Fits cut (now user) (now group) ⌝ }
+    requires { λ view. ⌜ length view ≤ 32768 ⌝ }
+    requires { λ view. ⌜ (base ≤ 256) × (256 ≤ length (now starts)) ⌝ }
+    ensures answer { λ view r. ⌜ r ≡ passOf (passRefusal 1 base view) (base + classCount view) ⌝ }
+    ensures starts { λ view r. ⌜ Filled (passRefusal 1 base view) base 0 view (now (starts .entry)) (now (starts .exit)) ⌝ }
 {
     let from = cut.from;
     let to = cut.to;
@@ -103,27 +108,44 @@ fn both_passes<'a>(
     cut: Cut,
     starts: &mut [u16],
 ) -> Checked
-    requires { ⌜ Fits cut (now user) (now group) ⌝ }
-    requires { ⌜ (length (now library) ≤ 32768) × (length (spliced (now user) (now group) cut) ≤ 32768) ⌝ }
-    requires { ⌜ length (now starts) ≡ 256 ⌝ }
-    ensures answer { λ r. ⌜ r ≡ checkedOf (passesRefusal (now (library .entry)) (spliced (now (user .entry)) (now (group .entry)) cut))
-        (classCount (now (library .entry))) (total (now (library .entry)) (spliced (now (user .entry)) (now (group .entry)) cut)) ⌝ }
-    ensures starts { λ r. ⌜ Starts (now (library .entry)) (spliced (now (user .entry)) (now (group .entry)) cut) (now (starts .exit)) ⌝ }
+    ghost { List ℕ }
+    requires { λ view. ⌜ spliced (now user) (now group) cut ≡ view ⌝ }
+    requires { λ view. ⌜ Fits cut (now user) (now group) ⌝ }
+    requires { λ view. ⌜ (length (now library) ≤ 32768) × (length view ≤ 32768) ⌝ }
+    requires { λ view. ⌜ length (now starts) ≡ 256 ⌝ }
+    ensures answer { λ view r. ⌜ r ≡ checkedOf (passesRefusal (now (library .entry)) view)
+        (classCount (now (library .entry))) (total (now (library .entry)) view) ⌝ }
+    ensures starts { λ view r. ⌜ Starts (now (library .entry)) view (now (starts .exit)) ⌝ }
 {
     let first = first_pass(library, 0, 0, 0, starts);
     let nlib = match first {
         Pass::Fine(k) => k,
         Pass::Refused(number, byte) => {
-            return Checked::Refused(number, 0, byte);
+            return Checked::Refused(Refusal {
+                number: number,
+                sheet: 0,
+                byte: byte,
+            });
         }
     };
     if nlib == 0 {
-        return Checked::Refused(7, 0, library.len());
+        return Checked::Refused(Refusal {
+            number: 7,
+            sheet: 0,
+            byte: library.len(),
+        });
     }
     let second = view_pass(user, group, cut, nlib, starts);
     match second {
-        Pass::Fine(n) => Checked::Fine(nlib, n),
-        Pass::Refused(number, byte) => Checked::Refused(number, 1, byte),
+        Pass::Fine(n) => Checked::Fine(Classes {
+            library: nlib,
+            all: n,
+        }),
+        Pass::Refused(number, byte) => Checked::Refused(Refusal {
+            number: number,
+            sheet: 1,
+            byte: byte,
+        }),
     }
 }
 
@@ -132,41 +154,49 @@ fn later<'a>(
     library: &'a [u8],
     user: &'a [u8],
     group: &'a [u8],
-    cut: Cut,
     starts: &[u16],
-    nlib: usize,
-    n: usize,
+    view: View,
     memo: &mut [u16],
 ) -> Checked
     ghost { List ℕ }
-    requires { λ view. ⌜ spliced (now user) (now group) cut ≡ view ⌝ }
-    requires { λ view. ⌜ Fits cut (now user) (now group) ⌝ }
-    requires { λ view. ⌜ Indexed (now library) view nlib n (now starts) ⌝ }
-    requires { λ view. ⌜ now memo ≡ replicate 256 65535 ⌝ }
-    ensures answer { λ view r. ⌜ r ≡ checkedOf (laterRefusal (now (library .entry)) view) nlib n ⌝ }
-    ensures rows { λ view r. ⌜ Ready (laterRefusal (now (library .entry)) view) (now (library .entry)) view (now (starts .entry)) (now (memo .exit)) ⌝ }
+    requires { λ sheet. ⌜ spliced (now user) (now group) (view .cut) ≡ sheet ⌝ }
+    requires { λ sheet. ⌜ Views view (now library) (now user) (now group) (now starts) ⌝ }
+    requires { λ sheet. ⌜ now memo ≡ replicate 256 65535 ⌝ }
+    ensures answer { λ sheet r. ⌜ r ≡ checkedOf (laterRefusal (now (library .entry)) sheet) (view .classes .library) (view .classes .all) ⌝ }
+    ensures rows { λ sheet r. ⌜ Ready (laterRefusal (now (library .entry)) sheet)
+        (now (library .entry)) sheet (now (starts .entry)) (now (memo .exit)) ⌝ }
 {
+    let classes = view.classes;
+    let nlib = classes.library;
     let mut row = [0u16; 256];
-    prints(library, user, group, cut, starts, nlib, n, &mut row);
-    let mut tally = [0u8; 256];
-    counts(library, user, group, cut, starts, nlib, n, &mut tally);
-    let first = second_pass(library, user, group, cut, starts, nlib, n, &row, &tally, 0);
+    prints(library, user, group, starts, view, &mut row);
+    let mut asked = [0u16; 256];
+    heads(library, user, group, starts, view, &mut asked);
+    let first = second_pass(library, user, group, starts, view, &row, &asked, 0);
     if let Pass::Refused(number, byte) = first {
-        return Checked::Refused(number, 0, byte);
+        return Checked::Refused(Refusal {
+            number: number,
+            sheet: 0,
+            byte: byte,
+        });
     }
-    let second = second_pass(library, user, group, cut, starts, nlib, n, &row, &tally, 1);
+    let second = second_pass(library, user, group, starts, view, &row, &asked, 1);
     if let Pass::Refused(number, byte) = second {
-        return Checked::Refused(number, 1, byte);
+        return Checked::Refused(Refusal {
+            number: number,
+            sheet: 1,
+            byte: byte,
+        });
     }
-    let c = deemed(library, user, group, cut, starts, nlib, n, memo);
+    let c = deemed(library, starts, nlib, memo);
     if c < nlib {
-        return Checked::Refused(
-            11,
-            0,
-            group_start(library, user, group, cut, starts, nlib, n, c),
-        );
+        return Checked::Refused(Refusal {
+            number: 11,
+            sheet: 0,
+            byte: wide(starts[c]),
+        });
     }
-    Checked::Fine(nlib, n)
+    Checked::Fine(classes)
 }
 
 // All of 2 to 11 of a library sheet and a view. Where nothing is refused, the row of starts is right and the memo knows the library's classes.
@@ -183,12 +213,18 @@ pub fn check<'a>(
     requires { λ view. ⌜ Fits cut (now user) (now group) ⌝ }
     requires { λ view. ⌜ (length (now library) ≤ 32768) × (length view ≤ 32768) ⌝ }
     requires { λ view. ⌜ (length (now starts) ≡ 256) × (now memo ≡ replicate 256 65535) ⌝ }
-    ensures answer { λ view r. ⌜ r ≡ checkedOf (sheetRefusal (now (library .entry)) view) (classCount (now (library .entry))) (total (now (library .entry)) view) ⌝ }
-    ensures rows { λ view r. ⌜ Ready (sheetRefusal (now (library .entry)) view) (now (library .entry)) view (now (starts .exit)) (now (memo .exit)) ⌝ }
+    ensures answer { λ view r. ⌜ r ≡ checkedOf (sheetRefusal (now (library .entry)) view)
+        (classCount (now (library .entry))) (total (now (library .entry)) view) ⌝ }
+    ensures rows { λ view r. ⌜ Ready (sheetRefusal (now (library .entry)) view)
+        (now (library .entry)) view (now (starts .exit)) (now (memo .exit)) ⌝ }
 {
     let passed = both_passes(library, user, group, cut, starts);
-    if let Checked::Fine(nlib, n) = passed {
-        return later(library, user, group, cut, starts, nlib, n, memo);
+    if let Checked::Fine(classes) = passed {
+        let view = View {
+            cut: cut,
+            classes: classes,
+        };
+        return later(library, user, group, starts, view, memo);
     }
     passed
 }
@@ -208,13 +244,25 @@ pub fn present<'a>(
         (now (library .entry)) (take used (now (user .entry))) (now (starts .exit)) (now (memo .exit)) ⌝ }
 {
     if 32768 < library.len() {
-        return Checked::Refused(1, 0, 0);
+        return Checked::Refused(Refusal {
+            number: 1,
+            sheet: 0,
+            byte: 0,
+        });
     }
     if 32768 < used {
-        return Checked::Refused(1, 1, 0);
+        return Checked::Refused(Refusal {
+            number: 1,
+            sheet: 1,
+            byte: 0,
+        });
     }
     if user.len() < used {
-        return Checked::Refused(1, 1, 0);
+        return Checked::Refused(Refusal {
+            number: 1,
+            sheet: 1,
+            byte: 0,
+        });
     }
     let cut = Cut {
         from: used,

@@ -1,6 +1,4 @@
-pub mod Between
-pub mod Classes
-pub mod Walks
-pub mod Nth
+pub mod Held
 pub mod Bytes
 pub mod Few
+pub mod Fitting

@@ -1,19 +1,18 @@
-// A class's group, found by the row of starts in whichever sheet holds it, and read a record at a time.
-use view::Cut;
-use view::view_len;
-use view::word_in;
+// Two sheets side by side: a class's group, found by the row of starts in the sheet that holds it.
+use records::wide;
+use records::word_in;
 ghost use mathlib.Core.Path.{_≡_};
-ghost use Prim.Native.Nat.{_+_, _<_};
+ghost use Prim.Native.Nat.{ℕ, _≤_, _<_};
 ghost use lib.ListN.{length};
 ghost use Rattle.spec.specs.Record.{u16};
-ghost use Rattle.spec.specs.Sheet.{group as groupOf, ofKind, classRecord};
-ghost use Rattle.view.specs.View.{Fits, spliced};
-ghost use Rattle.groups.specs.Groups.{sheetNumber, startOf, endOf, between, AtRecord, Carries, nthByte, Indexed};
+ghost use Rattle.spec.specs.Sheet.{Group, group as groupOf, classRecord};
+ghost use Rattle.records.specs.Records.{Carries};
+ghost use Rattle.groups.specs.Groups.{sheetNumber, Indexed, EndOf};
 
-fn wide(x: u16) -> usize
-    ensures { λ r. ⌜ (r ≡ x) × (r < 65536) ⌝ }
-{
-    x as usize
+// How many classes the library has, and both sheets together.
+pub struct Classes {
+    pub library: usize,
+    pub all: usize,
 }
 
 // The sheet that holds class c.
@@ -23,138 +22,57 @@ pub fn sheet_of(nlib: usize, c: usize) -> u8
     if c < nlib { 0 } else { 1 }
 }
 
-// The byte where the group of class c begins in its sheet.
-pub fn group_start<'a>(
-    library: &'a [u8],
-    user: &'a [u8],
-    group: &'a [u8],
-    cut: Cut,
-    starts: &[u16],
-    nlib: usize,
-    n: usize,
-    c: usize,
-) -> usize
-    requires { ⌜ Fits cut (now user) (now group) ⌝ }
-    requires { ⌜ Indexed (now library) (spliced (now user) (now group) cut) nlib n (now starts) ⌝ }
-    requires { ⌜ c < n ⌝ }
-    ensures { λ r. ⌜ r ≡ startOf (now (library .entry)) (spliced (now (user .entry)) (now (group .entry)) cut) c ⌝ }
-{
-    wide(starts[c])
-}
-
-// The byte after it.
-pub fn group_end<'a>(
-    library: &'a [u8],
-    user: &'a [u8],
-    group: &'a [u8],
-    cut: Cut,
-    starts: &[u16],
-    nlib: usize,
-    n: usize,
-    c: usize,
-) -> usize
-    requires { ⌜ Fits cut (now user) (now group) ⌝ }
-    requires { ⌜ Indexed (now library) (spliced (now user) (now group) cut) nlib n (now starts) ⌝ }
-    requires { ⌜ c < n ⌝ }
-    ensures { λ r. ⌜ r ≡ endOf (now (library .entry)) (spliced (now (user .entry)) (now (group .entry)) cut) c ⌝ }
+// The byte after the group of class c, in its sheet: where the next group begins, or the sheet's end.
+pub fn group_end(starts: &[u16], classes: Classes, library: usize, user: usize, c: usize) -> usize
+    requires { ⌜ (c < classes .all) × (classes .all ≤ length (now starts)) ⌝ }
+    ensures { λ r. ⌜ EndOf (now (starts .entry)) classes library user c r ⌝ }
 {
     let next = c + 1;
-    if next == nlib {
-        return library.len();
+    if next == classes.library {
+        return library;
     }
-    if next == n {
-        return view_len(user, group, cut);
+    if next == classes.all {
+        return user;
     }
     wide(starts[next])
 }
 
-// The bytes of class c. They lie in one slice: no group stands across a cut.
+// The bytes of class c.
 pub fn class_bytes<'a>(
     library: &'a [u8],
     user: &'a [u8],
-    group: &'a [u8],
-    cut: Cut,
     starts: &[u16],
-    nlib: usize,
-    n: usize,
+    classes: Classes,
     c: usize,
 ) -> &'a [u8]
-    requires { ⌜ Fits cut (now user) (now group) ⌝ }
-    requires { ⌜ Indexed (now library) (spliced (now user) (now group) cut) nlib n (now starts) ⌝ }
-    requires { ⌜ c < n ⌝ }
-    ensures { λ r. ⌜ Carries (now r) (groupOf (now (library .entry)) (spliced (now (user .entry)) (now (group .entry)) cut) c) ⌝ }
+    ghost { ℕ → Group }
+    requires { λ g. ⌜ groupOf (now library) (now user) ≡ g ⌝ }
+    requires { λ g. ⌜ Indexed (now library) (now user) (classes .library) (classes .all) (now starts) ⌝ }
+    requires { λ g. ⌜ c < classes .all ⌝ }
+    ensures { λ g r. ⌜ Carries (now r) (g c) ⌝ }
 {
-    let start = group_start(library, user, group, cut, starts, nlib, n, c);
-    let end = group_end(library, user, group, cut, starts, nlib, n, c);
-    if c < nlib {
+    let start = wide(starts[c]);
+    let end = group_end(starts, classes, library.len(), user.len(), c);
+    if c < classes.library {
         return &library[start..end];
     }
-    let from = cut.from;
-    if start < from {
-        return &user[start..end];
-    }
-    let k = start - from;
-    if k < group.len() {
-        return group;
-    }
-    let to = cut.to;
-    let at = to + (k - group.len());
-    let after = at + (end - start);
-    &user[at..after]
-}
-
-// How many records of a kind those bytes are.
-pub fn count_in(bytes: &[u8], kind: u16) -> usize
-    requires { ⌜ AtRecord (now bytes) (length (now bytes)) 0 ⌝ }
-    ensures { λ r. ⌜ r ≡ length (ofKind kind (between (now (bytes .entry)) 0 (length (now (bytes .entry))))) ⌝ }
-{
-    let mut at = 0;
-    let mut m = 0;
-    while at < bytes.len() {
-        if word_in(bytes, at + 2) == kind {
-            m += 1;
-        }
-        at += wide(word_in(bytes, at));
-    }
-    m
-}
-
-// Where number i of a kind begins in those bytes; their end if there is none.
-pub fn nth_in(bytes: &[u8], kind: u16, i: usize) -> usize
-    requires { ⌜ AtRecord (now bytes) (length (now bytes)) 0 ⌝ }
-    ensures { λ r. ⌜ r ≡ nthByte kind i 0 (between (now (bytes .entry)) 0 (length (now (bytes .entry)))) ⌝ }
-{
-    let mut at = 0;
-    let mut left = i;
-    while at < bytes.len() {
-        if word_in(bytes, at + 2) == kind {
-            if left == 0 {
-                return at;
-            }
-            left -= 1;
-        }
-        at += wide(word_in(bytes, at));
-    }
-    at
+    &user[start..end]
 }
 
 // The number at byte j of the CLASS record of class c: 4 flags, 8 superclass, 10 encloser.
 pub fn class_word<'a>(
     library: &'a [u8],
     user: &'a [u8],
-    group: &'a [u8],
-    cut: Cut,
     starts: &[u16],
-    nlib: usize,
-    n: usize,
+    classes: Classes,
     c: usize,
     j: usize,
 ) -> u16
-    requires { ⌜ Fits cut (now user) (now group) ⌝ }
-    requires { ⌜ Indexed (now library) (spliced (now user) (now group) cut) nlib n (now starts) ⌝ }
-    requires { ⌜ (c < n) × (j < 12) ⌝ }
-    ensures { λ r. ⌜ r ≡ u16 (classRecord (groupOf (now (library .entry)) (spliced (now (user .entry)) (now (group .entry)) cut) c)) j ⌝ }
+    ghost { ℕ → Group }
+    requires { λ g. ⌜ groupOf (now library) (now user) ≡ g ⌝ }
+    requires { λ g. ⌜ Indexed (now library) (now user) (classes .library) (classes .all) (now starts) ⌝ }
+    requires { λ g. ⌜ (c < classes .all) × (j < 12) ⌝ }
+    ensures { λ g r. ⌜ r ≡ u16 (classRecord (g c)) j ⌝ }
 {
-    let bytes = class_bytes(library, user, group, cut, starts, nlib, n, c);
-    word_in(bytes, j)
+    word_in(class_bytes(library, user, starts, classes, c), j)
 }

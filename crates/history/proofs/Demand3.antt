@@ -17,7 +17,8 @@ use Rattle.spec.specs.Sheet.{Group, classCount, total, group, groupReferences}
 use Rattle.spec.specs.Rules.{Verdict, dependencies}
 use Rattle.spec.specs.Relations.{Depends}
 use Rattle.spec.specs.Breaks.{Not}
-use Rattle.spec.specs.Refusals.{Refusal, sheetLimit, scratchLength, addedSheet, replacedSheet, sheetRefusal, newRefusal, presentRefusal, noUserRefusal, shortRefusal, judgeRefusal, addRefusal, replaceRefusal}
+use Rattle.spec.specs.Refusals.{Refusal, sheetLimit, scratchLength, addedSheet, replacedSheet, sheetRefusal, newRefusal}
+use Rattle.spec.specs.Refusals.{presentRefusal, noUserRefusal, shortRefusal, judgeRefusal, addRefusal, replaceRefusal}
 use Rattle.spec.specs.Verdicts.{VerdictRow, flat, verdictAt, userVerdict, dependsOn}
 use Rattle.spec.specs.Promises.{Answer, accepted, Counts, countsOf, judgedRow, Judges, State}
 use Rattle.theory.proofs.Bools.{decide, and-l, not-or-l, eq→eqb}
@@ -36,7 +37,8 @@ use Rattle.history.proofs.Flat.{flat-laws}
 use Rattle.history.proofs.Counting.{counted-by}
 use Rattle.history.proofs.Unrefused.{Present, present-facts, facts-present, short-none, none-short, Passes, edit-passes}
 use Rattle.history.proofs.Model.{total-count, added-group, set-group, front-is}
-use Rattle.history.proofs.Steps.{is-accepted, anew, as-before, library-stays, writes, made, made-is, why, next, Modelled, Holds, modelled, user-after, used-after, state-stays, model-stays, model-changes, row-changes}
+use Rattle.history.proofs.Steps.{is-accepted, anew, as-before, library-stays, writes, made, made-is, why, next, Modelled, Holds}
+use Rattle.history.proofs.Steps.{modelled, user-after, used-after, state-stays, model-stays, model-changes, row-changes}
 
 -- a user sheet that judging accepts beside the library, with a verdict for each class
 record Acceptable (library user : List ℕ) (lines : ℕ) : Type 0 where
@@ -178,7 +180,8 @@ module _ (row : VerdictRow) (laws : RowLaws row) where
           let front : i < classCount (take (used m) (buffer m)) = subst (λ (u : List ℕ). i < classCount u) (sym (front-is m)) k in
           let right : RightAt (m .library) (take (used m) (buffer m)) i (verdictAt (m .library) (take (used m) (buffer m)) (classCount (m .library) + i)) =
           demand2 (m .library) (buffer m) (used m) (record { libraryBytes = lb; userBytes = ub; unrefused = present }) (classCount (m .library) + i) (omega arith) (omega arith) in
-          subst (RightAt (m .library) (sheet m) i) (sym (h .verdicts-are i k)) (subst (λ (u : List ℕ). RightAt (m .library) u i (verdictAt (m .library) u (classCount (m .library) + i))) (front-is m) right);
+          subst (RightAt (m .library) (sheet m) i) (sym (h .verdicts-are i k))
+          (subst (λ (u : List ℕ). RightAt (m .library) u i (verdictAt (m .library) u (classCount (m .library) + i))) (front-is m) right);
     }
 
   -- ---- one call

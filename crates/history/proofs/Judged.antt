@@ -11,7 +11,7 @@ use Rattle.spec.specs.Sheet.{classCount, total, group}
 use Rattle.spec.specs.Rules.{verdictOf}
 use Rattle.spec.specs.Refusals.{presentRefusal, judgeRefusal}
 use Rattle.spec.specs.Verdicts.{VerdictRow, flat, verdictAt, userVerdict}
-use Rattle.spec.specs.Promises.{accepted, countsOf, judgedRow}
+use Rattle.spec.specs.Promises.{countsOf, judgedRow}
 use Rattle.theory.proofs.Answers.{first-none}
 use Rattle.theory.proofs.Demand2.{demand2}
 use Rattle.theory.proofs.Local.{locality}

@@ -7,7 +7,7 @@ use mathlib.Core.List.{List, [], _∷_, _++_, map, map-append, append-assoc}
 use Prim.Native.Nat.{ℕ, zero, suc, _+_, _<_}
 use native.Mathlib.Nat.{zero-add, suc-add}
 use native.Mathlib.Omega.{arith}
-use lib.ListN.{length, getD, take, drop, set, length-append, length-map, List·getD-append}
+use lib.ListN.{length, getD, take, drop, set, length-append, List·getD-append}
 use lib.Seq.{take-append-seam, drop-append-seam, getD-set-other}
 use Rattle.spec.specs.Lists.{concat}
 use Rattle.spec.specs.Sheet.{Group, recordsOf, groupsOf, classCount, total, group}

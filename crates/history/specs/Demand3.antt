@@ -71,7 +71,8 @@ module _ (row : VerdictRow) where
 
   -- ---- what is claimed
 
-  -- judging the model's sheets from nothing is accepted, and each class's verdict in the row is the one that it gives and is right about the rules that the class breaks; buffer and used length are the model's
+  -- judging the model's sheets from nothing is accepted, and each class's verdict in the row is the one that it gives and is right about the rules that
+  -- the class breaks; buffer and used length are the model's
   pub record Agrees (m : Model) (s : State row) : Type 0 where
     pub user-is : s .user ≡ buffer m
     pub used-is : s .used ≡ used m

@@ -12,7 +12,8 @@ use Rattle.spec.specs.Lists.{concat, count, span, firstOf}
 use Rattle.spec.specs.Record.{u16}
 use Rattle.spec.specs.Sheet.{wholeFirst, recordsIn, recordsOf, wholeEnd, classCount, total}
 use Rattle.spec.specs.Verdicts.{faulted, faultedCount, flat}
-use Rattle.spec.specs.Refusals.{Refusal, refusePlain, sizeRefusal, sheetRefusal, presentRefusal, noUserRefusal, groupRefusal, roomRefusal, addedSheet, replacedSheet, judgeRefusal, addRefusal, replaceRefusal, queryRefusal}
+use Rattle.spec.specs.Refusals.{Refusal, refusePlain, sizeRefusal, sheetRefusal, presentRefusal, noUserRefusal, groupRefusal, roomRefusal, addedSheet, replacedSheet, judgeRefusal, addRefusal}
+use Rattle.spec.specs.Refusals.{replaceRefusal, queryRefusal}
 use Rattle.spec.specs.Promises.{Answer, refused, accepted, answerOf, Counts, countsOf, Judges, State, addition, replacement, Adds, Replaces}
 use Rattle.theory.specs.Claims.{sheetOf, Blames, size, torn, at, noClass, plain, BlamesEdit, present, made}
 use Rattle.theory.proofs.Bools.{not-or-l, not-or-r}
@@ -168,5 +169,8 @@ unfolding judgeRefusal countsOf faultedCount total
 judges-few {library} {user} {used} p {c} f =
     let sheet : List ℕ = take used user in
     let t = told-fine _ _ (sym f ∙ p .answered) in
-    let few = sound library sheet (sheet-fine library user used (first-none _ (t .0) .0)) .few in
-    (omega (arith, ap (λ (c : Counts). c .classes) (t .1), few), omega (arith, ap (λ (c : Counts). c .classes) (t .1), ap (λ (c : Counts). c .faulted) (t .1), count-low (faulted library sheet) (classCount sheet)))
+    let few = sound library sheet (sheet-fine library user used (first-none _ (t .0) .0)) .few in (
+      omega (arith, ap (λ (c : Counts). c .classes) (t .1), few),
+      omega
+          (arith, ap (λ (c : Counts). c .classes) (t .1), ap (λ (c : Counts). c .faulted) (t .1), count-low (faulted library sheet) (classCount sheet)),
+    )

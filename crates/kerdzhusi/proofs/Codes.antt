@@ -16,6 +16,9 @@ module _ {A : Type 0} (value : A → ℕ) (Promise : Answer A → Type 0) {a : A
   unfolding replyOf
   refused-replies f e = record { answer = a; promised = p; coded = e ∙ ap (replyOf value) (sym f) }
 
+  pub replies : reply ≡ replyOf value a → Replies value Promise reply
+  replies e = record { answer = a; promised = p; coded = e }
+
   pub fine-replies : {x : A} → a ≡ accepted x → reply ≡ record { status = 0; value = value x } → Replies value Promise reply
   unfolding replyOf
   fine-replies f e = record { answer = a; promised = p; coded = e ∙ ap (replyOf value) (sym f) }

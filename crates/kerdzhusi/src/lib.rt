@@ -1,14 +1,16 @@
 // The C interface: the operations of `verifier` under C names, each answer as two numbers.
-use verifier::Added;
+use verifier::Changed;
 use verifier::Judged;
 use verifier::Marked;
 use verifier::Placed;
-use verifier::Replaced;
+use verifier::Refusal;
 ghost use mathlib.Core.Path.{_≡_};
 ghost use Prim.Native.Nat.{_≤_};
 ghost use Rattle.spec.specs.Promises.{refused, Judges, Adds, Replaces, Marks, Places};
 ghost use Rattle.spec.specs.Verdicts.{flat};
-ghost use Rattle.kerdzhusi.specs.Codes.{plainValue, countsValue, partValue, replyOf, Replies};
+ghost use Rattle.form.specs.Form.{refusalOf};
+ghost use Rattle.verifier.specs.Answers.{changedAnswer};
+ghost use Rattle.kerdzhusi.specs.Codes.{plainValue, countsValue, partValue, replyOf, Codable, Replies};
 
 // Status 0 and a value, or the refusal's status and 0.
 #[repr(C)]
@@ -17,13 +19,27 @@ pub struct Reply {
     pub value: u64,
 }
 
-fn refusal(number: u8, sheet: u8, byte: usize) -> Reply
-    requires { ⌜ byte ≤ 32768 ⌝ }
-    ensures { λ r. ⌜ r ≡ replyOf plainValue (refused (record { number = number; sheet = sheet; byte = byte })) ⌝ }
+fn refusal(turned: Refusal) -> Reply
+    requires { ⌜ turned .byte ≤ 32768 ⌝ }
+    ensures { λ r. ⌜ r ≡ replyOf plainValue (refused (refusalOf turned)) ⌝ }
 {
     Reply {
-        status: number as u64 + 256 * (sheet as u64) + 65536 * (byte as u64),
+        status: turned.number as u64 + 256 * (turned.sheet as u64) + 65536 * (turned.byte as u64),
         value: 0,
+    }
+}
+
+// What an operation that changes the sheet answers.
+fn changed(answer: Changed) -> Reply
+    requires { ⌜ Codable (changedAnswer answer) ⌝ }
+    ensures { λ r. ⌜ r ≡ replyOf plainValue (changedAnswer answer) ⌝ }
+{
+    match answer {
+        Changed::Refused(turned) => refusal(turned),
+        Changed::Fine(number) => Reply {
+            status: 0,
+            value: number as u64,
+        },
     }
 }
 
@@ -35,11 +51,12 @@ pub extern "C" fn kz_judge<'a>(
     verdicts: &mut [u8],
     scratch: &mut [u8],
 ) -> Reply
-    ensures { λ r. ⌜ Replies countsValue (λ a. Judges flat (now (library .entry)) (now (user .entry)) used (now (verdicts .entry)) (now (scratch .entry)) a (now (verdicts .exit)) (now (scratch .exit))) r ⌝ }
+    ensures { λ r. ⌜ Replies countsValue (λ a. Judges flat (now (library .entry)) (now (user .entry)) used
+        (now (verdicts .entry)) (now (scratch .entry)) a (now (verdicts .exit)) (now (scratch .exit))) r ⌝ }
 {
     let answer = verifier::judge(library, user, used, verdicts, scratch);
     match answer {
-        Judged::Refused(number, sheet, byte) => refusal(number, sheet, byte),
+        Judged::Refused(turned) => refusal(turned),
         Judged::Fine(classes, faulted) => Reply {
             status: 0,
             value: classes as u64 + 4294967296 * (faulted as u64),
@@ -56,16 +73,11 @@ pub extern "C" fn kz_add<'a>(
     verdicts: &mut [u8],
     scratch: &mut [u8],
 ) -> Reply
-    ensures { λ r. ⌜ Replies plainValue (λ a. Adds flat (now (library .entry)) (now (group .entry)) (record { user = now (user .entry); used = now (used .entry); verdicts = now (verdicts .entry) }) (now (scratch .entry)) a (record { user = now (user .exit); used = now (used .exit); verdicts = now (verdicts .exit) }) (now (scratch .exit))) r ⌝ }
+    ensures { λ r. ⌜ Replies plainValue (λ a. Adds flat (now (library .entry)) (now (group .entry))
+        (record { user = now (user .entry); used = now (used .entry); verdicts = now (verdicts .entry) })
+        (now (scratch .entry)) a (record { user = now (user .exit); used = now (used .exit); verdicts = now (verdicts .exit) }) (now (scratch .exit))) r ⌝ }
 {
-    let answer = verifier::add(library, user, used, group, verdicts, scratch);
-    match answer {
-        Added::Refused(number, sheet, byte) => refusal(number, sheet, byte),
-        Added::Fine(class) => Reply {
-            status: 0,
-            value: class as u64,
-        },
-    }
+    changed(verifier::add(library, user, used, group, verdicts, scratch))
 }
 
 #[no_mangle]
@@ -78,16 +90,11 @@ pub extern "C" fn kz_replace<'a>(
     verdicts: &mut [u8],
     scratch: &mut [u8],
 ) -> Reply
-    ensures { λ r. ⌜ Replies plainValue (λ a. Replaces flat (now (library .entry)) class (now (group .entry)) (record { user = now (user .entry); used = now (used .entry); verdicts = now (verdicts .entry) }) (now (scratch .entry)) a (record { user = now (user .exit); used = now (used .exit); verdicts = now (verdicts .exit) }) (now (scratch .exit))) r ⌝ }
+    ensures { λ r. ⌜ Replies plainValue (λ a. Replaces flat (now (library .entry)) class (now (group .entry))
+        (record { user = now (user .entry); used = now (used .entry); verdicts = now (verdicts .entry) })
+        (now (scratch .entry)) a (record { user = now (user .exit); used = now (used .exit); verdicts = now (verdicts .exit) }) (now (scratch .exit))) r ⌝ }
 {
-    let answer = verifier::replace(library, user, used, class, group, verdicts, scratch);
-    match answer {
-        Replaced::Refused(number, sheet, byte) => refusal(number, sheet, byte),
-        Replaced::Fine(count) => Reply {
-            status: 0,
-            value: count as u64,
-        },
-    }
+    changed(verifier::replace(library, user, used, class, group, verdicts, scratch))
 }
 
 #[no_mangle]
@@ -96,7 +103,7 @@ pub extern "C" fn kz_name<'a>(library: &'a [u8], user: &'a [u8], used: usize, cl
 {
     let answer = verifier::name_place(library, user, used, class);
     match answer {
-        Placed::Refused(number, sheet, byte) => refusal(number, sheet, byte),
+        Placed::Refused(turned) => refusal(turned),
         Placed::At(sheet, start, size) => Reply {
             status: 0,
             value: sheet as u64 + 256 * (start as u64) + 4294967296 * (size as u64),
@@ -115,7 +122,7 @@ pub extern "C" fn kz_marks<'a>(
 {
     let answer = verifier::marks(library, user, used, class);
     match answer {
-        Marked::Refused(number, sheet, byte) => refusal(number, sheet, byte),
+        Marked::Refused(turned) => refusal(turned),
         Marked::Fine(set) => Reply {
             status: 0,
             value: set as u64,

@@ -1,7 +1,7 @@
 -- One class draws from one other, in one lane, then lane after lane: the row and the answer are those of the definitions, and so a part of the search.
 -- Assumes nothing.
 use mathlib.Core.Path.{_≡_, refl, _∙_}
-use mathlib.Core.Bool.{Bool, true, false, _&&_, _||_, and-true, and-false, or-true}
+use mathlib.Core.Bool.{Bool, true, false, _&&_, and-true, and-false, or-true}
 use mathlib.Core.List.{List}
 use mathlib.Core.Logic.{inl, inr, ⊎-elim}
 use Prim.Native.Nat.{ℕ, zero, suc, _+_, _*_, _≤_, _<_}

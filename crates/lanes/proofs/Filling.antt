@@ -23,13 +23,19 @@ module _ {x : ℕ} {before row : List ℕ} {k i : ℕ} (f : FilledTo x before ro
   pub fill-long : length row ≡ length before
   fill-long = ap length (f .now) ∙ length-append (replicate i x) (drop i before) ∙ omega (arith, length-replicate {A = ℕ} i x, length-drop i before, f .few)
 
+  one-more : replicate (i + 1) x ++ drop (i + 1) before ≡ replicate i x ++ (x ∷ drop (suc i) before)
+  one-more =
+      ap (λ (j : ℕ). replicate j x ++ drop j before) (add-one i)
+      ∙ ap (λ (l : List ℕ). l ++ drop (suc i) before) (replicate-more i x)
+      ∙ append-assoc (replicate i x) (x ∷ []) (drop (suc i) before)
+
   pub fill-next : i < k → FilledTo x before (set row i x) k (i + 1)
   fill-next h = record {
     few = omega arith;
     now =
         ap (λ (r : List ℕ). set r i x) (f .now ∙ ap (λ (l : List ℕ). replicate i x ++ l) (drop-cons before i 0 (omega arith)))
         ∙ set-at (replicate i x) (getD before i 0) (drop (suc i) before) x i (length-replicate {A = ℕ} i x)
-        ∙ sym (ap (λ (j : ℕ). replicate j x ++ drop j before) (add-one i) ∙ ap (λ (l : List ℕ). l ++ drop (suc i) before) (replicate-more i x) ∙ append-assoc (replicate i x) (x ∷ []) (drop (suc i) before));
+        ∙ sym one-more;
   }
 
   pub fill-end : k ≤ i → row ≡ replicate k x ++ drop k before

@@ -16,6 +16,8 @@ use Rattle.theory.proofs.Answers.{first-none}
 use Rattle.theory.proofs.FlatRow.{read-new, rewritten-length}
 use Rattle.text.specs.Text.{overlaid}
 use Rattle.text.proofs.Digits.{decimal-length}
+use Rattle.form.specs.Form.{refusalOf}
+use Rattle.form.specs.declared.Refusal.{Refusal}
 use Rattle.verifier.specs.Answers.{judgedAnswer}
 use Rattle.verifier.specs.declared.Judged.{Judged}
 use Rattle.verifier.specs.declared.Judged.the-variants.{Fine, Refused}
@@ -39,19 +41,19 @@ module _ (library user : List ℕ) (used : ℕ) (verdicts scratch : List ℕ) (r
   scratch-after = j .scratch-is ∙ ap (λ (k : ℕ). afterwards (judgeRefusal library user used k (length scratch)) scratch (cleared scratch)) (lines-of verdicts room)
 
   -- a refusal
-  module _ {number sheet byte : ℕ} (f : judged ≡ Refused number sheet byte) where
-    refused-by : judgeRefusal library user used listedLines (length scratch) ≡ some (record { number = number; sheet = sheet; byte = byte })
+  module _ {r : Refusal} (f : judged ≡ Refused r) where
+    refused-by : judgeRefusal library user used listedLines (length scratch) ≡ some (refusalOf r)
     refused-by =
         ap (λ (k : ℕ). judgeRefusal library user used k (length scratch)) (sym (lines-of verdicts room))
         ∙ told-refused (judgeRefusal library user used (flatLines verdicts) (length scratch)) _ (ap judgedAnswer (sym f) ∙ j .answered)
 
-    refused-text : refusalText (record { number = number; sheet = sheet; byte = byte }) ≡ listingText library user used (length scratch)
+    refused-text : refusalText (refusalOf r) ≡ listingText library user used (length scratch)
     unfolding listingText
     refused-text = rw (refused-by, listingText)
 
-    pub refused-listing : {number′ sheet′ : ℕ} → number′ ≡ number → sheet′ ≡ sheet → {out out′ : List ℕ} {r : ℕ} → Written out 0 (refusalText (record { number = number′; sheet = sheet′; byte = byte })) out′ r
-        → (r ≡ length (listingText library user used (length scratch))) × (out′ ≡ overlaid (listingText library user used (length scratch)) out)
-    refused-listing en es w = from-start (same-text (rw (en, es) refused-text) w)
+    pub refused-listing : {out out′ : List ℕ} {after : ℕ} → Written out 0 (refusalText (refusalOf r)) out′ after
+        → (after ≡ length (listingText library user used (length scratch))) × (out′ ≡ overlaid (listingText library user used (length scratch)) out)
+    refused-listing w = from-start (same-text refused-text w)
 
   -- counts and lines
   module _ {classes faulted : ℕ} (f : judged ≡ Fine classes faulted) where
@@ -75,7 +77,8 @@ module _ (library user : List ℕ) (used : ℕ) (verdicts scratch : List ℕ) (r
     byte-is i h k l =
         let q : (2 * i + k) % 2 ≡ k = omega arith in
         ap (λ (r : List ℕ). getD r (2 * i + k) 0) row-is
-        ∙ read-new (λ i. ltb i (classCount (take used user))) (userVerdict library (take used user)) verdicts i (omega (arith, few, room)) (lt→ltb i (classCount (take used user)) h) (2 * i + k) (omega arith)
+        ∙ read-new (λ i. ltb i (classCount (take used user))) (userVerdict library (take used user)) verdicts i (omega (arith, few, room))
+        (lt→ltb i (classCount (take used user)) h) (2 * i + k) (omega arith)
         ∙ ap (λ (m : ℕ). getD (bytesOf (userVerdict library (take used user) i)) m 0) q
 
     pub row-holds : Holds library (take used user) verdicts′
@@ -93,7 +96,8 @@ module _ (library user : List ℕ) (used : ℕ) (verdicts scratch : List ℕ) (r
         ≡ listingText library user used (length scratch)
     unfolding listingText
     listed-text =
-        let o : judgeRefusal library user used listedLines (length scratch) ≡ none = ap (λ (k : ℕ). judgeRefusal library user used k (length scratch)) (sym (lines-of verdicts room)) ∙ told .0 in
+        let o : judgeRefusal library user used listedLines (length scratch) ≡ none =
+        ap (λ (k : ℕ). judgeRefusal library user used k (length scratch)) (sym (lines-of verdicts room)) ∙ told .0 in
         rw (told .1) (rw (o, listingText))
 
     pub accepted-listing : {out out′ out″ : List ℕ} {at r : ℕ} → Written out 0 (countsText (record { classes = classes; faulted = faulted })) out′ at

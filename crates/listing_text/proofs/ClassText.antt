@@ -67,20 +67,22 @@ module _ {library sheet : List ℕ} {count : ℕ} {out₀ : List ℕ} {at : ℕ}
   unfolding gather span
   lines-start = record { high = omega arith; short = omega arith; text = no-text refl refl }
 
-  pub lines-next : {nlib n : ℕ} {row : List ℕ} → Indexed library sheet nlib n row → {out out′ : List ℕ} {i p p′ : ℕ} → Lines library sheet count out₀ at out i p → i < count → nlib + i < n
-      → Written out p (lineText library sheet i) out′ p′ → Lines library sheet count out₀ at out′ (i + 1) p′
+  pub lines-next : {nlib n : ℕ} {row : List ℕ} → Indexed library sheet nlib n row → {out out′ : List ℕ} {i p p′ : ℕ} → Lines library sheet count out₀ at out i p
+      → i < count → nlib + i < n → Written out p (lineText library sheet i) out′ p′ → Lines library sheet count out₀ at out′ (i + 1) p′
   lines-next x {i = i} f l h w =
       let e : i + 1 ≡ suc i = omega arith in
       let g : gather (lineText library sheet) (span 0 i) ++ lineText library sheet i ≡ gather (lineText library sheet) (span 0 (i + 1)) =
-      sym (ap (λ (k : ℕ). gather (lineText library sheet) (span 0 k)) e ∙ gather-last (lineText library sheet) 0 i ∙ ap (λ (k : ℕ). gather (lineText library sheet) (span 0 i) ++ lineText library sheet k) (zero-add i)) in
+      sym (ap (λ (k : ℕ). gather (lineText library sheet) (span 0 k)) e
+      ∙ gather-last (lineText library sheet) 0 i
+      ∙ ap (λ (k : ℕ). gather (lineText library sheet) (span 0 i) ++ lineText library sheet k) (zero-add i)) in
       record {
         high = omega arith;
         short = omega (arith, w .place, f .short, line-short x i h);
         text = same-text g (then (f .text) w);
       }
 
-  pub lines-end : {nlib n : ℕ} {row : List ℕ} → Indexed library sheet nlib n row → {out : List ℕ} {i p : ℕ} → Lines library sheet count out₀ at out i p → count ≡ n - nlib → count ≤ i
-      → Written out₀ at (gather (lineText library sheet) (span 0 (classCount sheet))) out p
+  pub lines-end : {nlib n : ℕ} {row : List ℕ} → Indexed library sheet nlib n row → {out : List ℕ} {i p : ℕ} → Lines library sheet count out₀ at out i p
+      → count ≡ n - nlib → count ≤ i → Written out₀ at (gather (lineText library sheet) (span 0 (classCount sheet))) out p
   unfolding total
   lines-end x {out} {i} {p} f e l =
       let c : i ≡ classCount sheet = omega (arith, f .high, x .nlib-is, x .n-is) in

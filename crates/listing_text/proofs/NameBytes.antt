@@ -1,13 +1,11 @@
--- Where the bytes of a user class's name stand in the user buffer.
+-- Where the bytes of a user class's name stand in the user sheet.
 -- Assumes nothing.
 use mathlib.Core.Path.{_≡_, sym, ap, _∙_}
-use mathlib.Core.List.{List, []}
+use mathlib.Core.List.{List}
 use Prim.Native.Nat.{ℕ, _+_, _-_, _≤_, _<_}
-use native.Mathlib.Nat.{zero-add}
 use native.Mathlib.Omega.{arith}
 use lib.Dec.{T, leb, eqb→eq, leb→le}
-use lib.ListN.{length, take, drop, length-take}
-use lib.Seq.{take-take}
+use lib.ListN.{length, take, drop}
 use Rattle.spec.specs.Record.{u16, kind, isClass, CLASS, byKind, withName, lengthFits, className}
 use Rattle.spec.specs.Sheet.{group, classRecord, ofKind}
 use Rattle.theory.specs.Claims.{sheetOf}
@@ -15,10 +13,8 @@ use Rattle.theory.proofs.All.{All, all-kept}
 use Rattle.theory.proofs.Bools.{and-r}
 use Rattle.theory.proofs.Form.{one-record, group-one-class}
 use Rattle.theory.proofs.Parts.{part-rest}
-use Rattle.view.specs.View.{spliced}
-use Rattle.view.proofs.Splice.{plain}
 use Rattle.groups.specs.Groups.{Indexed, sheetNumber, startOf}
-use Rattle.groups.proofs.Classes.{group-lengths, user-number, user-sheet, class-record, class-size, size-read, class-long, class-room, group-tiled, end-small}
+use Rattle.groups.proofs.Held.{group-lengths, user-number, user-sheet, class-record, class-size, size-read, class-long, class-room, group-tiled, end-small}
 
 -- ---- a CLASS record is no longer than twelve bytes and a name of 100
 
@@ -37,45 +33,30 @@ class-short {library} {user} x {c} h =
 
 -- ---- the name
 
--- the record of class c begins at `at`, is `size` bytes long, and its name is the user buffer's bytes from its byte 12 on
-pub record NameAt (library user : List ℕ) (used c : ℕ) (at size : ℕ) : Type 0 where
+-- the record of class c begins at `at`, is `size` bytes long, and its name is the user sheet's bytes from its byte 12 on
+pub record NameAt (library user : List ℕ) (c : ℕ) (at size : ℕ) : Type 0 where
   pub long : 13 ≤ size
   pub short : size ≤ 112
   pub within : at + size ≤ length user
   pub low : at + size ≤ 32768
-  pub is : take (at + size - (at + 12)) (drop (at + 12) user) ≡ className (classRecord (group library (take used user) c))
+  pub is : take (at + size - (at + 12)) (drop (at + 12) user) ≡ className (classRecord (group library user c))
 
--- a part of the used bytes is a part of the buffer
-part-used : (user : List ℕ) (used at k : ℕ) → at + k ≤ used → take k (drop at (take used user)) ≡ take k (drop at user)
-part-used user used at k h =
-    ap (take k) (part-rest user 0 used at ∙ ap (λ (j : ℕ). take (used - at) (drop j user)) (zero-add at))
-    ∙ take-take k (used - at) (drop at user) (omega arith)
+module _ {library user : List ℕ} {nlib n : ℕ} {row : List ℕ} (x : Indexed library user nlib n row) {c : ℕ} (l : nlib ≤ c) (h : c < n) where
+  user-held : sheetOf library user (sheetNumber nlib c) ≡ user
+  user-held = user-sheet library user (sheetNumber nlib c) (omega (arith, user-number nlib c l))
 
-module _ {library : List ℕ} (user : List ℕ) (used : ℕ) {nlib n : ℕ} {row : List ℕ} (x : Indexed library (take used user) nlib n row) {c : ℕ} (l : nlib ≤ c) (h : c < n) where
-  user-held : sheetOf library (take used user) (sheetNumber nlib c) ≡ take used user
-  user-held = user-sheet library (take used user) (sheetNumber nlib c) (omega (arith, user-number nlib c l))
-
-  start-is : {at : ℕ} → at ≡ startOf library (spliced user [] (record { from = used; to = used; used = used })) c → at ≡ startOf library (take used user) c
-  start-is e = e ∙ ap (λ (s : List ℕ). startOf library s c) (plain user used)
-
-  pub name-at : {at size : ℕ} → used ≤ length user → at ≡ startOf library (spliced user [] (record { from = used; to = used; used = used })) c
-      → size ≡ u16 (classRecord (group library (spliced user [] (record { from = used; to = used; used = used })) c)) 0 → NameAt library user used c at size
+  pub name-at : {at size : ℕ} → at ≡ startOf library user c → size ≡ u16 (classRecord (group library user c)) 0 → NameAt library user c at size
   unfolding className
-  name-at {at} {size} there ea es =
-      let s = take used user in
-      let r = classRecord (group library s c) in
-      let a : at ≡ startOf library s c = start-is ea in
-      let e : size ≡ length r = size-read x h (es ∙ ap (λ (k : List ℕ). u16 (classRecord (group library k c)) 0) (plain user used)) in
-      let z : size ≡ u16 s at = e ∙ class-size x h ∙ ap (λ (k : List ℕ). u16 k (startOf library s c)) user-held ∙ ap (u16 s) (sym a) in
-      let whole : r ≡ take size (drop at s) = class-record x h ∙ rw (user-held, ← a, ← z) in
-      let room : at + size ≤ length s = omega (arith, a, e, class-room x h, group-tiled x h .within, ap length user-held) in
-      let inside : at + size ≤ used = omega (arith, room, length-take used user) in
-      let thirteen : 13 ≤ size = omega (arith, e, class-long x h) in
+  name-at {at} {size} a es =
+      let r = classRecord (group library user c) in
+      let e : size ≡ length r = size-read x h es in
+      let z : size ≡ u16 user at = e ∙ class-size x h ∙ ap (λ (k : List ℕ). u16 k (startOf library user c)) user-held ∙ ap (u16 user) (sym a) in
+      let whole : r ≡ take size (drop at user) = class-record x h ∙ rw (user-held, ← a, ← z) in
       let k : at + size - (at + 12) ≡ size - 12 = omega arith in
       record {
-        long = thirteen;
+        long = omega (arith, e, class-long x h);
         short = omega (arith, e, class-short x h);
-        within = omega (arith, inside, there);
+        within = omega (arith, a, e, class-room x h, group-tiled x h .within, ap length user-held);
         low = omega (arith, a, e, class-room x h, end-small x h);
-        is = ap (λ (j : ℕ). take j (drop (at + 12) user)) k ∙ sym (part-used user used (at + 12) (size - 12) (omega (arith, inside, thirteen))) ∙ sym (ap (drop 12) whole ∙ part-rest s at size 12);
+        is = ap (λ (j : ℕ). take j (drop (at + 12) user)) k ∙ sym (ap (drop 12) whole ∙ part-rest user at size 12);
       }

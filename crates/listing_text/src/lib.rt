@@ -1,14 +1,17 @@
 // The listing of two sheets as text in a lent buffer.
 use form::Checked;
+use form::Refusal;
 use form::present;
+use groups::Classes;
 use groups::class_word;
-use groups::group_start;
+use records::NAME_AT;
+use records::wide;
 use text::put;
 use text::put_number;
 use text::put_part;
 use verifier::Judged;
+use verifier::VERDICT_BYTES;
 use verifier::judge;
-use view::Cut;
 ghost use mathlib.Core.Path.{_≡_};
 ghost use mathlib.Core.List.{_++_};
 ghost use mathlib.Core.Option.{none};
@@ -19,18 +22,13 @@ ghost use Rattle.spec.specs.Sheet.{classCount};
 ghost use Rattle.spec.specs.Refusals.{presentRefusal, judgeRefusal};
 ghost use Rattle.spec.specs.Promises.{afterwards, cleared};
 ghost use Rattle.groups.specs.Groups.{Indexed};
+ghost use Rattle.form.specs.Form.{refusalOf};
 ghost use Rattle.text.specs.Text.{decimal, overlaid};
 ghost use Rattle.listing_text.specs.Listing.{countsText, refusalText, lineText, listedLines, listingText, space, newline};
 ghost use Rattle.listing_text.specs.Written.{Written, Holds};
 
-// A byte, and a 16-bit number, as a number of the machine.
-fn wide(x: u8) -> usize
-    ensures { λ r. ⌜ r ≡ x ⌝ }
-{
-    x as usize
-}
-
-fn wide_word(x: u16) -> usize
+// A byte as a number of the machine.
+fn wide_byte(x: u8) -> usize
     ensures { λ r. ⌜ r ≡ x ⌝ }
 {
     x as usize
@@ -45,15 +43,15 @@ fn put_word(out: &mut [u8], at: usize, word: &[u8]) -> usize
 }
 
 // The line of a refusal.
-fn refusal_line(out: &mut [u8], number: usize, sheet: usize, byte: usize) -> usize
-    ensures { λ r. ⌜ Written (now (out .entry)) 0 (refusalText (record { number = number; sheet = sheet; byte = byte })) (now (out .exit)) r ⌝ }
+fn refusal_line(out: &mut [u8], refusal: Refusal) -> usize
+    ensures { λ r. ⌜ Written (now (out .entry)) 0 (refusalText (refusalOf refusal)) (now (out .exit)) r ⌝ }
 {
     let opened = put_word(out, 0, b"refused ");
-    let first = put_number(out, opened, number);
+    let first = put_number(out, opened, wide_byte(refusal.number));
     let on = put_word(out, first, b" sheet ");
-    let second = put_number(out, on, sheet);
+    let second = put_number(out, on, wide_byte(refusal.sheet));
     let further = put_word(out, second, b" byte ");
-    let third = put_number(out, further, byte);
+    let third = put_number(out, further, refusal.byte);
     put(out, third, b'\n')
 }
 
@@ -83,36 +81,27 @@ fn put_verdict(out: &mut [u8], at: usize, rule: usize, place: usize) -> usize
 fn class_line<'a>(
     library: &'a [u8],
     user: &'a [u8],
-    used: usize,
     starts: &[u16],
-    nlib: usize,
-    n: usize,
+    classes: Classes,
     verdicts: &[u8],
     i: usize,
     out: &mut [u8],
     at: usize,
 ) -> usize
-    requires { ⌜ used ≤ length (now user) ⌝ }
-    requires { ⌜ Indexed (now library) (take used (now user)) nlib n (now starts) ⌝ }
-    requires { ⌜ Holds (now library) (take used (now user)) (now verdicts) ⌝ }
-    requires { ⌜ (nlib + i < n) × (at < 700000) ⌝ }
-    ensures { λ r. ⌜ Written (now (out .entry)) at (lineText (now (library .entry)) (take used (now (user .entry))) i) (now (out .exit)) r ⌝ }
+    requires { ⌜ Indexed (now library) (now user) (classes .library) (classes .all) (now starts) ⌝ }
+    requires { ⌜ Holds (now library) (now user) (now verdicts) ⌝ }
+    requires { ⌜ (classes .library + i < classes .all) × (at < 700000) ⌝ }
+    ensures { λ r. ⌜ Written (now (out .entry)) at (lineText (now (library .entry)) (now (user .entry)) i) (now (out .exit)) r ⌝ }
 {
-    let cut = Cut {
-        from: used,
-        to: used,
-        used: used,
-    };
-    let none = &library[0..0];
-    let class = nlib + i;
-    let start = group_start(library, user, none, cut, starts, nlib, n, class);
-    let size = class_word(library, user, none, cut, starts, nlib, n, class, 0);
-    let end = start + wide_word(size);
-    let rule = wide(verdicts[2 * i]);
-    let place = wide(verdicts[2 * i + 1]);
+    let class = classes.library + i;
+    let start = wide(starts[class]);
+    let size = class_word(library, user, starts, classes, class, 0);
+    let end = start + wide(size);
+    let rule = wide_byte(verdicts[VERDICT_BYTES * i]);
+    let place = wide_byte(verdicts[VERDICT_BYTES * i + 1]);
     let numbered = put_number(out, at, class);
     let spaced = put(out, numbered, b' ');
-    let named = put_part(out, spaced, user, start + 12, end);
+    let named = put_part(out, spaced, user, start + NAME_AT, end);
     let parted = put(out, named, b' ');
     put_verdict(out, parted, rule, place)
 }
@@ -121,24 +110,23 @@ fn class_line<'a>(
 fn class_lines<'a>(
     library: &'a [u8],
     user: &'a [u8],
-    used: usize,
     starts: &[u16],
-    nlib: usize,
-    n: usize,
+    classes: Classes,
     verdicts: &[u8],
     out: &mut [u8],
     at: usize,
 ) -> usize
-    requires { ⌜ used ≤ length (now user) ⌝ }
-    requires { ⌜ Indexed (now library) (take used (now user)) nlib n (now starts) ⌝ }
-    requires { ⌜ Holds (now library) (take used (now user)) (now verdicts) ⌝ }
+    requires { ⌜ Indexed (now library) (now user) (classes .library) (classes .all) (now starts) ⌝ }
+    requires { ⌜ Holds (now library) (now user) (now verdicts) ⌝ }
     requires { ⌜ at < 1000 ⌝ }
-    ensures { λ r. ⌜ Written (now (out .entry)) at (gather (lineText (now (library .entry)) (take used (now (user .entry)))) (span 0 (classCount (take used (now (user .entry)))))) (now (out .exit)) r ⌝ }
+    ensures { λ r. ⌜ Written (now (out .entry)) at
+        (gather (lineText (now (library .entry)) (now (user .entry))) (span 0 (classCount (now (user .entry))))) (now (out .exit)) r ⌝ }
 {
+    let count = classes.all - classes.library;
     let mut i = 0;
     let mut then = at;
-    while i < n - nlib {
-        then = class_line(library, user, used, starts, nlib, n, verdicts, i, out, then);
+    while i < count {
+        then = class_line(library, user, starts, classes, verdicts, i, out, then);
         i += 1;
     }
     then
@@ -156,15 +144,18 @@ fn accepted_lines<'a>(
     requires { ⌜ presentRefusal (now library) (now user) used ≡ none ⌝ }
     requires { ⌜ Holds (now library) (take used (now user)) (now verdicts) ⌝ }
     requires { ⌜ at < 1000 ⌝ }
-    ensures { λ r. ⌜ Written (now (out .entry)) at (gather (lineText (now (library .entry)) (take used (now (user .entry)))) (span 0 (classCount (take used (now (user .entry)))))) (now (out .exit)) r ⌝ }
+    ensures { λ r. ⌜ Written (now (out .entry)) at
+        (gather (lineText (now (library .entry)) (take used (now (user .entry)))) (span 0 (classCount (take used (now (user .entry))))))
+        (now (out .exit)) r ⌝ }
 {
     let mut starts = [0u16; 256];
     let mut memo = [65535u16; 256];
     let checked = present(library, user, used, &mut starts, &mut memo);
-    let Checked::Fine(nlib, n) = checked else {
+    let Checked::Fine(classes) = checked else {
         return at;
     };
-    class_lines(library, user, used, &starts, nlib, n, verdicts, out, at)
+    let sheet = &user[0..used];
+    class_lines(library, sheet, &starts, classes, verdicts, out, at)
 }
 
 // Judges the sheets and writes the listing from the buffer's start, as far as it fits; answers how long the listing is.
@@ -176,15 +167,16 @@ pub fn listing_text<'a>(
     out: &mut [u8],
 ) -> usize
     ensures answer { λ r. ⌜ r ≡ length (listingText (now (library .entry)) (now (user .entry)) used (length (now (scratch .entry)))) ⌝ }
-    ensures out { λ r. ⌜ now (out .exit) ≡ overlaid (listingText (now (library .entry)) (now (user .entry)) used (length (now (scratch .entry)))) (now (out .entry)) ⌝ }
-    ensures scratch { λ r. ⌜ now (scratch .exit) ≡ afterwards (judgeRefusal (now (library .entry)) (now (user .entry)) used listedLines (length (now (scratch .entry)))) (now (scratch .entry)) (cleared (now (scratch .entry))) ⌝ }
+    ensures out { λ r. ⌜ now (out .exit)
+        ≡ overlaid (listingText (now (library .entry)) (now (user .entry)) used (length (now (scratch .entry)))) (now (out .entry)) ⌝ }
+    ensures scratch { λ r. ⌜ now (scratch .exit)
+        ≡ afterwards (judgeRefusal (now (library .entry)) (now (user .entry)) used listedLines (length (now (scratch .entry))))
+        (now (scratch .entry)) (cleared (now (scratch .entry))) ⌝ }
 {
     let mut verdicts = [0u8; 512];
     let judged = judge(library, user, used, &mut verdicts, scratch);
     match judged {
-        Judged::Refused(number, sheet, byte) => {
-            refusal_line(out, wide(number), wide(sheet), byte)
-        }
+        Judged::Refused(refusal) => refusal_line(out, refusal),
         Judged::Fine(classes, faulted) => {
             let at = counts_line(out, classes, faulted);
             accepted_lines(library, user, used, &verdicts, out, at)

@@ -6,6 +6,23 @@ ghost use lib.Dec.{eqb};
 ghost use Rattle.spec.specs.Record.{bit};
 ghost use Rattle.spec.specs.Markers.{closure as closureOf, union as unionOf, clash as clashOf};
 
+// The markers, each as a set of its own, and all of them.
+pub const IMMUTABLE: u8 = 1;
+
+pub const POWERLESS: u8 = 2;
+
+pub const SELFLESS: u8 = 4;
+
+pub const TOKEN: u8 = 16;
+
+pub const THROWABLE: u8 = 32;
+
+pub const ENUM: u8 = 64;
+
+pub const DEEP_SELFLESS: u8 = 128;
+
+pub const ALL: u8 = 255;
+
 // For each set the least closed set that holds it.
 const CLOSURES: [u8; 256] = [
     0,

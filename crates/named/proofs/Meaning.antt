@@ -10,14 +10,17 @@ use lib.Dec.{eqb, ltb}
 use lib.ListN.{length, getD, List·getD-eq-default}
 use borrow.Author.Tests.{eq-eqb, ne-eqb, eqb-true, le-ltb}
 use Rattle.spec.specs.Lists.{keep, onlyIf}
-use Rattle.spec.specs.Record.{none16, kind, byKind, isKind, isClass, CLASS, IMPLEMENTS, FIELD, LOCAL, USES, BUILDS, MEMBER, REFERS, superclass, encloser, target, Ty, fieldTy, localTy, unlessNone, tyReferences, references}
+use Rattle.spec.specs.Record.{none16, kind, byKind, isKind, isClass, CLASS, IMPLEMENTS, FIELD, LOCAL, USES, BUILDS, MEMBER, REFERS}
+use Rattle.spec.specs.Record.{superclass, encloser, target, Ty, fieldTy, localTy, unlessNone, tyReferences, references}
 use Rattle.theory.proofs.Bools.{eq→eqb}
 use Rattle.theory.proofs.All.{keep-no}
 use Rattle.theory.proofs.References.{by-kind, references-class, references-implements, references-field, references-local, references-uses, references-builds, references-member, references-refers}
 use Rattle.named.specs.Named.{typeNamed, firstOfAll, firstNamed, secondNamed, namedBy}
 
 -- by the kind: one of the eight, or none
-each-kind : {P : Type 0} (k : ℕ) → (k ≡ 1 → P) → (k ≡ 2 → P) → (k ≡ 3 → P) → (k ≡ 4 → P) → (k ≡ 5 → P) → (k ≡ 6 → P) → (k ≡ 7 → P) → (k ≡ 8 → P) → ((k ≡ 0) ⊎ (9 ≤ k) → P) → P
+each-kind : {P : Type 0} (k : ℕ)
+    → (k ≡ 1 → P) → (k ≡ 2 → P) → (k ≡ 3 → P) → (k ≡ 4 → P) → (k ≡ 5 → P) → (k ≡ 6 → P) → (k ≡ 7 → P) → (k ≡ 8 → P)
+    → ((k ≡ 0) ⊎ (9 ≤ k) → P) → P
 each-kind zero f1 f2 f3 f4 f5 f6 f7 f8 u = u (inl refl)
 each-kind (suc zero) f1 f2 f3 f4 f5 f6 f7 f8 u = f1 refl
 each-kind (suc (suc zero)) f1 f2 f3 f4 f5 f6 f7 f8 u = f2 refl

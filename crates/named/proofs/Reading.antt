@@ -11,9 +11,8 @@ use borrow.Author.Tests.{eq-eqb, ne-eqb}
 use Rattle.spec.specs.Record.{u8, u16, kind, none16, CLASS, IMPLEMENTS, FIELD, LOCAL, USES, BUILDS, MEMBER, REFERS, target, tyAt}
 use Rattle.theory.proofs.Bools.{eq→eqb}
 use Rattle.theory.proofs.References.{by-kind}
-use Rattle.pass.specs.Pass.{recordAt}
-use Rattle.pass.proofs.Tables.{shortest}
-use Rattle.records.specs.Records.{Sized}
+use Rattle.records.proofs.Sizes.{shortest}
+use Rattle.records.specs.Records.{Sized, recordAt}
 use Rattle.records.proofs.Positions.{kind-is, kind-not, last-kind, superclass-at, encloser-at, target-at, field-type-at, local-type-at}
 use Rattle.named.specs.Named.{typeNamed, firstOfAll, firstNamed, secondNamed}
 

@@ -1,19 +1,13 @@
 // The classes that a record names, read where it stands: 65535 is none. Along BUILDS alone, or along every record.
-use view::word_in;
+use records::wide;
+use records::word_in;
 ghost use mathlib.Core.Path.{_≡_};
 ghost use mathlib.Core.Bool.{true, false};
 ghost use Prim.Native.Nat.{_+_, _≤_, _<_};
 ghost use lib.ListN.{length};
 ghost use Rattle.spec.specs.Record.{tyAt};
-ghost use Rattle.pass.specs.Pass.{recordAt};
-ghost use Rattle.records.specs.Records.{Sized};
+ghost use Rattle.records.specs.Records.{Sized, recordAt};
 ghost use Rattle.named.specs.Named.{typeNamed, firstNamed, secondNamed};
-
-fn wide(x: u16) -> usize
-    ensures { λ r. ⌜ (r ≡ x) × (r < 65536) ⌝ }
-{
-    x as usize
-}
 
 // The class of the type at i.
 fn type_named(bytes: &[u8], i: usize) -> usize

@@ -13,10 +13,10 @@ use lib.Seq.{drop-cons, length-take-le, getD-take}
 use Rattle.spec.specs.Record.{u16, className}
 use Rattle.spec.specs.Sheet.{Group, group, classRecord}
 use Rattle.theory.proofs.Bools.{decide}
-use Rattle.pass.specs.Pass.{recordAt}
-use Rattle.groups.specs.Groups.{between, Carries, Indexed}
-use Rattle.groups.proofs.Between.{tiled-end, tiled-step}
-use Rattle.groups.proofs.Classes.{class-long}
+use Rattle.records.specs.Records.{recordAt, between, Carries}
+use Rattle.groups.specs.Groups.{Indexed}
+use Rattle.records.proofs.Between.{tiled-end, tiled-step}
+use Rattle.groups.proofs.Held.{class-long}
 use Rattle.names.specs.Names.{printWith, printFrom, printOf, Opens}
 
 -- ---- the record that comes first

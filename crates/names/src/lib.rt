@@ -1,23 +1,17 @@
 // Fingerprints of class names: whether a name is new is asked of a row of numbers.
-use groups::class_bytes;
-use view::Cut;
-use view::word_in;
+use records::wide;
+use records::word_in;
+use view::View;
+use view::view_bytes;
 ghost use mathlib.Core.Path.{_≡_};
-ghost use Prim.Native.Nat.{_≤_, _<_};
+ghost use Prim.Native.Nat.{ℕ, _≤_, _<_};
 ghost use lib.ListN.{length, take, drop};
 ghost use Rattle.spec.specs.Lists.{elem};
 ghost use Rattle.spec.specs.Record.{className};
-ghost use Rattle.spec.specs.Sheet.{group as groupOf, classRecord};
-ghost use Rattle.view.specs.View.{Fits, spliced};
-ghost use Rattle.pass.specs.Pass.{recordAt};
-ghost use Rattle.groups.specs.Groups.{Indexed};
+ghost use Rattle.spec.specs.Sheet.{Group, group as groupOf, classRecord};
+ghost use Rattle.view.specs.View.{spliced, Views};
+ghost use Rattle.records.specs.Records.{recordAt};
 ghost use Rattle.names.specs.Names.{printWith, printOf, Opens, Printed};
-
-fn wide(x: u16) -> usize
-    ensures { λ r. ⌜ (r ≡ x) × (r < 65536) ⌝ }
-{
-    x as usize
-}
 
 // The fingerprint after one byte more.
 fn print_with(print: u16, byte: u8) -> u16
@@ -46,18 +40,17 @@ fn class_print<'a>(
     library: &'a [u8],
     user: &'a [u8],
     group: &'a [u8],
-    cut: Cut,
     starts: &[u16],
-    nlib: usize,
-    n: usize,
+    view: View,
     c: usize,
 ) -> u16
-    requires { ⌜ Fits cut (now user) (now group) ⌝ }
-    requires { ⌜ Indexed (now library) (spliced (now user) (now group) cut) nlib n (now starts) ⌝ }
-    requires { ⌜ c < n ⌝ }
-    ensures { λ r. ⌜ r ≡ printOf (className (classRecord (groupOf (now (library .entry)) (spliced (now (user .entry)) (now (group .entry)) cut) c))) ⌝ }
+    ghost { ℕ → Group }
+    requires { λ g. ⌜ groupOf (now library) (spliced (now user) (now group) (view .cut)) ≡ g ⌝ }
+    requires { λ g. ⌜ Views view (now library) (now user) (now group) (now starts) ⌝ }
+    requires { λ g. ⌜ c < view .classes .all ⌝ }
+    ensures { λ g r. ⌜ r ≡ printOf (className (classRecord (g c))) ⌝ }
 {
-    print_in(class_bytes(library, user, group, cut, starts, nlib, n, c))
+    print_in(view_bytes(library, user, group, starts, view, c))
 }
 
 // Fills a row with the fingerprint of each class; what stands past them is kept.
@@ -65,21 +58,22 @@ pub fn prints<'a>(
     library: &'a [u8],
     user: &'a [u8],
     group: &'a [u8],
-    cut: Cut,
     starts: &[u16],
-    nlib: usize,
-    n: usize,
+    view: View,
     row: &mut [u16],
 )
-    requires { ⌜ Fits cut (now user) (now group) ⌝ }
-    requires { ⌜ Indexed (now library) (spliced (now user) (now group) cut) nlib n (now starts) ⌝ }
-    requires { ⌜ n ≤ length (now row) ⌝ }
-    ensures first { λ r. ⌜ Printed (groupOf (now (library .entry)) (spliced (now (user .entry)) (now (group .entry)) cut)) n (now (row .exit)) ⌝ }
-    ensures rest { λ r. ⌜ drop n (now (row .exit)) ≡ drop n (now (row .entry)) ⌝ }
+    ghost { ℕ → Group }
+    requires { λ g. ⌜ groupOf (now library) (spliced (now user) (now group) (view .cut)) ≡ g ⌝ }
+    requires { λ g. ⌜ Views view (now library) (now user) (now group) (now starts) ⌝ }
+    requires { λ g. ⌜ view .classes .all ≤ length (now row) ⌝ }
+    ensures first { λ g r. ⌜ Printed g (view .classes .all) (now (row .exit)) ⌝ }
+    ensures rest { λ g r. ⌜ drop (view .classes .all) (now (row .exit)) ≡ drop (view .classes .all) (now (row .entry)) ⌝ }
 {
+    let classes = view.classes;
+    let n = classes.all;
     let mut c = 0;
     while c < n {
-        row[c] = class_print(library, user, group, cut, starts, nlib, n, c);
+        row[c] = class_print(library, user, group, starts, view, c);
         c += 1;
     }
 }

@@ -17,9 +17,9 @@ use Rattle.theory.proofs.Bools.{true-t}
 use Rattle.theory.proofs.All.{keep-yes, keep-no}
 use Rattle.theory.proofs.Parts.{part-length, part-word, part-kind}
 use Rattle.theory.proofs.References.{by-kind}
-use Rattle.groups.specs.Groups.{between, AtRecord, Carries}
-use Rattle.groups.proofs.Between.{tiled-end}
-use Rattle.groups.proofs.Walks.{walk-on, walk-here, size-here, walk-next}
+use Rattle.records.specs.Records.{between, AtRecord, Carries}
+use Rattle.records.proofs.Between.{tiled-end}
+use Rattle.records.proofs.Walks.{walk-on, walk-here, size-here, walk-next}
 use Rattle.overlay.specs.Memo.{lowerRaw, withInterfaces}
 use Rattle.overlay.proofs.Unions.{union-assoc, union-zero}
 

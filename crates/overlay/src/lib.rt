@@ -1,10 +1,18 @@
 // Overlay markers: a class asks its superclass and its interfaces, and each interface asks those it extends. A memo row keeps what is known.
 // Classes are asked in rising order, so that a class finds its supertypes there: each is computed once, and no call is deep.
+use groups::Classes;
 use groups::class_bytes;
+use markers::ALL;
 use markers::closure;
 use markers::union;
-use view::Cut;
-use view::word_in;
+use records::CLASS_LIMIT;
+use records::IMPLEMENTS;
+use records::KIND_AT;
+use records::MARKERS_AT;
+use records::SUPERCLASS_AT;
+use records::TARGET_AT;
+use records::wide;
+use records::word_in;
 ghost use mathlib.Core.Path.{_≡_};
 ghost use Prim.Native.Nat.{ℕ, _+_, _≤_, _<_, min, max};
 ghost use lib.ListN.{length, getD, set};
@@ -12,36 +20,25 @@ ghost use Rattle.spec.specs.Record.{tyAt};
 ghost use Rattle.spec.specs.Sheet.{Group, group as groupOf};
 ghost use Rattle.spec.specs.Classes.{overlay as overlayOf};
 ghost use Rattle.theory.proofs.Falls.{Falls};
-ghost use Rattle.view.specs.View.{Fits, spliced};
 ghost use Rattle.groups.specs.Groups.{Indexed};
 ghost use Rattle.overlay.specs.Memo.{raw, lowerRaw, withInterfaces, memoOf, Knows};
 ghost use Rattle.overlay.specs.Types.{Known, rowMarkers};
-
-fn wide(x: u16) -> usize
-    ensures { λ r. ⌜ (r ≡ x) × (r < 65536) ⌝ }
-{
-    x as usize
-}
 
 // Class i as seen from class c: what is gathered for it if it is lower, else nothing.
 fn lower<'a>(
     library: &'a [u8],
     user: &'a [u8],
-    group: &'a [u8],
-    cut: Cut,
     starts: &[u16],
-    nlib: usize,
-    n: usize,
+    classes: Classes,
     c: usize,
     i: usize,
     memo: &mut [u16],
 ) -> u8
     ghost { ℕ → Group }
-    requires { λ g. ⌜ groupOf (now library) (spliced (now user) (now group) cut) ≡ g ⌝ }
-    requires { λ g. ⌜ Fits cut (now user) (now group) ⌝ }
-    requires { λ g. ⌜ Indexed (now library) (spliced (now user) (now group) cut) nlib n (now starts) ⌝ }
+    requires { λ g. ⌜ groupOf (now library) (now user) ≡ g ⌝ }
+    requires { λ g. ⌜ Indexed (now library) (now user) (classes .library) (classes .all) (now starts) ⌝ }
     requires { λ g. ⌜ Falls g ⌝ }
-    requires { λ g. ⌜ c < n ⌝ }
+    requires { λ g. ⌜ c < classes .all ⌝ }
     requires { λ g. ⌜ Knows g c (now memo) ⌝ }
     ensures markers { λ g r. ⌜ r ≡ lowerRaw g c i ⌝ }
     ensures memo { λ g r. ⌜ now (memo .exit) ≡ now (memo .entry) ⌝ }
@@ -49,27 +46,23 @@ fn lower<'a>(
     if c <= i {
         return 0;
     }
-    gathered(library, user, group, cut, starts, nlib, n, i, memo)
+    gathered(library, user, starts, classes, i, memo)
 }
 
 // The own markers of class c and of all its supertypes, unless the memo has them.
 fn gathered<'a>(
     library: &'a [u8],
     user: &'a [u8],
-    group: &'a [u8],
-    cut: Cut,
     starts: &[u16],
-    nlib: usize,
-    n: usize,
+    classes: Classes,
     c: usize,
     memo: &mut [u16],
 ) -> u8
     ghost { ℕ → Group }
-    requires { λ g. ⌜ groupOf (now library) (spliced (now user) (now group) cut) ≡ g ⌝ }
-    requires { λ g. ⌜ Fits cut (now user) (now group) ⌝ }
-    requires { λ g. ⌜ Indexed (now library) (spliced (now user) (now group) cut) nlib n (now starts) ⌝ }
+    requires { λ g. ⌜ groupOf (now library) (now user) ≡ g ⌝ }
+    requires { λ g. ⌜ Indexed (now library) (now user) (classes .library) (classes .all) (now starts) ⌝ }
     requires { λ g. ⌜ Falls g ⌝ }
-    requires { λ g. ⌜ c < n ⌝ }
+    requires { λ g. ⌜ c < classes .all ⌝ }
     requires { λ g. ⌜ Knows g c (now memo) ⌝ }
     ensures markers { λ g r. ⌜ r ≡ raw g c ⌝ }
     ensures memo { λ g r. ⌜ now (memo .exit) ≡ set (now (memo .entry)) c (raw g c) ⌝ }
@@ -78,22 +71,11 @@ fn gathered<'a>(
     if known < 256 {
         return known as u8;
     }
-    let bytes = class_bytes(library, user, group, cut, starts, nlib, n, c);
-    let own = bytes[6];
-    let above = wide(word_in(bytes, 8));
-    let up = lower(library, user, group, cut, starts, nlib, n, c, above, memo);
-    let m = interfaces(
-        library,
-        user,
-        group,
-        cut,
-        starts,
-        nlib,
-        n,
-        c,
-        union(own, up),
-        memo,
-    );
+    let bytes = class_bytes(library, user, starts, classes, c);
+    let own = bytes[MARKERS_AT];
+    let above = wide(word_in(bytes, SUPERCLASS_AT));
+    let up = lower(library, user, starts, classes, c, above, memo);
+    let m = interfaces(library, user, starts, classes, c, union(own, up), memo);
     memo[c] = m as u16;
     m
 }
@@ -102,37 +84,30 @@ fn gathered<'a>(
 fn interfaces<'a>(
     library: &'a [u8],
     user: &'a [u8],
-    group: &'a [u8],
-    cut: Cut,
     starts: &[u16],
-    nlib: usize,
-    n: usize,
+    classes: Classes,
     c: usize,
     mine: u8,
     memo: &mut [u16],
 ) -> u8
     ghost { ℕ → Group }
-    requires { λ g. ⌜ groupOf (now library) (spliced (now user) (now group) cut) ≡ g ⌝ }
-    requires { λ g. ⌜ Fits cut (now user) (now group) ⌝ }
-    requires { λ g. ⌜ Indexed (now library) (spliced (now user) (now group) cut) nlib n (now starts) ⌝ }
+    requires { λ g. ⌜ groupOf (now library) (now user) ≡ g ⌝ }
+    requires { λ g. ⌜ Indexed (now library) (now user) (classes .library) (classes .all) (now starts) ⌝ }
     requires { λ g. ⌜ Falls g ⌝ }
-    requires { λ g. ⌜ c < n ⌝ }
+    requires { λ g. ⌜ c < classes .all ⌝ }
     requires { λ g. ⌜ Knows g c (now memo) ⌝ }
     ensures markers { λ g r. ⌜ r ≡ withInterfaces g c mine ⌝ }
     ensures memo { λ g r. ⌜ now (memo .exit) ≡ now (memo .entry) ⌝ }
 {
-    let bytes = class_bytes(library, user, group, cut, starts, nlib, n, c);
+    let bytes = class_bytes(library, user, starts, classes, c);
     let mut at = 0;
     let mut m = mine;
     while at < bytes.len() {
         let size = wide(word_in(bytes, at));
-        let kind = word_in(bytes, at + 2);
-        if kind == 2 {
-            let i = wide(word_in(bytes, at + 4));
-            m = union(
-                m,
-                lower(library, user, group, cut, starts, nlib, n, c, i, memo),
-            );
+        let kind = word_in(bytes, at + KIND_AT);
+        if kind == IMPLEMENTS {
+            let i = wide(word_in(bytes, at + TARGET_AT));
+            m = union(m, lower(library, user, starts, classes, c, i, memo));
         }
         at += size;
     }
@@ -143,25 +118,21 @@ fn interfaces<'a>(
 pub fn overlay<'a>(
     library: &'a [u8],
     user: &'a [u8],
-    group: &'a [u8],
-    cut: Cut,
     starts: &[u16],
-    nlib: usize,
-    n: usize,
+    classes: Classes,
     c: usize,
     memo: &mut [u16],
 ) -> u8
     ghost { ℕ → Group }
-    requires { λ g. ⌜ groupOf (now library) (spliced (now user) (now group) cut) ≡ g ⌝ }
-    requires { λ g. ⌜ Fits cut (now user) (now group) ⌝ }
-    requires { λ g. ⌜ Indexed (now library) (spliced (now user) (now group) cut) nlib n (now starts) ⌝ }
+    requires { λ g. ⌜ groupOf (now library) (now user) ≡ g ⌝ }
+    requires { λ g. ⌜ Indexed (now library) (now user) (classes .library) (classes .all) (now starts) ⌝ }
     requires { λ g. ⌜ Falls g ⌝ }
-    requires { λ g. ⌜ c < n ⌝ }
+    requires { λ g. ⌜ c < classes .all ⌝ }
     requires { λ g. ⌜ Knows g c (now memo) ⌝ }
     ensures markers { λ g r. ⌜ r ≡ overlayOf g c ⌝ }
     ensures memo { λ g r. ⌜ now (memo .exit) ≡ set (now (memo .entry)) c (raw g c) ⌝ }
 {
-    let open = gathered(library, user, group, cut, starts, nlib, n, c, memo);
+    let open = gathered(library, user, starts, classes, c, memo);
     let closed = closure(open);
     closed
 }
@@ -171,84 +142,72 @@ pub fn overlay<'a>(
 pub fn overlay_in_turn<'a>(
     library: &'a [u8],
     user: &'a [u8],
-    group: &'a [u8],
-    cut: Cut,
     starts: &[u16],
-    nlib: usize,
-    n: usize,
+    classes: Classes,
     c: usize,
     memo: &mut [u16],
 ) -> u8
     ghost { ℕ → Group }
-    requires { λ g. ⌜ groupOf (now library) (spliced (now user) (now group) cut) ≡ g ⌝ }
-    requires { λ g. ⌜ Fits cut (now user) (now group) ⌝ }
-    requires { λ g. ⌜ Indexed (now library) (spliced (now user) (now group) cut) nlib n (now starts) ⌝ }
+    requires { λ g. ⌜ groupOf (now library) (now user) ≡ g ⌝ }
+    requires { λ g. ⌜ Indexed (now library) (now user) (classes .library) (classes .all) (now starts) ⌝ }
     requires { λ g. ⌜ Falls g ⌝ }
-    requires { λ g. ⌜ c < n ⌝ }
-    requires { λ g. ⌜ now memo ≡ memoOf g nlib ⌝ }
+    requires { λ g. ⌜ c < classes .all ⌝ }
+    requires { λ g. ⌜ now memo ≡ memoOf g (classes .library) ⌝ }
     ensures markers { λ g r. ⌜ r ≡ overlayOf g c ⌝ }
-    ensures memo { λ g r. ⌜ now (memo .exit) ≡ memoOf g (max nlib (c + 1)) ⌝ }
+    ensures memo { λ g r. ⌜ now (memo .exit) ≡ memoOf g (max (classes .library) (c + 1)) ⌝ }
 {
-    let mut d = nlib;
+    let mut d = classes.library;
     while d < c {
-        gathered(library, user, group, cut, starts, nlib, n, d, memo);
+        gathered(library, user, starts, classes, d, memo);
         d += 1;
     }
-    overlay(library, user, group, cut, starts, nlib, n, c, memo)
+    overlay(library, user, starts, classes, c, memo)
 }
 
 // The overlay markers of class c, none if there is no such class.
 fn overlay_or_none<'a>(
     library: &'a [u8],
     user: &'a [u8],
-    group: &'a [u8],
-    cut: Cut,
     starts: &[u16],
-    nlib: usize,
-    n: usize,
+    classes: Classes,
     c: usize,
     memo: &mut [u16],
 ) -> u8
     ghost { ℕ → Group }
-    requires { λ g. ⌜ groupOf (now library) (spliced (now user) (now group) cut) ≡ g ⌝ }
-    requires { λ g. ⌜ Fits cut (now user) (now group) ⌝ }
-    requires { λ g. ⌜ Indexed (now library) (spliced (now user) (now group) cut) nlib n (now starts) ⌝ }
+    requires { λ g. ⌜ groupOf (now library) (now user) ≡ g ⌝ }
+    requires { λ g. ⌜ Indexed (now library) (now user) (classes .library) (classes .all) (now starts) ⌝ }
     requires { λ g. ⌜ Falls g ⌝ }
-    requires { λ g. ⌜ now memo ≡ memoOf g (max nlib (min c n)) ⌝ }
+    requires { λ g. ⌜ now memo ≡ memoOf g (max (classes .library) (min c (classes .all))) ⌝ }
     ensures markers { λ g r. ⌜ r ≡ overlayOf g c ⌝ }
-    ensures memo { λ g r. ⌜ now (memo .exit) ≡ memoOf g (max nlib (min (c + 1) n)) ⌝ }
+    ensures memo { λ g r. ⌜ now (memo .exit) ≡ memoOf g (max (classes .library) (min (c + 1) (classes .all))) ⌝ }
 {
-    if n <= c {
+    if classes.all <= c {
         return 0;
     }
-    overlay(library, user, group, cut, starts, nlib, n, c, memo)
+    overlay(library, user, starts, classes, c, memo)
 }
 
 // Writes the overlay markers of each class, 0 past the last one.
 pub fn overlays<'a>(
     library: &'a [u8],
     user: &'a [u8],
-    group: &'a [u8],
-    cut: Cut,
     starts: &[u16],
-    nlib: usize,
-    n: usize,
+    classes: Classes,
     memo: &mut [u16],
     row: &mut [u8],
 )
     ghost { ℕ → Group }
-    requires { λ g. ⌜ groupOf (now library) (spliced (now user) (now group) cut) ≡ g ⌝ }
-    requires { λ g. ⌜ Fits cut (now user) (now group) ⌝ }
-    requires { λ g. ⌜ Indexed (now library) (spliced (now user) (now group) cut) nlib n (now starts) ⌝ }
+    requires { λ g. ⌜ groupOf (now library) (now user) ≡ g ⌝ }
+    requires { λ g. ⌜ Indexed (now library) (now user) (classes .library) (classes .all) (now starts) ⌝ }
     requires { λ g. ⌜ Falls g ⌝ }
-    requires { λ g. ⌜ now memo ≡ memoOf g nlib ⌝ }
+    requires { λ g. ⌜ now memo ≡ memoOf g (classes .library) ⌝ }
     requires { λ g. ⌜ length (now row) ≡ 256 ⌝ }
     ensures row { λ g r. ⌜ Known g (now (row .exit)) ⌝ }
-    ensures memo { λ g r. ⌜ now (memo .exit) ≡ memoOf g n ⌝ }
+    ensures memo { λ g r. ⌜ now (memo .exit) ≡ memoOf g (classes .all) ⌝ }
 {
     let mut c = 0;
-    while c < 256 {
-        row[c] = overlay_or_none(library, user, group, cut, starts, nlib, n, c, memo);
+    while c < CLASS_LIMIT {
+        row[c] = overlay_or_none(library, user, starts, classes, c, memo);
         c += 1;
     }
 }
@@ -269,7 +228,7 @@ pub fn type_markers(bytes: &[u8], i: usize, row: &[u8]) -> u8
         return 0;
     }
     if bytes[i + 1] != 0 {
-        return 255;
+        return ALL;
     }
     known(row, wide(word_in(bytes, i + 2)))
 }

@@ -5,21 +5,18 @@ use mathlib.Core.Bool.{Bool, true, false, _&&_}
 use mathlib.Core.List.{List}
 use Prim.Native.Nat.{ℕ, _+_, _-_}
 use native.Mathlib.Omega.{arith}
-use lib.ListN.{length, take, drop}
-use Rattle.spec.specs.Record.{u8, kind, byKind, flags, zeroByte, className, fieldTy, localTy, kindFits, nameFits, withName, lengthFits, bodyFits}
+use lib.ListN.{take, drop}
+use Rattle.spec.specs.Record.{u8, kind, byKind, flags, zeroByte, className, fieldTy, localTy, kindFits, nameFits, bodyFits}
 use Rattle.spec.specs.Lists.{all}
 use Rattle.theory.proofs.Bools.{true-t}
 use Rattle.theory.proofs.Parts.{part-byte, part-word, part-type, part-rest}
-use Rattle.pass.specs.Pass.{homeFits, sizeFits, nameAt, nameStart, fixedAt}
-use Rattle.pass.proofs.Tables.{each, size-known, at-least}
+use Rattle.pass.specs.Pass.{homeFits, nameAt, nameStart, fixedAt}
+use Rattle.records.specs.Records.{sizeFits}
+use Rattle.records.proofs.Sizes.{each, size-known, at-least}
 
 pub kind-fits : (sheet : ℕ) (r : List ℕ) → kindFits sheet r ≡ homeFits sheet (kind r)
 unfolding kindFits byKind homeFits
 kind-fits sheet r = refl
-
-pub length-fits : (r : List ℕ) → lengthFits r ≡ sizeFits (kind r) (length r)
-unfolding lengthFits byKind withName sizeFits
-length-fits r = refl
 
 no-size : (n : ℕ) → sizeFits 0 n ≡ true → false ≡ true
 unfolding sizeFits

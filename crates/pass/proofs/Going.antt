@@ -19,14 +19,15 @@ use Rattle.theory.proofs.Bools.{not-or-l, not-or-r}
 use Rattle.theory.proofs.All.{All}
 use Rattle.theory.proofs.Cut.{split-class, split-other, records-stop}
 use Rattle.theory.proofs.Answers.{some≢none, first-past, first-some, Fails, record-none}
-use Rattle.pass.specs.Pass.{numberOf, recordAt, place, recordNumber, passRefusal, shifted, passOf, fill, filled, Filled}
+use Rattle.pass.specs.Pass.{numberOf, place, recordNumber, passRefusal, shifted, passOf, fill, filled, Filled}
 use Rattle.pass.specs.declared.Pass.{Pass}
 use Rattle.pass.specs.declared.Pass.the-variants.{Fine, Refused}
 use Rattle.pass.proofs.Starts.{fill-class, fill-other}
-use Rattle.pass.proofs.Whole.{Whole, whole-at, at-whole, whole-unless, end-stop, records-here, length-here, class-here, other-here}
+use Rattle.records.specs.Records.{recordAt}
 use Rattle.pass.proofs.Numbers.{number-torn, torn}
 use Rattle.pass.proofs.Places.{answer, place-class, place-other, place-refuses}
 use Rattle.pass.proofs.Walk.{rest, walk-stop, walk-step, walk-class, walk-other}
+use Rattle.records.proofs.Whole.{Whole, whole-at, at-whole, whole-unless, end-stop, records-here, length-here, class-here, other-here}
 
 -- ---- one record
 

@@ -7,7 +7,7 @@ use mathlib.Core.Option.{Option, none, some}
 use Prim.Native.Nat.{ℕ, suc, _+_}
 use native.Mathlib.Nat.{add-zero, add-assoc}
 use native.Mathlib.Omega.{arith}
-use lib.ListN.{length, set, length-append, length-map}
+use lib.ListN.{length, set, length-append}
 use lib.Dec.{T}
 use borrow.Author.Tests.{eq-eqb}
 use Rattle.spec.specs.Lists.{concat, firstOf}
@@ -85,29 +85,30 @@ module _ (r : List ℕ) (rs : List (List ℕ)) where
   unfolding concat
   long-cons at = omega (arith, length-append r (concat rs))
 
-locate-append : (sheet at n k b : ℕ) (rs rs′ : List (List ℕ)) → Opens rs′
-    → locate sheet at n k b (rs ++ rs′) ≡ locate sheet at n k b rs ++ locate sheet (at + length (concat rs)) (n + count rs) 0 0 rs′
+-- what is located in two lists is located in each, the second further on
+abbrev Apart : ℕ → ℕ → ℕ → ℕ → ℕ → List (List ℕ) → List (List ℕ) → Type 0
+Apart sheet at n k b rs rs′ = locate sheet at n k b (rs ++ rs′) ≡ locate sheet at n k b rs ++ locate sheet (at + length (concat rs)) (n + count rs) 0 0 rs′
+
+locate-append : (sheet at n k b : ℕ) (rs rs′ : List (List ℕ)) → Opens rs′ → Apart sheet at n k b rs rs′
 locate-append sheet at n k b [] rs′ o = unfold locate concat splitGroups in rw (add-zero at, add-zero n) (open-anywhere sheet at n k b rs′ o)
 locate-append sheet at n k b (r ∷ rs) rs′ o =
     go (isClass r) refl (locate-append sheet (at + length r) (suc n) 1 (kind r) rs rs′ o) (locate-append sheet (at + length r) n (suc k) (kind r) rs rs′ o)
   where
-    go : (c : Bool) → isClass r ≡ c
-        → locate sheet (at + length r) (suc n) 1 (kind r) (rs ++ rs′) ≡ locate sheet (at + length r) (suc n) 1 (kind r) rs ++ locate sheet (at + length r + length (concat rs)) (suc n + count rs) 0 0 rs′
-        → locate sheet (at + length r) n (suc k) (kind r) (rs ++ rs′) ≡ locate sheet (at + length r) n (suc k) (kind r) rs ++ locate sheet (at + length r + length (concat rs)) (n + count rs) 0 0 rs′
-        → locate sheet at n k b (r ∷ rs ++ rs′) ≡ locate sheet at n k b (r ∷ rs) ++ locate sheet (at + length (concat (r ∷ rs))) (n + count (r ∷ rs)) 0 0 rs′
+    go : (c : Bool) → isClass r ≡ c → Apart sheet (at + length r) (suc n) 1 (kind r) rs rs′ → Apart sheet (at + length r) n (suc k) (kind r) rs rs′ → Apart sheet at n k b (r ∷ rs) rs′
     go true e f g =
         let q : n + count (r ∷ rs) ≡ suc n + count rs = omega (arith, count-class r rs e) in
         rw (locate-class sheet at n k b r (rs ++ rs′) e, locate-class sheet at n k b r rs e, long-cons r rs at, q, f)
     go false e f g = rw (locate-other sheet at n k b r (rs ++ rs′) e, locate-other sheet at n k b r rs e, long-cons r rs at, count-other r rs e, g)
 
-fill-append : (row : List ℕ) (n at : ℕ) (rs rs′ : List (List ℕ)) → fill row n at (rs ++ rs′) ≡ fill (fill row n at rs) (n + count rs) (at + length (concat rs)) rs′
+-- and so of the row
+abbrev Further : List ℕ → ℕ → ℕ → List (List ℕ) → List (List ℕ) → Type 0
+Further row n at rs rs′ = fill row n at (rs ++ rs′) ≡ fill (fill row n at rs) (n + count rs) (at + length (concat rs)) rs′
+
+fill-append : (row : List ℕ) (n at : ℕ) (rs rs′ : List (List ℕ)) → Further row n at rs rs′
 fill-append row n at [] rs′ = unfold fill concat splitGroups in rw (add-zero at, add-zero n)
 fill-append row n at (r ∷ rs) rs′ = go (isClass r) refl (fill-append (set row n at) (suc n) (at + length r) rs rs′) (fill-append row n (at + length r) rs rs′)
   where
-    go : (c : Bool) → isClass r ≡ c
-        → fill (set row n at) (suc n) (at + length r) (rs ++ rs′) ≡ fill (fill (set row n at) (suc n) (at + length r) rs) (suc n + count rs) (at + length r + length (concat rs)) rs′
-        → fill row n (at + length r) (rs ++ rs′) ≡ fill (fill row n (at + length r) rs) (n + count rs) (at + length r + length (concat rs)) rs′
-        → fill row n at (r ∷ rs ++ rs′) ≡ fill (fill row n at (r ∷ rs)) (n + count (r ∷ rs)) (at + length (concat (r ∷ rs))) rs′
+    go : (c : Bool) → isClass r ≡ c → Further (set row n at) (suc n) (at + length r) rs rs′ → Further row n (at + length r) rs rs′ → Further row n at (r ∷ rs) rs′
     go true e f g =
         let q : n + count (r ∷ rs) ≡ suc n + count rs = omega (arith, count-class r rs e) in
         rw (fill-class row n at r (rs ++ rs′) e, fill-class row n at r rs e, long-cons r rs at, q, f)
@@ -174,7 +175,9 @@ module _ (xs ys : List (List ℕ)) (wx : All IsGroup xs) (wy : All IsGroup ys) w
       ≡ firstOf (passRefusal sheet n (concat xs) ∷ shifted (length (concat xs)) (passRefusal sheet (n + classCount (concat xs)) (concat ys)) ∷ [])
   unfolding classCount groupsOf wholeEnd
   refusal-both sheet n =
-      rw (whole-pass sheet n (concat xs ++ concat ys) end-both, whole-pass sheet n (concat xs) (whole-join xs wx), whole-pass sheet (n + classCount (concat xs)) (concat ys) (whole-join ys wy), records-both, ← whole-join xs wx)
+      let a = whole-pass sheet n (concat xs) (whole-join xs wx) in
+      let b = whole-pass sheet (n + classCount (concat xs)) (concat ys) (whole-join ys wy) in
+      rw (whole-pass sheet n (concat xs ++ concat ys) end-both, a, b, records-both, ← whole-join xs wx)
       (along-append sheet n (recordsOf (concat xs)) (recordsOf (concat ys)) opens-second)
 
   classes-both : classCount (concat xs ++ concat ys) ≡ classCount (concat xs) + classCount (concat ys)

@@ -1,7 +1,6 @@
 pub mod Words
 pub mod Tables
 pub mod Names
-pub mod Whole
 pub mod Bodies
 pub mod Numbers
 pub mod Places

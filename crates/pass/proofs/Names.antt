@@ -87,10 +87,11 @@ pub record Scanned (s : List ℕ) (from to i : ℕ) : Type 0 where
   pub started : from ≤ i
   pub within : i ≤ to
   pub long : from + 8 ≤ to
+  pub inside : to ≤ length s
   pub fine : (x : ℕ) → from ≤ x → x < i → Fit (getD s x 0)
 
-pub scan : (s : List ℕ) (from to : ℕ) → from + 8 ≤ to → Scanned s from to from
-scan s from to h = record { started = le-refl from; within = omega arith; long = h; fine = λ x a b. absurd (omega arith) }
+pub scan : (s : List ℕ) (from to : ℕ) → from + 8 ≤ to → to ≤ length s → Scanned s from to from
+scan s from to h l = record { started = le-refl from; within = omega arith; long = h; inside = l; fine = λ x a b. absurd (omega arith) }
 
 module _ (s : List ℕ) (from to : ℕ) (o : from ≤ to) (l : to ≤ length s) where
   whole-fine : nameFits (take (to - from) (drop from s)) ≡ true → Fine s from to
@@ -113,7 +114,7 @@ module _ (s : List ℕ) (from to : ℕ) (o : from ≤ to) (l : to ≤ length s) 
         (λ t. let q = eight-fine s i j (omega arith) (omega arith) (t-true (nameFits (take 4 (drop i s) ++ take 4 (drop j s))) t) in true-t (fine-whole (f (q .0) (q .1))))
         (λ t. true-t (of-whole (t-true (nameFits (take (to - from) (drop from s))) t)))
 
-    pub eight-stops : {r : Bool} → r ≡ nameFits (take 4 (drop i s) ++ take 4 (drop j s)) → r ≡ false → false ≡ nameFits (take (to - from) (drop from s))
+    eight-stops : {r : Bool} → r ≡ nameFits (take 4 (drop i s) ++ take 4 (drop j s)) → r ≡ false → false ≡ nameFits (take (to - from) (drop from s))
     eight-stops e z = go (nameFits (take (to - from) (drop from s))) refl
       where
         go : (b : Bool) → nameFits (take (to - from) (drop from s)) ≡ b → false ≡ b
@@ -130,23 +131,36 @@ module _ (s : List ℕ) (from to : ℕ) (o : from ≤ to) (l : to ≤ length s) 
       go x c d f g true e = let q = leb-true (from + 4) x e in g x (omega arith) (omega arith)
       go x c d f g false e = let q = leb-false (from + 4) x e in f x c q
 
-  module _ {i : ℕ} (w : Scanned s from to i) where
-    pub scans : {r : Bool} → r ≡ nameFits (take 4 (drop i s) ++ take 4 (drop (i + 4) s)) → r ≡ true → i < to - 8 → Scanned s from to (i + 8)
-    scans e z h =
-        let q = eight-fine s i (i + 4) (omega (arith, w)) (omega (arith, w)) (sym e ∙ z) in
-        record { started = omega (arith, w); within = omega (arith, w); long = w .long; fine = λ x a b. go x a b (q .0) (q .1) (leb i x) refl (leb (i + 4) x) refl }
-      where
-        go : (x : ℕ) → from ≤ x → x < i + 8 → Fine s i (i + 4) → Fine s (i + 4) (i + 4 + 4) → (t : Bool) → leb i x ≡ t → (u : Bool) → leb (i + 4) x ≡ u → Fit (getD s x 0)
-        go x a b f g false e u d = w .fine x a (leb-false i x e)
-        go x a b f g true e true d = g x (leb-true (i + 4) x d) (omega arith)
-        go x a b f g true e false d = f x (leb-true i x e) (leb-false (i + 4) x d)
+-- the next eight bytes
+module _ {s : List ℕ} {from to i : ℕ} (w : Scanned s from to i) where
+  pub scans : {r : Bool} → r ≡ nameFits (take 4 (drop i s) ++ take 4 (drop (i + 4) s)) → r ≡ true → i < to - 8 → Scanned s from to (i + 8)
+  scans e z h =
+      let q = eight-fine s i (i + 4) (omega (arith, w)) (omega (arith, w)) (sym e ∙ z) in
+      record {
+        started = omega (arith, w);
+        within = omega (arith, w);
+        long = w .long;
+        inside = w .inside;
+        fine = λ x a b. go x a b (q .0) (q .1) (leb i x) refl (leb (i + 4) x) refl;
+      }
+    where
+      go : (x : ℕ) → from ≤ x → x < i + 8 → Fine s i (i + 4) → Fine s (i + 4) (i + 4 + 4) → (t : Bool) → leb i x ≡ t → (u : Bool) → leb (i + 4) x ≡ u → Fit (getD s x 0)
+      go x a b f g false e u d = w .fine x a (leb-false i x e)
+      go x a b f g true e true d = g x (leb-true (i + 4) x d) (omega arith)
+      go x a b f g true e false d = f x (leb-true i x e) (leb-false (i + 4) x d)
 
-    pub last-eight : to - 8 ≤ i → nameFits (take 4 (drop (to - 8) s) ++ take 4 (drop (to - 8 + 4) s)) ≡ nameFits (take (to - from) (drop from s))
-    last-eight h =
-        decides (to - 8) (to - 8 + 4) (omega (arith, w .long)) (omega (arith, w .long)) (omega (arith, w .long)) (omega (arith, w .long))
-        (λ f g x a b. go x a b f g (leb i x) refl (leb (to - 4) x) refl)
-      where
-        go : (x : ℕ) → from ≤ x → x < to → Fine s (to - 8) (to - 8 + 4) → Fine s (to - 8 + 4) (to - 8 + 4 + 4) → (t : Bool) → leb i x ≡ t → (u : Bool) → leb (to - 4) x ≡ u → Fit (getD s x 0)
-        go x a b f g false e u d = w .fine x a (leb-false i x e)
-        go x a b f g true e true d = let q = leb-true (to - 4) x d in g x (omega (arith, w .long)) (omega (arith, w .long))
-        go x a b f g true e false d = let p = leb-true i x e in let q = leb-false (to - 4) x d in f x (omega (arith, w .long)) (omega (arith, w .long))
+  pub scan-stops : {r : Bool} → r ≡ nameFits (take 4 (drop i s) ++ take 4 (drop (i + 4) s)) → r ≡ false → i < to - 8
+      → false ≡ nameFits (take (to - from) (drop from s))
+  scan-stops e z h =
+      eight-stops s from to (omega (arith, w .long)) (w .inside) i (i + 4) (w .started) (omega (arith, w .long)) (omega (arith, w .started)) (omega (arith, w .long)) e z
+
+  pub last-eight : to - 8 ≤ i → nameFits (take 4 (drop (to - 8) s) ++ take 4 (drop (to - 8 + 4) s)) ≡ nameFits (take (to - from) (drop from s))
+  last-eight h =
+      decides s from to (omega (arith, w .long)) (w .inside) (to - 8) (to - 8 + 4)
+      (omega (arith, w .long)) (omega (arith, w .long)) (omega (arith, w .long)) (omega (arith, w .long))
+      (λ f g x a b. go x a b f g (leb i x) refl (leb (to - 4) x) refl)
+    where
+      go : (x : ℕ) → from ≤ x → x < to → Fine s (to - 8) (to - 8 + 4) → Fine s (to - 8 + 4) (to - 8 + 4 + 4) → (t : Bool) → leb i x ≡ t → (u : Bool) → leb (to - 4) x ≡ u → Fit (getD s x 0)
+      go x a b f g false e u d = w .fine x a (leb-false i x e)
+      go x a b f g true e true d = let q = leb-true (to - 4) x d in g x (omega (arith, w .long)) (omega (arith, w .long))
+      go x a b f g true e false d = let p = leb-true i x e in let q = leb-false (to - 4) x d in f x (omega (arith, w .long)) (omega (arith, w .long))

@@ -11,9 +11,11 @@ use borrow.Author.Tests.{lt-leb}
 use Rattle.spec.specs.Record.{u16, kind, isClass, bodyFits}
 use Rattle.spec.specs.Sheet.{wholeFirst}
 use Rattle.spec.specs.Refusals.{recordTests}
-use Rattle.pass.specs.Pass.{homeFits, sizeFits, nameAt, nameStart, fixedAt, orderNumber, orElse, headNumber, numberOf, recordAt, place, recordNumber}
-use Rattle.pass.proofs.Whole.{Whole, at-whole, not-whole, length-here, kind-here}
-use Rattle.pass.proofs.Bodies.{kind-fits, length-fits, bodyAt, body-fits}
+use Rattle.pass.specs.Pass.{homeFits, nameAt, nameStart, fixedAt, orderNumber, orElse, headNumber, numberOf, place, recordNumber}
+use Rattle.records.specs.Records.{sizeFits, recordAt}
+use Rattle.pass.proofs.Bodies.{kind-fits, bodyAt, body-fits}
+use Rattle.records.proofs.Whole.{Whole, at-whole, not-whole, length-here, kind-here}
+use Rattle.records.proofs.Sizes.{length-fits}
 
 -- ---- no whole record begins at a byte
 
@@ -32,12 +34,21 @@ abbrev pub full : Bool → ℕ → ℕ → Bool
 full true n k = leb 256 n
 full false n k = leb 255 k
 
-placed : (sheet at n k : ℕ) (r : List ℕ) → n ≤ 256
-    → recordTests (place sheet at n k 0 r) ≡ (3, not (homeFits sheet (kind r))) ∷ (4, not (sizeFits (kind r) (length r))) ∷ (6, not (isClass r || ltb 0 k)) ∷ (5, not (bodyFits sheet r)) ∷ (7, full (isClass r) n k) ∷ []
+-- by the code's tables
+abbrev inOrder : ℕ → ℕ → ℕ → List ℕ → List (ℕ × Bool)
+inOrder sheet n k r =
+    (3, not (homeFits sheet (kind r)))
+    ∷ (4, not (sizeFits (kind r) (length r)))
+    ∷ (6, not (isClass r || ltb 0 k))
+    ∷ (5, not (bodyFits sheet r))
+    ∷ (7, full (isClass r) n k)
+    ∷ []
+
+placed : (sheet at n k : ℕ) (r : List ℕ) → n ≤ 256 → recordTests (place sheet at n k 0 r) ≡ inOrder sheet n k r
 unfolding recordTests place
 placed sheet at n k r h = go (isClass r) refl
   where
-    go : (b : Bool) → isClass r ≡ b → recordTests (place sheet at n k 0 r) ≡ (3, not (homeFits sheet (kind r))) ∷ (4, not (sizeFits (kind r) (length r))) ∷ (6, not (isClass r || ltb 0 k)) ∷ (5, not (bodyFits sheet r)) ∷ (7, full (isClass r) n k) ∷ []
+    go : (b : Bool) → isClass r ≡ b → recordTests (place sheet at n k 0 r) ≡ inOrder sheet n k r
     go true e = rw (e, place, kind-fits sheet r, length-fits r, or-false (leb 256 n))
     go false e = rw (e, place, kind-fits sheet r, length-fits r, lt-leb 256 (n - 1) (omega arith))
 
@@ -84,9 +95,11 @@ unfolding recordNumber recordAt orderNumber kind
 whole-number sheet s at n k w h =
     let r = recordAt s at in
     let ek = kind-here w in
+    let len : ℕ = u16 s at in
+    let code : ℕ = u16 s (at + 2) in
     rw (at-whole w, recordNumber, placed sheet at n k r h, length-here w, ek)
-    (decided (homeFits sheet (u16 s (at + 2))) (sizeFits (u16 s (at + 2)) (u16 s at)) (eqb (u16 s (at + 2)) 1 || ltb 0 k) (bodyFits sheet r) (bodyAt sheet s at (u16 s at) (u16 s (at + 2))) (full (eqb (u16 s (at + 2)) 1) n k)
-    (λ e. rw ek at (body-fits sheet s at (u16 s at) (rw ek e))))
+    (decided (homeFits sheet code) (sizeFits code len) (eqb code 1 || ltb 0 k) (bodyFits sheet r) (bodyAt sheet s at len code) (full (eqb code 1) n k)
+    (λ e. rw ek at (body-fits sheet s at len (rw ek e))))
 
 -- ---- the tests before the name
 

@@ -85,5 +85,7 @@ pub place-refuses : (tests : Located → List (ℕ × Bool)) (sheet at n k b : �
     → answer tests (place sheet at n k b r) ≡ refuseIf (not (eqb (numberOf (tests (place sheet at n k b r))) 0)) (numberOf (tests (place sheet at n k b r))) sheet at
 unfolding answer
 place-refuses tests sheet at n k b r h =
-    let m : ℕ = numberOf (tests (place sheet at n k b r)) in
-    number-refuses (place sheet at n k b r) (tests (place sheet at n k b r)) h ∙ by-place sheet at n k b r (λ l. refuseIf (not (eqb m 0)) m (l .sheet) (l .byte) ≡ refuseIf (not (eqb m 0)) m sheet at) refl refl
+    let p : Located = place sheet at n k b r in
+    let m : ℕ = numberOf (tests p) in
+    number-refuses p (tests p) h
+    ∙ by-place sheet at n k b r (λ l. refuseIf (not (eqb m 0)) m (l .sheet) (l .byte) ≡ refuseIf (not (eqb m 0)) m sheet at) refl refl

@@ -11,9 +11,10 @@ use Rattle.spec.specs.Record.{u16, kind, isClass}
 use Rattle.spec.specs.Sheet.{wholeFirst, recordsOf, Located, locate}
 use Rattle.theory.proofs.Answers.{keep-head, first-only}
 use Rattle.theory.proofs.Cut.{records-stop}
-use Rattle.pass.specs.Pass.{recordAt, place}
+use Rattle.pass.specs.Pass.{place}
 use Rattle.pass.proofs.Places.{classesAfter, recordsAfter, locate-cons}
-use Rattle.pass.proofs.Whole.{Whole, records-here, length-here, class-here, other-here}
+use Rattle.records.specs.Records.{recordAt}
+use Rattle.records.proofs.Whole.{Whole, records-here, length-here, class-here, other-here}
 
 -- the first answer along the records from byte `at` on, after n classes, and k records of the open group whose last has kind b
 unfoldable pub rest : {A : Type 0} → (Located → Option A) → ℕ → List ℕ → ℕ → ℕ → ℕ → ℕ → Option A

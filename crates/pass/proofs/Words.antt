@@ -152,45 +152,58 @@ pub four-joined : (s : List ℕ) (i : ℕ) → i + 4 ≤ length s → {a b c d :
 unfolding joined
 four-joined s i h ea eb ec ed = rw (four-is s i h, ea, eb, ec, ed) (omega arith)
 
-module _ (s : List ℕ) (i j : ℕ) (hi : i + 4 ≤ length s) (hj : j + 4 ≤ length s) (byte : (x : ℕ) → getD s x 0 < 256) where
+-- a and b are the numbers that the four bytes at i and the four at j make
+pub record Eight (s : List ℕ) (i j a b : ℕ) : Type 0 where
+  pub first-inside : i + 4 ≤ length s
+  pub second-inside : j + 4 ≤ length s
+  pub byte : (x : ℕ) → getD s x 0 < 256
+  pub first-is : a ≡ joined (take 4 (drop i s))
+  pub second-is : b ≡ joined (take 4 (drop j s))
+
+-- in each of eight bytes: the highest bit
+abbrev highs : ℕ
+highs = 9259542123273814144
+
+module _ {s : List ℕ} {i j a b : ℕ} (w : Eight s i j a b) where
   -- the eight bytes
   abbrev both : List ℕ
   both = take 4 (drop i s) ++ take 4 (drop j s)
 
-  both-joined : joined (take 4 (drop i s)) + 4294967296 * joined (take 4 (drop j s)) ≡ joined both
+  word : a + 4294967296 * b ≡ joined both
   unfolding joined
-  both-joined = rw (four-is s i hi, four-is s j hj) (omega arith)
+  word = rw (w .first-is, w .second-is, four-is s i (w .first-inside), four-is s j (w .second-inside)) (omega arith)
 
   both-filling : (m : ℕ) → filling m both ≡ m * 72340172838076673
   unfolding joined
-  both-filling m = rw (four-is s i hi, four-is s j hj) (omega arith)
+  both-filling m = rw (four-is s i (w .first-inside), four-is s j (w .second-inside)) (omega arith)
 
   both-bytes : All (λ b. b < 256) both
-  both-bytes = rw (four-is s i hi, four-is s j hj) (byte _, (byte _, (byte _, (byte _, (byte _, (byte _, (byte _, (byte _, tt))))))))
+  both-bytes =
+      let byte = w .byte in
+      rw (four-is s i (w .first-inside), four-is s j (w .second-inside)) (byte _, (byte _, (byte _, (byte _, (byte _, (byte _, (byte _, (byte _, tt))))))))
 
-  module _ {a b : ℕ} (ea : a ≡ joined (take 4 (drop i s))) (eb : b ≡ joined (take 4 (drop j s))) where
-    word : a + 4294967296 * b ≡ joined both
-    word = rw (ea, eb) both-joined
+  -- a byte over 127
+  pub over : (bitAnd (a + 4294967296 * b) highs ≡ 0 → ⊥) → false ≡ nameFits both
+  over n = unfit both (λ h. n (rw (word, ← both-filling 128) (fit-first both h)))
 
-    -- a byte over 127
-    pub over : (bitAnd (a + 4294967296 * b) 9259542123273814144 ≡ 0 → ⊥) → false ≡ nameFits both
-    over n = unfit both (λ h. n (rw (word, ← both-filling 128) (fit-first both h)))
+  -- a byte under 33
+  pub under : (bitAnd (11574427654092267680 - (a + 4294967296 * b)) highs ≡ 0 → ⊥) → false ≡ nameFits both
+  under n = unfit both (λ h. n (rw (word, ← both-filling 128, ← both-filling 160) (fit-third both h)))
 
-    -- a byte under 33
-    pub under : (bitAnd (11574427654092267680 - (a + 4294967296 * b)) 9259542123273814144 ≡ 0 → ⊥) → false ≡ nameFits both
-    under n = unfit both (λ h. n (rw (word, ← both-filling 128, ← both-filling 160) (fit-third both h)))
+  -- a byte of 127
+  pub last : (bitAnd (a + 4294967296 * b + 72340172838076673) highs ≡ 0 → ⊥) → false ≡ nameFits both
+  last n = unfit both (λ h. n (rw (word, ← both-filling 128, ← both-filling 1) (fit-second both h)))
 
-    -- a byte of 127
-    pub last : (bitAnd (a + 4294967296 * b + 72340172838076673) 9259542123273814144 ≡ 0 → ⊥) → false ≡ nameFits both
-    last n = unfit both (λ h. n (rw (word, ← both-filling 128, ← both-filling 1) (fit-second both h)))
+  module _ (z : bitAnd (a + 4294967296 * b) highs ≡ 0) where
+    zero-tops : bitAnd (joined both) (filling 128 both) ≡ 0
+    zero-tops = rw (← word, both-filling 128) z
 
-    module _ (z : bitAnd (a + 4294967296 * b) 9259542123273814144 ≡ 0) where
-      zero-tops : bitAnd (joined both) (filling 128 both) ≡ 0
-      zero-tops = rw (← word, both-filling 128) z
+    -- so no sum or difference leaves the word
+    pub small : a + 4294967296 * b ≤ 9187201950435737471
+    small = omega (arith, word, fall both both-bytes zero-tops, both-filling 127)
 
-      -- so no sum or difference leaves the word
-      pub small : a + 4294967296 * b ≤ 9187201950435737471
-      small = omega (arith, word, fall both both-bytes zero-tops, both-filling 127)
-
-      pub all-pass : bitAnd (a + 4294967296 * b + 72340172838076673) 9259542123273814144 ≡ 0 → bitAnd (11574427654092267680 - (a + 4294967296 * b)) 9259542123273814144 ≡ 0 → true ≡ nameFits both
-      all-pass y x = passes both both-bytes zero-tops (rw (← word, both-filling 1, both-filling 128) y) (rw (← word, both-filling 160, both-filling 128) x)
+    pub all-pass : bitAnd (a + 4294967296 * b + 72340172838076673) highs ≡ 0
+        → bitAnd (11574427654092267680 - (a + 4294967296 * b)) highs ≡ 0
+        → true ≡ nameFits both
+    all-pass y x =
+        passes both both-bytes zero-tops (rw (← word, both-filling 1, both-filling 128) y) (rw (← word, both-filling 160, both-filling 128) x)

@@ -5,12 +5,13 @@ use mathlib.Core.Bool.{Bool, true, false, _&&_, _||_}
 use mathlib.Core.List.{List, [], _∷_}
 use mathlib.Core.Option.{Option, none, some}
 use Prim.Native.Nat.{ℕ, zero, suc, _+_, _-_, _*_}
-use lib.Dec.{eqb, leb, ltb}
+use lib.Dec.{eqb, ltb}
 use lib.ListN.{length, getD, take, drop, set}
 use Rattle.spec.specs.Lists.{firstOf}
 use Rattle.spec.specs.Record.{u8, u16, isClass, kind, nameFits, tyFits, tyAt, classFlagsFit}
 use Rattle.spec.specs.Sheet.{wholeFirst, recordsOf, Located}
 use Rattle.spec.specs.Refusals.{Refusal, recordTests, recordRefusal, tornRefusal}
+use Rattle.records.specs.Records.{sizeFits, recordAt}
 use Rattle.pass.specs.declared.Pass.{Pass}
 use Rattle.pass.specs.declared.Pass.the-variants.{Fine, Refused}
 
@@ -24,20 +25,6 @@ joined (b ∷ bs) = joined bs * 256 + b
 -- the sheet may have the kind
 unfoldable pub homeFits : ℕ → ℕ → Bool
 homeFits sheet k = getD (false ∷ true ∷ true ∷ eqb sheet 1 ∷ eqb sheet 1 ∷ eqb sheet 1 ∷ eqb sheet 1 ∷ eqb sheet 0 ∷ eqb sheet 1 ∷ []) k false
-
--- a record of the kind may have the length
-unfoldable pub sizeFits : ℕ → ℕ → Bool
-sizeFits k n = getD
-    (false
-    ∷ (leb 13 n && leb n 112)
-    ∷ eqb n 6
-    ∷ (leb 11 n && leb n 110)
-    ∷ (leb 9 n && leb n 108)
-    ∷ eqb n 8
-    ∷ eqb n 6
-    ∷ (leb 7 n && leb n 106)
-    ∷ eqb n 8
-    ∷ []) k false
 
 -- the name bytes of a record at `at` with length n, after its first j bytes
 unfoldable pub nameAt : List ℕ → ℕ → ℕ → ℕ → Bool
@@ -84,10 +71,6 @@ headNumber sheet s at kind n k = orElse (orderNumber sheet kind n k) (elim (fixe
 unfoldable pub numberOf : List (ℕ × Bool) → ℕ
 numberOf [] = 0
 numberOf (t ∷ ts) = elim (t .1) [ true ↦ t .0 | false ↦ numberOf ts ]
-
--- the record that begins at a byte
-unfoldable pub recordAt : List ℕ → ℕ → List ℕ
-recordAt s at = take (u16 s at) (drop at s)
 
 -- a record of sheet `sheet` at a byte, after n classes, and k records of the open group whose last has kind b
 unfoldable pub place : ℕ → ℕ → ℕ → ℕ → ℕ → List ℕ → Located

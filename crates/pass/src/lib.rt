@@ -1,6 +1,6 @@
 // The first pass over a sheet, or over whole groups of one: each record by itself, refusals 2 to 7. On the way it fills the row of the bytes where the
 // groups begin.
-use view::word_in;
+use records::word_in;
 ghost use mathlib.Core.Path.{_≡_};
 ghost use mathlib.Core.Bool.{true};
 ghost use mathlib.Core.List.{_++_};
@@ -8,7 +8,8 @@ ghost use Prim.Native.Nat.{_+_, _-_, _≤_, _<_};
 ghost use lib.ListN.{length, take, drop};
 ghost use Rattle.spec.specs.Record.{u16, nameFits, tyFits, tyAt, classFlagsFit};
 ghost use Rattle.spec.specs.Sheet.{classCount};
-ghost use Rattle.pass.specs.Pass.{joined, homeFits, sizeFits, nameStart, fixedAt, orderNumber, headNumber, recordNumber, passRefusal, shifted, passOf, Filled};
+ghost use Rattle.pass.specs.Pass.{joined, homeFits, nameStart, fixedAt, orderNumber, headNumber, recordNumber, passRefusal, shifted, passOf, Filled};
+ghost use Rattle.records.specs.Records.{sizeFits};
 
 // The number of classes counted so far, or the refusal's number and byte.
 pub enum Pass {

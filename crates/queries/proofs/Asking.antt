@@ -4,7 +4,8 @@ use mathlib.Core.Path.{_≡_, refl, sym, ap, _∙_, subst}
 use mathlib.Core.Bool.{Bool, true, false, not, _||_}
 use mathlib.Core.List.{List, [], map}
 use mathlib.Core.Option.{Option, none, some}
-use Prim.Native.Nat.{ℕ, _≤_}
+use Prim.Native.Nat.{ℕ, _-_, _≤_}
+use native.Mathlib.Nat.{sub-zero}
 use native.Mathlib.Omega.{arith}
 use native.Mathlib.Decide.{ℕ-discrete}
 use lib.Dec.{T, eqb, leb, ltb, nltb→le}
@@ -12,7 +13,7 @@ use lib.ListN.{length, take, length-take}
 use borrow.Author.Tests.{eq-eqb, le-leb, lt-leb}
 use Rattle.spec.specs.Lists.{span}
 use Rattle.spec.specs.Sheet.{classCount, total, group}
-use Rattle.spec.specs.Refusals.{Refusal, refuseIf, refusePlain, sizeRefusal, formRefusal, sheetRefusal, presentRefusal, unusedRefusal, queryRefusal}
+use Rattle.spec.specs.Refusals.{Refusal as Reason, refuseIf, refusePlain, sizeRefusal, formRefusal, sheetRefusal, presentRefusal, unusedRefusal, queryRefusal}
 use Rattle.spec.specs.Promises.{refused, accepted, answerOf}
 use Rattle.theory.proofs.Bools.{not-or-l, not-or-r}
 use Rattle.theory.proofs.Rows.{length-values, getD-values}
@@ -21,16 +22,19 @@ use Rattle.theory.proofs.Accept.{sound}
 use Rattle.theory.proofs.Falls.{Falls, falls}
 use Rattle.view.specs.View.{Fits}
 use Rattle.view.proofs.Splice.{plain-fits}
+use Rattle.groups.specs.declared.Classes.{Classes}
 use Rattle.groups.specs.Groups.{Indexed, startOf}
 use Rattle.overlay.specs.Memo.{memoOf}
+use Rattle.form.specs.Form.{refusalOf}
+use Rattle.form.specs.declared.Refusal.{Refusal}
 use Rattle.form.specs.declared.Checked.{Checked}
 use Rattle.form.specs.declared.Checked.the-variants.{Fine, Refused}
 use Rattle.form.proofs.Accepting.{ready-memo, Presents, fine-none, refused-is}
 
 -- ---- answers
 
-module _ {A : Type 0} {o : Option Refusal} where
-  pub answer-refused : (a : A) {r : Refusal} → o ≡ some r → refused r ≡ answerOf o a
+module _ {A : Type 0} {o : Option Reason} where
+  pub answer-refused : (a : A) {r : Reason} → o ≡ some r → refused r ≡ answerOf o a
   unfolding answerOf
   answer-refused a e = rw e
 
@@ -39,12 +43,12 @@ module _ {A : Type 0} {o : Option Refusal} where
   answer-fine a e = rw e
 
 -- what an answer tells of the refusal and of the value
-pub told-fine : {A : Type 0} (o : Option Refusal) (a : A) {b : A} → accepted b ≡ answerOf o a → (o ≡ none) × (b ≡ a)
+pub told-fine : {A : Type 0} (o : Option Reason) (a : A) {b : A} → accepted b ≡ answerOf o a → (o ≡ none) × (b ≡ a)
 unfolding answerOf
 told-fine none a e = (refl, cc)
 told-fine (some r) a e = absurd (let z : _≡_ {A = ℕ} 0 1 = cc in omega arith)
 
-pub told-refused : {A : Type 0} (o : Option Refusal) (a : A) {r : Refusal} → refused r ≡ answerOf o a → o ≡ some r
+pub told-refused : {A : Type 0} (o : Option Reason) (a : A) {r : Reason} → refused r ≡ answerOf o a → o ≡ some r
 unfolding answerOf
 told-refused none a e = absurd (let z : _≡_ {A = ℕ} 0 1 = cc in omega arith)
 told-refused (some r) a e = cc
@@ -99,21 +103,21 @@ module _ (library user : List ℕ) (used : ℕ) (e : presentRefusal library user
 -- ---- accepted sheets, as the program holds them
 
 module _ (library user : List ℕ) (used : ℕ) {p : Checked} {row memo : List ℕ} (a : Presents library user used p row memo) where
-  pub present-refused : {number sheet byte : ℕ} → p ≡ Refused number sheet byte → presentRefusal library user used ≡ some (record { number = number; sheet = sheet; byte = byte })
+  pub present-refused : {r : Refusal} → p ≡ Refused r → presentRefusal library user used ≡ some (refusalOf r)
   present-refused f = refused-is (presentRefusal library user used) _ _ (sym f ∙ a .0)
 
-  module _ {nlib n : ℕ} (f : p ≡ Fine nlib n) where
-    pub told : (presentRefusal library user used ≡ none) × ((nlib ≡ classCount library) × (n ≡ total library (take used user)))
+  module _ {k : Classes} (f : p ≡ Fine k) where
+    pub told : (presentRefusal library user used ≡ none) × ((k .library ≡ classCount library) × (k .all ≡ total library (take used user)))
     told = fine-none (presentRefusal library user used) (sym f ∙ a .0)
 
     pub fits : Fits (record { from = used; to = used; used = used }) user []
     fits = plain-fits user used (used-there library user used (told .0))
 
     module _ {s : List ℕ} (q : s ≡ take used user) where
-      pub indexed : Indexed library s nlib n row
+      pub indexed : Indexed library s (k .library) (k .all) row
       indexed = rw (q, told .1 .0, told .1 .1) (a .1 .indexed (told .0))
 
-      pub memo-is : memo ≡ memoOf (group library s) nlib
+      pub memo-is : memo ≡ memoOf (group library s) (k .library)
       memo-is = rw (q, told .1 .0) (ready-memo (a .1) (told .0))
 
       pub form-fine : formRefusal library s ≡ none
@@ -124,23 +128,27 @@ module _ (library user : List ℕ) (used : ℕ) {p : Checked} {row memo : List �
       lower-numbers =
           rw q (falls (classCount library) (total library (take used user)) (group library (take used user)) (sound library (take used user) (sheet-fine library user used (told .0)) .fits))
 
+-- the used bytes, as a part of the buffer
+pub used-part : (user : List ℕ) (used : ℕ) → take (used - 0) user ≡ take used user
+used-part user used = ap (λ (k : ℕ). take k user) (sub-zero used)
+
 -- ---- a class of them
 
 module _ (library user : List ℕ) (used c : ℕ) {p : Checked} {row memo : List ℕ} (a : Presents library user used p row memo) where
   -- the sheets are refused
-  pub sheets-refused : {number sheet byte : ℕ} → p ≡ Refused number sheet byte → queryRefusal library user used c ≡ some (record { number = number; sheet = sheet; byte = byte })
+  pub sheets-refused : {r : Refusal} → p ≡ Refused r → queryRefusal library user used c ≡ some (refusalOf r)
   unfolding queryRefusal
   sheets-refused f = first-some _ (present-refused library user used a f)
 
-  module _ {nlib n : ℕ} (f : p ≡ Fine nlib n) where
+  module _ {k : Classes} (f : p ≡ Fine k) where
     unused : (b : Bool) → leb (total library (take used user)) c ≡ b → queryRefusal library user used c ≡ refusePlain b 13
     unfolding queryRefusal unusedRefusal
     unused b e = first-past _ _ (told library user used a f .0) ∙ ap (λ (x : Bool). refusePlain x 13) e
 
-    pub class-unused : n ≤ c → queryRefusal library user used c ≡ some (record { number = 13; sheet = 0; byte = 0 })
+    pub class-unused : k .all ≤ c → queryRefusal library user used c ≡ some (record { number = 13; sheet = 0; byte = 0 })
     unfolding refusePlain refuseIf
     class-unused h = unused true (le-leb (total library (take used user)) c (omega (arith, told library user used a f .1 .1)))
 
-    pub class-used : (n ≤ c → ⊥) → queryRefusal library user used c ≡ none
+    pub class-used : (k .all ≤ c → ⊥) → queryRefusal library user used c ≡ none
     unfolding refusePlain refuseIf
     class-used h = unused false (lt-leb (total library (take used user)) c (omega (arith, told library user used a f .1 .1)))

@@ -17,7 +17,8 @@ use Rattle.theory.specs.Claims.{sheetOf}
 use Rattle.theory.proofs.Bools.{t-false}
 use Rattle.theory.proofs.Answers.{first-none, if-none}
 use Rattle.groups.specs.Groups.{Indexed, sheetNumber, startOf}
-use Rattle.groups.proofs.Classes.{library-sheet, user-sheet, size-read, class-room, class-long, end-small, group-tiled}
+use Rattle.groups.proofs.Held.{library-sheet, user-sheet, size-read, class-room, class-long, end-small, group-tiled}
+use Rattle.form.specs.declared.Refusal.{Refusal}
 use Rattle.queries.specs.Answers.{placedAnswer}
 use Rattle.queries.specs.declared.Placed.{Placed}
 use Rattle.queries.specs.declared.Placed.the-variants.{At, Refused}
@@ -62,7 +63,7 @@ module _ {library user : List ℕ} {nlib n : ℕ} {row : List ℕ} (x : Indexed 
 
 module _ (library user : List ℕ) (used c : ℕ) {p : Placed} (e : Places library user used c (placedAnswer p)) where
   -- the place is refused
-  pub no-name : {number sheet byte : ℕ} → p ≡ Refused number sheet byte → Names library user used c []
+  pub no-name : {r : Refusal} → p ≡ Refused r → Names library user used c []
   unfolding afterwards bytesAt
   no-name f = record { answered = rw (told-refused (queryRefusal library user used c) _ (ap placedAnswer (sym f) ∙ e .answered)) }
 
@@ -89,7 +90,8 @@ module _ (library user : List ℕ) (used c : ℕ) {p : Placed} (e : Places libra
     user-within z = omega (arith, subst (λ (s : List ℕ). start + size ≤ length s) (user-sheet library (take used user) sheet z) within, length-take used user)
 
     -- the bytes between start and start + size
-    bytes-are : {s : List ℕ} → s ≡ sheetOf library user sheet → take (start + size - start) (drop start s) ≡ bytesAt library user (afterwards (queryRefusal library user used c) noPart (namePart library (take used user) c))
+    bytes-are : {s : List ℕ} → s ≡ sheetOf library user sheet
+        → take (start + size - start) (drop start s) ≡ bytesAt library user (afterwards (queryRefusal library user used c) noPart (namePart library (take used user) c))
     unfolding afterwards bytesAt
     bytes-are {s} q =
         let n : start + size - start ≡ size = omega arith in

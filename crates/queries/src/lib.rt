@@ -1,24 +1,37 @@
 // What is asked of one class: its overlay markers and its name.
 use form::Checked;
+pub use form::Refusal;
 use form::present;
 use groups::class_word;
-use groups::group_start;
 use groups::sheet_of;
 use overlay::overlay_in_turn;
-use view::Cut;
+use records::wide;
+ghost use mathlib.Core.Path.{_≡_};
 ghost use Rattle.spec.specs.Promises.{Marks, Places, Names};
-ghost use Rattle.queries.specs.Answers.{markedAnswer, placedAnswer};
+ghost use Rattle.form.specs.Form.{refusalOf};
+ghost use Rattle.queries.specs.Answers.{noClass, markedAnswer, placedAnswer};
 
-// The overlay markers of a class, or the refusal: number, sheet, byte.
+// The overlay markers of a class, or the refusal.
 pub enum Marked {
     Fine(u8),
-    Refused(u8, u8, usize),
+    Refused(Refusal),
 }
 
-// Where a name stands: sheet (0 library, 1 user), start and length; or the refusal: number, sheet, byte.
+// Where a name stands: sheet (0 library, 1 user), start and length; or the refusal.
 pub enum Placed {
     At(u8, usize, usize),
-    Refused(u8, u8, usize),
+    Refused(Refusal),
+}
+
+// 13: the class is not there.
+fn no_class() -> Refusal
+    ensures { λ r. ⌜ refusalOf r ≡ noClass ⌝ }
+{
+    Refusal {
+        number: 13,
+        sheet: 0,
+        byte: 0,
+    }
 }
 
 // The overlay markers of a class of either sheet; `used` bytes of the user buffer are its sheet.
@@ -29,27 +42,13 @@ pub fn marks<'a>(library: &'a [u8], user: &'a [u8], used: usize, class: usize) -
     let mut memo = [65535u16; 256];
     let checked = present(library, user, used, &mut starts, &mut memo);
     match checked {
-        Checked::Refused(number, sheet, byte) => Marked::Refused(number, sheet, byte),
-        Checked::Fine(nlib, n) => {
-            if n <= class {
-                return Marked::Refused(13, 0, 0);
+        Checked::Refused(refusal) => Marked::Refused(refusal),
+        Checked::Fine(classes) => {
+            if classes.all <= class {
+                return Marked::Refused(no_class());
             }
-            let cut = Cut {
-                from: used,
-                to: used,
-                used: used,
-            };
-            let set = overlay_in_turn(
-                library,
-                user,
-                &library[0..0],
-                cut,
-                &starts,
-                nlib,
-                n,
-                class,
-                &mut memo,
-            );
+            let sheet = &user[0..used];
+            let set = overlay_in_turn(library, sheet, &starts, classes, class, &mut memo);
             Marked::Fine(set)
         }
     }
@@ -63,21 +62,15 @@ pub fn name_place<'a>(library: &'a [u8], user: &'a [u8], used: usize, class: usi
     let mut memo = [65535u16; 256];
     let checked = present(library, user, used, &mut starts, &mut memo);
     match checked {
-        Checked::Refused(number, sheet, byte) => Placed::Refused(number, sheet, byte),
-        Checked::Fine(nlib, n) => {
-            if n <= class {
-                return Placed::Refused(13, 0, 0);
+        Checked::Refused(refusal) => Placed::Refused(refusal),
+        Checked::Fine(classes) => {
+            if classes.all <= class {
+                return Placed::Refused(no_class());
             }
-            let cut = Cut {
-                from: used,
-                to: used,
-                used: used,
-            };
-            let none = &library[0..0];
-            let sheet = sheet_of(nlib, class);
-            let at = group_start(library, user, none, cut, &starts, nlib, n, class);
-            let len = class_word(library, user, none, cut, &starts, nlib, n, class, 0);
-            Placed::At(sheet, at + 12, len as usize - 12)
+            let sheet = sheet_of(classes.library, class);
+            let at = wide(starts[class]);
+            let len = class_word(library, &user[0..used], &starts, classes, class, 0);
+            Placed::At(sheet, at + 12, wide(len) - 12)
         }
     }
 }

@@ -176,9 +176,11 @@ module _ (library user : List ℕ) (ok : formRefusal library user ≡ none) (few
             let k : 256 + (i - 256) ≡ i = omega arith in
             let j : length (map mark (span 0 256)) + (i - 256) ≡ i = omega (arith, length-values mark 256) in
             unclassed i (omega arith) ∙ getD-set-other row d i 0 255 (λ z. omega arith) ∙ f .kept i l
-            ∙ sym (ap (λ (m : ℕ). getD (map mark (span 0 256) ++ drop 256 before) m 255) (sym j) ∙ getD-append-add (map mark (span 0 256)) (drop 256 before) (i - 256) 255 ∙ getD-drop 256 before (i - 256) 255 ∙ ap (λ (m : ℕ). getD before m 255) k)
+            ∙ sym (ap (λ (m : ℕ). getD (map mark (span 0 256) ++ drop 256 before) m 255) (sym j) ∙ getD-append-add (map mark (span 0 256)) (drop 256 before) (i - 256) 255
+            ∙ getD-drop 256 before (i - 256) 255 ∙ ap (λ (m : ℕ). getD before m 255) k)
 
-pub found : {library user : List ℕ} {nlib n : ℕ} {starts : List ℕ} → Indexed library user nlib n starts → formRefusal library user ≡ none → {before row s : List ℕ} {d : ℕ} → Emptied 256 before row → d < n → 256 ≤ length before
+pub found : {library user : List ℕ} {nlib n : ℕ} {starts : List ℕ} → Indexed library user nlib n starts → formRefusal library user ≡ none → {before row s : List ℕ} {d : ℕ} → Emptied 256 before row
+    → d < n → 256 ≤ length before
     → Least (stepsOf (group library user) false) (outerOf (group library user)) n 1 (set row d 0) s → length s ≡ length before → s ≡ dependentRow library user d before
 found {library} {user} {n = n} x ok {before} {row} {s} {d} f h long l e =
     depending library user ok (omega (arith, x .few, x .n-is)) f (omega (arith, x .n-is)) long

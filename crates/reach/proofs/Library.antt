@@ -13,7 +13,7 @@ use Rattle.theory.proofs.Accept.{Passed, by-class}
 use Rattle.theory.proofs.Refused.{Among, locate-among}
 use Rattle.theory.proofs.References.{by-kind}
 use Rattle.groups.specs.Groups.{Indexed}
-use Rattle.groups.proofs.Classes.{in-library}
+use Rattle.groups.proofs.Held.{in-library}
 
 module _ {library user : List ℕ} {nlib n : ℕ} {starts : List ℕ} (x : Indexed library user nlib n starts) {m : ℕ} (h : m < nlib) where
   -- each record is of a kind that the library sheet may have

@@ -11,11 +11,10 @@ use Rattle.spec.specs.Lists.{gather}
 use Rattle.spec.specs.Record.{u16, isKind, BUILDS, encloser, target}
 use Rattle.spec.specs.Sheet.{Group, classRecord, ofKind}
 use Rattle.theory.proofs.Members.{gather-mem, mem-keep, only-mem}
-use Rattle.pass.specs.Pass.{recordAt}
-use Rattle.groups.specs.Groups.{between, nthByte, AtRecord, Carries}
-use Rattle.groups.proofs.Between.{tiled-end}
-use Rattle.groups.proofs.Walks.{walk-here, walk-next}
-use Rattle.groups.proofs.Nth.{nth-record}
+use Rattle.records.specs.Records.{recordAt, between, nthByte, AtRecord, Carries}
+use Rattle.records.proofs.Between.{tiled-end}
+use Rattle.records.proofs.Walks.{walk-here, walk-next}
+use Rattle.records.proofs.Nth.{nth-record}
 use Rattle.named.specs.Named.{firstNamed, secondNamed, namedBy}
 use Rattle.lanes.specs.Lanes.{Settled, Run, SettledAt, Enclosers, eitherOf}
 use Rattle.lanes.proofs.Rows.{getD-any}
@@ -128,7 +127,8 @@ module _ {bytes marks : List ℕ} {builds : Bool} {n lanes m : ℕ} {row₀ row 
 -- ---- a class
 
 -- the bytes are those of class m
-pub scanned : (g : ℕ → Group) {builds : Bool} {n lanes m : ℕ} {bytes marks row₀ row : List ℕ} {a : ℕ} → Scanned bytes marks builds n lanes m row₀ row a → Carries bytes (g m) → Enclosers (outerOf g) m marks
+pub scanned : (g : ℕ → Group) {builds : Bool} {n lanes m : ℕ} {bytes marks row₀ row : List ℕ} {a : ℕ} → Scanned bytes marks builds n lanes m row₀ row a → Carries bytes (g m)
+    → Enclosers (outerOf g) m marks
     → Run (stepsOf g builds) (outerOf g) n lanes (SettledAt (stepsOf g builds) (outerOf g) n lanes m) row₀ row a
 scanned g {builds} f w right = f .run (stepsOf g builds) (outerOf g) (ap (namedIn builds) (sym (w .records))) right
 

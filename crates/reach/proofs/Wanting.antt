@@ -12,10 +12,9 @@ use borrow.Author.Tests.{not-true}
 use Rattle.spec.specs.Record.{u16}
 use Rattle.spec.specs.Sheet.{Group}
 use Rattle.theory.proofs.Bools.{true-t}
-use Rattle.pass.specs.Pass.{recordAt}
-use Rattle.groups.specs.Groups.{between, AtRecord, Carries}
-use Rattle.groups.proofs.Between.{tiled-end}
-use Rattle.groups.proofs.Walks.{walk-here, walk-next}
+use Rattle.records.specs.Records.{recordAt, between, AtRecord, Carries}
+use Rattle.records.proofs.Between.{tiled-end}
+use Rattle.records.proofs.Walks.{walk-here, walk-next}
 use Rattle.named.specs.Named.{firstNamed, secondNamed}
 use Rattle.lanes.specs.Lanes.{entryAt, Settled, Run, SettledAt}
 use Rattle.lanes.proofs.Rows.{getD-any}
@@ -70,7 +69,8 @@ pub record WantsAt (bytes : List ℕ) (builds : Bool) (n lanes m : ℕ) (row : L
 pub wants-start : {bytes : List ℕ} {builds : Bool} {n lanes m : ℕ} {row : List ℕ} → AtRecord bytes (length bytes) 0 → WantsAt bytes builds n lanes m row 0
 wants-start p = record { place = p; rest = λ c. c }
 
-both-content : {row : List ℕ} {n lanes m t u : ℕ} {ts : List ℕ} → Content row n lanes m (t ∷ []) false → Content row n lanes m (u ∷ []) false → Content row n lanes m ts false → Content row n lanes m (t ∷ u ∷ ts) false
+both-content : {row : List ℕ} {n lanes m t u : ℕ} {ts : List ℕ} → Content row n lanes m (t ∷ []) false → Content row n lanes m (u ∷ []) false → Content row n lanes m ts false
+    → Content row n lanes m (t ∷ u ∷ ts) false
 both-content {row} {n} {lanes} {m} {t} {u} {ts} a b c = record { is = λ e s w. go s (List·Memᴰ·cases-cons w) }
   where
     more : (s : ℕ) → (s ≡ u) ⊎ List·Memᴰ s ts → s < n → (k : ℕ) → k < lanes → entryAt row k m ≤ entryAt row k s
@@ -97,7 +97,8 @@ module _ {bytes : List ℕ} {builds : Bool} {n lanes m : ℕ} {row : List ℕ} {
       })
 
   pub wants-end : length bytes ≤ at → Content row n lanes m (namedIn builds (between bytes 0 (length bytes))) false
-  wants-end h = f .rest (subst (λ (ts : List ℕ). Content row n lanes m ts false) (sym (ap (namedIn builds) (tiled-end bytes at (length bytes) h) ∙ named-nil builds)) (record { is = λ e t w. absurd (List·Memᴰ·not-nil w) }))
+  wants-end h = f .rest (subst (λ (ts : List ℕ). Content row n lanes m ts false) (sym (ap (namedIn builds) (tiled-end bytes at (length bytes) h) ∙ named-nil builds))
+      (record { is = λ e t w. absurd (List·Memᴰ·not-nil w) }))
 
 -- ---- a class that wants nothing
 

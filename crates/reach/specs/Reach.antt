@@ -9,7 +9,7 @@ use Rattle.spec.specs.Lists.{gather, span}
 use Rattle.spec.specs.Record.{encloser}
 use Rattle.spec.specs.Sheet.{Group, classRecord}
 use Rattle.spec.specs.Verdicts.{dependsOn}
-use Rattle.groups.specs.Groups.{between}
+use Rattle.records.specs.Records.{between}
 use Rattle.named.specs.Named.{firstNamed, secondNamed}
 use Rattle.lanes.specs.Lanes.{entryAt, Run, SettledAt, Enclosers}
 

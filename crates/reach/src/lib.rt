@@ -1,57 +1,53 @@
 // The search along what the records of both sheets name: each class draws the least owner that reaches it, until nothing changes.
+use groups::Classes;
 use groups::class_bytes;
 use groups::class_word;
-use groups::nth_in;
 use lanes::draw_lanes;
 use lanes::either;
 use lanes::fill;
 use lanes::place;
 use named::first_named;
 use named::second_named;
-use view::Cut;
-use view::word_in;
+use records::BUILDS;
+use records::CLASS_LIMIT;
+use records::ENCLOSER_AT;
+use records::nth_in;
+use records::wide;
+use records::word_in;
 ghost use mathlib.Core.Path.{_≡_};
 ghost use mathlib.Core.Option.{none};
 ghost use mathlib.Core.List.{[], _∷_};
-ghost use Prim.Native.Nat.{_*_, _≤_, _<_};
+ghost use Prim.Native.Nat.{ℕ, _*_, _≤_, _<_};
 ghost use lib.ListN.{length};
-ghost use Rattle.spec.specs.Sheet.{group as groupOf};
+ghost use Rattle.spec.specs.Sheet.{Group, group as groupOf};
 ghost use Rattle.spec.specs.Refusals.{formRefusal};
-ghost use Rattle.view.specs.View.{Fits, spliced};
-ghost use Rattle.groups.specs.Groups.{between, AtRecord, Indexed};
+ghost use Rattle.groups.specs.Groups.{Indexed};
 ghost use Rattle.lanes.specs.Lanes.{markedUp, Run, SettledAt, AllSettled, SeedsFit, Least};
 ghost use Rattle.reach.specs.Reach.{namedIn, stepsOf, outerOf, Scanned, Content, dependentRow};
-
-fn wide(x: u16) -> usize
-    ensures { λ r. ⌜ (r ≡ x) × (r < 65536) ⌝ }
-{
-    x as usize
-}
+ghost use Rattle.records.specs.Records.{between, AtRecord};
 
 // Writes 1 at each encloser of class m: of a row of zeros the marks of its enclosers are made so.
 pub fn enclosers<'a>(
     library: &'a [u8],
     user: &'a [u8],
-    group: &'a [u8],
-    cut: Cut,
     starts: &[u16],
-    nlib: usize,
-    n: usize,
+    classes: Classes,
     m: usize,
     marks: &mut [u8],
 )
-    requires { ⌜ Fits cut (now user) (now group) ⌝ }
-    requires { ⌜ Indexed (now library) (spliced (now user) (now group) cut) nlib n (now starts) ⌝ }
-    requires { ⌜ (m < n) × (m ≤ length (now marks)) ⌝ }
-    ensures { λ r. ⌜ now (marks .exit)
-        ≡ markedUp (outerOf (groupOf (now (library .entry)) (spliced (now (user .entry)) (now (group .entry)) cut))) m m (now (marks .entry)) ⌝ }
+    ghost { ℕ → Group }
+    requires { λ g. ⌜ groupOf (now library) (now user) ≡ g ⌝ }
+    requires { λ g. ⌜ Indexed (now library) (now user) (classes .library) (classes .all) (now starts) ⌝ }
+    requires { λ g. ⌜ (m < classes .all) × (m ≤ length (now marks)) ⌝ }
+    ensures { λ g r. ⌜ now (marks .exit)
+        ≡ markedUp (outerOf g) m m (now (marks .entry)) ⌝ }
 {
     let mut c = m;
-    let mut e = wide(class_word(library, user, group, cut, starts, nlib, n, m, 10));
+    let mut e = wide(class_word(library, user, starts, classes, m, ENCLOSER_AT));
     while e < c {
         marks[e] = 1;
         c = e;
-        e = wide(class_word(library, user, group, cut, starts, nlib, n, e, 10));
+        e = wide(class_word(library, user, starts, classes, e, ENCLOSER_AT));
     }
 }
 
@@ -130,20 +126,19 @@ fn wants(bytes: &[u8], n: usize, builds: bool, lanes: usize, m: usize, row: &[u8
 fn visit<'a>(
     library: &'a [u8],
     user: &'a [u8],
-    group: &'a [u8],
-    cut: Cut,
     starts: &[u16],
-    nlib: usize,
-    n: usize,
+    classes: Classes,
     builds: bool,
     lanes: usize,
     m: usize,
     row: &mut [u8],
 ) -> usize
-    requires { ⌜ Fits cut (now user) (now group) ⌝ }
-    requires { ⌜ Indexed (now library) (spliced (now user) (now group) cut) nlib n (now starts) ⌝ }
-    requires { ⌜ (m < n) × (lanes ≤ 256) × (lanes * 256 ≤ length (now row)) ⌝ }
-    ensures { λ r. ⌜ Run (stepsOf (groupOf (now (library .entry)) (spliced (now (user .entry)) (now (group .entry)) cut)) builds) (outerOf (groupOf (now (library .entry)) (spliced (now (user .entry)) (now (group .entry)) cut))) n lanes (SettledAt (stepsOf (groupOf (now (library .entry)) (spliced (now (user .entry)) (now (group .entry)) cut)) builds) (outerOf (groupOf (now (library .entry)) (spliced (now (user .entry)) (now (group .entry)) cut))) n lanes m) (now (row .entry)) (now (row .exit)) r ⌝ }
+    ghost { ℕ → Group }
+    requires { λ g. ⌜ groupOf (now library) (now user) ≡ g ⌝ }
+    requires { λ g. ⌜ Indexed (now library) (now user) (classes .library) (classes .all) (now starts) ⌝ }
+    requires { λ g. ⌜ (m < classes .all) × (lanes ≤ 256) × (lanes * 256 ≤ length (now row)) ⌝ }
+    ensures { λ g r. ⌜ Run (stepsOf g builds) (outerOf g) (classes .all) lanes
+        (SettledAt (stepsOf g builds) (outerOf g) (classes .all) lanes m) (now (row .entry)) (now (row .exit)) r ⌝ }
 {
     if lanes == 1 {
         if row[m] == 0 {
@@ -151,60 +146,47 @@ fn visit<'a>(
         }
     }
     if builds {
-        if m < nlib {
+        if m < classes.library {
             return 0;
         }
     }
-    let bytes = class_bytes(library, user, group, cut, starts, nlib, n, m);
+    let bytes = class_bytes(library, user, starts, classes, m);
     if builds {
-        if nth_in(bytes, 6, 0) == bytes.len() {
+        if nth_in(bytes, BUILDS, 0) == bytes.len() {
             return 0;
         }
     }
-    if !wants(bytes, n, builds, lanes, m, row) {
+    if !wants(bytes, classes.all, builds, lanes, m, row) {
         return 0;
     }
     let mut marks = [0u8; 256];
-    enclosers(library, user, group, cut, starts, nlib, n, m, &mut marks);
-    scan(bytes, &marks, n, builds, lanes, m, row)
+    enclosers(library, user, starts, classes, m, &mut marks);
+    scan(bytes, &marks, classes.all, builds, lanes, m, row)
 }
 
 // Each class draws once, in rising or in falling order.
 fn sweep<'a>(
     library: &'a [u8],
     user: &'a [u8],
-    group: &'a [u8],
-    cut: Cut,
     starts: &[u16],
-    nlib: usize,
-    n: usize,
+    classes: Classes,
     builds: bool,
     lanes: usize,
     up: bool,
     row: &mut [u8],
 ) -> usize
-    requires { ⌜ Fits cut (now user) (now group) ⌝ }
-    requires { ⌜ Indexed (now library) (spliced (now user) (now group) cut) nlib n (now starts) ⌝ }
-    requires { ⌜ (lanes ≤ 256) × (lanes * 256 ≤ length (now row)) ⌝ }
-    ensures { λ r. ⌜ Run (stepsOf (groupOf (now (library .entry)) (spliced (now (user .entry)) (now (group .entry)) cut)) builds) (outerOf (groupOf (now (library .entry)) (spliced (now (user .entry)) (now (group .entry)) cut))) n lanes (AllSettled (stepsOf (groupOf (now (library .entry)) (spliced (now (user .entry)) (now (group .entry)) cut)) builds) (outerOf (groupOf (now (library .entry)) (spliced (now (user .entry)) (now (group .entry)) cut))) n lanes) (now (row .entry)) (now (row .exit)) r ⌝ }
+    ghost { ℕ → Group }
+    requires { λ g. ⌜ groupOf (now library) (now user) ≡ g ⌝ }
+    requires { λ g. ⌜ Indexed (now library) (now user) (classes .library) (classes .all) (now starts) ⌝ }
+    requires { λ g. ⌜ (lanes ≤ 256) × (lanes * 256 ≤ length (now row)) ⌝ }
+    ensures { λ g r. ⌜ Run (stepsOf g builds) (outerOf g) (classes .all) lanes
+        (AllSettled (stepsOf g builds) (outerOf g) (classes .all) lanes) (now (row .entry)) (now (row .exit)) r ⌝ }
 {
     let mut added = 0;
     let mut i = 0;
-    while i < n {
-        let m = place(up, n, i);
-        let got = visit(
-            library,
-            user,
-            group,
-            cut,
-            starts,
-            nlib,
-            n,
-            builds,
-            lanes,
-            m,
-            row,
-        );
+    while i < classes.all {
+        let m = place(up, classes.all, i);
+        let got = visit(library, user, starts, classes, builds, lanes, m, row);
         added = either(added, got);
         i += 1;
     }
@@ -215,37 +197,23 @@ fn sweep<'a>(
 pub fn close<'a>(
     library: &'a [u8],
     user: &'a [u8],
-    group: &'a [u8],
-    cut: Cut,
     starts: &[u16],
-    nlib: usize,
-    n: usize,
+    classes: Classes,
     builds: bool,
     lanes: usize,
     row: &mut [u8],
 )
-    requires { ⌜ Fits cut (now user) (now group) ⌝ }
-    requires { ⌜ Indexed (now library) (spliced (now user) (now group) cut) nlib n (now starts) ⌝ }
-    requires { ⌜ (lanes ≤ 256) × (lanes * 256 ≤ length (now row)) ⌝ }
-    requires { ⌜ SeedsFit (outerOf (groupOf (now library) (spliced (now user) (now group) cut))) n lanes (now row) ⌝ }
-    ensures { λ r. ⌜ Least (stepsOf (groupOf (now (library .entry)) (spliced (now (user .entry)) (now (group .entry)) cut)) builds) (outerOf (groupOf (now (library .entry)) (spliced (now (user .entry)) (now (group .entry)) cut))) n lanes (now (row .entry)) (now (row .exit)) ⌝ }
+    ghost { ℕ → Group }
+    requires { λ g. ⌜ groupOf (now library) (now user) ≡ g ⌝ }
+    requires { λ g. ⌜ Indexed (now library) (now user) (classes .library) (classes .all) (now starts) ⌝ }
+    requires { λ g. ⌜ (lanes ≤ 256) × (lanes * 256 ≤ length (now row)) ⌝ }
+    requires { λ g. ⌜ SeedsFit (outerOf g) (classes .all) lanes (now row) ⌝ }
+    ensures { λ g r. ⌜ Least (stepsOf g builds) (outerOf g) (classes .all) lanes (now (row .entry)) (now (row .exit)) ⌝ }
 {
     let mut up = true;
     let mut added = 1;
     while added != 0 {
-        added = sweep(
-            library,
-            user,
-            group,
-            cut,
-            starts,
-            nlib,
-            n,
-            builds,
-            lanes,
-            up,
-            row,
-        );
+        added = sweep(library, user, starts, classes, builds, lanes, up, row);
         up = !up;
     }
 }
@@ -254,21 +222,19 @@ pub fn close<'a>(
 pub fn dependents<'a>(
     library: &'a [u8],
     user: &'a [u8],
-    group: &'a [u8],
-    cut: Cut,
     starts: &[u16],
-    nlib: usize,
-    n: usize,
+    classes: Classes,
     d: usize,
     row: &mut [u8],
 )
-    requires { ⌜ Fits cut (now user) (now group) ⌝ }
-    requires { ⌜ Indexed (now library) (spliced (now user) (now group) cut) nlib n (now starts) ⌝ }
-    requires { ⌜ formRefusal (now library) (spliced (now user) (now group) cut) ≡ none ⌝ }
-    requires { ⌜ (d < n) × (256 ≤ length (now row)) ⌝ }
-    ensures { λ r. ⌜ now (row .exit) ≡ dependentRow (now (library .entry)) (spliced (now (user .entry)) (now (group .entry)) cut) d (now (row .entry)) ⌝ }
+    ghost { ℕ → Group }
+    requires { λ g. ⌜ groupOf (now library) (now user) ≡ g ⌝ }
+    requires { λ g. ⌜ Indexed (now library) (now user) (classes .library) (classes .all) (now starts) ⌝ }
+    requires { λ g. ⌜ formRefusal (now library) (now user) ≡ none ⌝ }
+    requires { λ g. ⌜ (d < classes .all) × (256 ≤ length (now row)) ⌝ }
+    ensures { λ g r. ⌜ now (row .exit) ≡ dependentRow (now (library .entry)) (now (user .entry)) d (now (row .entry)) ⌝ }
 {
-    fill(row, 256, 255);
+    fill(row, CLASS_LIMIT, 255);
     row[d] = 0;
-    close(library, user, group, cut, starts, nlib, n, false, 1, row);
+    close(library, user, starts, classes, false, 1, row);
 }

@@ -17,8 +17,8 @@ use Rattle.spec.specs.Sheet.{recordsOf, wholeEnd}
 use Rattle.theory.proofs.Bools.{and-l, un-not, not-and-r}
 use Rattle.theory.proofs.Parts.{part-length}
 use Rattle.theory.proofs.Cut.{concat-append, records-stop}
-use Rattle.whole.specs.Lengths.{wholeLength}
-use Rattle.whole.proofs.Walking.{Stands, length-some, length-zero, records-here}
+use Rattle.records.specs.Lengths.{wholeLength}
+use Rattle.records.proofs.Lengths.{Stands, length-some, length-zero, records-here}
 use Rattle.reader.specs.Reading.{foundAt, afterAt, movesAt, nthAt}
 use Rattle.reader.specs.declared.Found.the-variants.{Record, Broken, End}
 

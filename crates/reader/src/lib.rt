@@ -1,5 +1,5 @@
 // A reader over one sheet: it holds the lent bytes and its own position.
-use whole::whole_length;
+use records::whole_length;
 ghost use mathlib.Core.Path.{_≡_};
 ghost use Rattle.reader.specs.Reading.{foundAt, afterAt, movesAt, nthAt};
 

@@ -7,16 +7,14 @@ use Prim.Native.Nat.{ℕ, _+_, _≤_, _<_}
 use native.Mathlib.Omega.{arith}
 use lib.ListN.{length, getD}
 use borrow.Author.Tests.{ne-eqb}
-use Rattle.spec.specs.Record.{u8, u16, bit, kind, isKind, CLASS, IMPLEMENTS, FIELD, LOCAL, USES, BUILDS, MEMBER, REFERS, flags, ownMarkers, superclass, encloser, target, index, tyAt, fieldTy, localTy, isStatic}
+use Rattle.spec.specs.Record.{u8, u16, bit, kind, isKind, CLASS, IMPLEMENTS, FIELD, LOCAL, USES, BUILDS, MEMBER, REFERS}
+use Rattle.spec.specs.Record.{flags, ownMarkers, superclass, encloser, target, index, tyAt, fieldTy, localTy, isStatic}
 use Rattle.theory.proofs.Bools.{t-true, true-t}
 use Rattle.theory.proofs.Parts.{part-byte, part-word, part-type}
-use Rattle.pass.specs.Pass.{recordAt, sizeFits}
-use Rattle.pass.proofs.Tables.{each, shortest, size-known, at-least}
-use Rattle.pass.proofs.Bodies.{length-fits}
-use Rattle.pass.proofs.Whole.{Whole, whole-at, at-whole, length-here, kind-here}
-use Rattle.groups.specs.Groups.{AtRecord}
-use Rattle.groups.proofs.Walks.{walk-on, size-here}
-use Rattle.records.specs.Records.{Sized}
+use Rattle.records.proofs.Sizes.{each, shortest, size-known, at-least, length-fits}
+use Rattle.records.proofs.Whole.{Whole, whole-at, at-whole, length-here, kind-here}
+use Rattle.records.proofs.Walks.{walk-on, size-here}
+use Rattle.records.specs.Records.{Sized, recordAt, sizeFits, AtRecord}
 
 -- ---- a record that a walk stands at
 
@@ -130,5 +128,3 @@ module _ {s : List ℕ} {at : ℕ} (z : Sized s at) where
   pub local-type-at : kind (recordAt s at) ≡ LOCAL → localTy (recordAt s at) ≡ tyAt s (at + 4)
   unfolding localTy
   local-type-at e = type-at LOCAL 4 e (omega arith)
-
--- ---- it begins below the end of a short sheet

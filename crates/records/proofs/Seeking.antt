@@ -7,10 +7,9 @@ use Prim.Native.Nat.{ℕ, _+_, _≤_, _<_}
 use lib.ListN.{length}
 use Rattle.spec.specs.Lists.{any}
 use Rattle.spec.specs.Record.{u16}
-use Rattle.pass.specs.Pass.{recordAt}
-use Rattle.groups.specs.Groups.{between, AtRecord}
-use Rattle.groups.proofs.Between.{tiled-end}
-use Rattle.groups.proofs.Walks.{walk-here, walk-next}
+use Rattle.records.specs.Records.{recordAt, between, AtRecord}
+use Rattle.records.proofs.Between.{tiled-end}
+use Rattle.records.proofs.Walks.{walk-here, walk-next}
 
 pub record Seeking (p : List ℕ → Bool) (bytes : List ℕ) (at : ℕ) : Type 0 where
   pub place : AtRecord bytes (length bytes) at

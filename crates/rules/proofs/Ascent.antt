@@ -4,7 +4,7 @@ use mathlib.Core.Path.{_≡_, refl, sym, ap, ap₂, _∙_, subst}
 use mathlib.Core.Logic.{_⊎_, inl, inr}
 use mathlib.Core.Bool.{Bool, true, false, not}
 use mathlib.Core.List.{List, [], _∷_, _++_, append-nil}
-use Prim.Native.Nat.{ℕ, suc, _+_, _≤_, _<_}
+use Prim.Native.Nat.{ℕ, _+_, _≤_, _<_}
 use native.Mathlib.Nat.{le-refl}
 use native.Mathlib.Omega.{arith}
 use lib.Dec.{T, eqb, ltb, ltb→lt, nltb→le}
@@ -12,13 +12,13 @@ use borrow.Author.Tests.{eq-eqb, ne-eqb, lt-ltb, le-ltb, ltb-true}
 use Rattle.spec.specs.Lists.{gather, onlyIf}
 use Rattle.spec.specs.Record.{superclass}
 use Rattle.spec.specs.Sheet.{Group, classRecord, isInterface}
-use Rattle.spec.specs.Classes.{superclasses, hasMarker, lineageIn, lineage, rootIn, root}
+use Rattle.spec.specs.Classes.{superclasses, hasMarker, lineage, root}
 use Rattle.spec.specs.Rules.{judgedFor}
 use Rattle.theory.proofs.Bools.{decide, true-t, and-l}
 use Rattle.theory.proofs.Falls.{Falls}
 use Rattle.theory.proofs.Lines.{lineage-library, root-library}
 use Rattle.theory.proofs.Form.{Super, lineage-up, root-up}
-use Rattle.breaks.specs.Breaking.{ruleMarker}
+use Rattle.slots.specs.Slots.{ruleMarker}
 use Rattle.rules.specs.Walk.{above, order, afterward, firstClass, nextClass, classesFrom}
 
 -- where the walk may stand: at a class above c, at c itself, or past the end
@@ -148,12 +148,17 @@ module _ (nlib n : ℕ) (g : ℕ → Group) (f : Falls g) (supers : (c : ℕ) �
             (elim low as (λ (b : Bool). List ℕ) [ true ↦ c ∷ [] | false ↦ elim judged as (λ (b : Bool). List ℕ) [ true ↦ gather (above nlib g c) (superclasses (g c)) | false ↦ [] ] ]
             ≡ classesFrom nlib g n c (elim low as (λ (b : Bool). ℕ) [ true ↦ c | false ↦ elim judged as (λ (b : Bool). ℕ) [ true ↦ superclass (classRecord (g c)) | false ↦ n ] ]))
             × Spot n g c (elim low as (λ (b : Bool). ℕ) [ true ↦ c | false ↦ elim judged as (λ (b : Bool). ℕ) [ true ↦ superclass (classRecord (g c)) | false ↦ n ] ])
-            × (7 ≤ rule → (elim low as (λ (b : Bool). ℕ) [ true ↦ c | false ↦ elim judged as (λ (b : Bool). ℕ) [ true ↦ superclass (classRecord (g c)) | false ↦ n ] ]) < n → T (not (isInterface (g c))))
+            × (7 ≤ rule → (elim low as (λ (b : Bool). ℕ) [ true ↦ c | false ↦ elim judged as (λ (b : Bool). ℕ) [ true ↦ superclass (classRecord (g c)) | false ↦ n ] ]) < n
+            → T (not (isInterface (g c))))
 
         at : (low : Bool) → ltb rule 7 ≡ low → (judged : Bool) → judgedFor g (ruleMarker rule) c ≡ judged → Goal low judged
         at true q judged e = (sym own-from, itself refl, λ h k. absurd (let l : rule < 7 = ltb-true rule 7 q in omega arith))
         at false q true e =
             let u = supers c user there (concrete rule e) in
-            let l : superclass (classRecord (g c)) < c = u .lower in
-            (ap (gather (above nlib g c)) (u .only) ∙ append-nil (above nlib g c (superclass (classRecord (g c)))) ∙ above-from (superclass (classRecord (g c))) l (u .concrete), higher l (u .concrete), λ h k. concrete rule e)
+            let l : superclass (classRecord (g c)) < c = u .lower in (
+              ap (gather (above nlib g c)) (u .only) ∙ append-nil (above nlib g c (superclass (classRecord (g c))))
+                  ∙ above-from (superclass (classRecord (g c))) l (u .concrete),
+              higher l (u .concrete),
+              λ h k. concrete rule e,
+            )
         at false q false e = (sym (from-past n (le-refl n)), past (le-refl n), λ h k. absurd (omega arith))

@@ -20,12 +20,11 @@ use Rattle.theory.proofs.All.{keep-yes, keep-no}
 use Rattle.theory.proofs.Members.{keep-mem, numbered-at}
 use Rattle.theory.proofs.Slots.{place-own, place-other}
 use Rattle.theory.proofs.Faults.{Stands}
-use Rattle.pass.specs.Pass.{recordAt}
-use Rattle.groups.specs.Groups.{between, Indexed, AtRecord, Carries}
-use Rattle.groups.proofs.Between.{tiled-end}
-use Rattle.groups.proofs.Walks.{walk-here, walk-next}
+use Rattle.records.proofs.Between.{tiled-end}
+use Rattle.groups.specs.Groups.{Indexed}
+use Rattle.records.proofs.Walks.{walk-here, walk-next}
 use Rattle.groups.proofs.Few.{group-few}
-use Rattle.records.specs.Records.{Sized}
+use Rattle.records.specs.Records.{Sized, recordAt, between, AtRecord, Carries}
 use Rattle.records.proofs.Positions.{walk-sized}
 use Rattle.breaks.specs.Breaking.{breaksAt}
 use Rattle.rules.specs.Walk.{onlyFirst, asked, foundIn, found, afterward, classesFrom, firstClass, nextClass, walked}
@@ -57,7 +56,8 @@ pub record RecordAt (library user : List ℕ) (nlib n c rule t : ℕ) (s : List 
   pub few : k + length (between s at end) ≤ 255
   pub one : onlyFirst nlib rule t ≡ true → k + length (between s at end) ≤ 1
   pub member : (j : ℕ) (r : List ℕ) → At (between s at end) j r → At (group library user t) (k + j) r
-  pub rest : walked nlib (group library user) rule c ≡ foundIn nlib (group library user) rule c t k (between s at end) ++ gather (found nlib (group library user) rule c) (afterward nlib (group library user) c t)
+  pub rest : walked nlib (group library user) rule c ≡ foundIn nlib (group library user) rule c t k (between s at end) ++ gather (found nlib (group library user) rule c)
+      (afterward nlib (group library user) c t)
 
 -- ---- rules
 
@@ -138,7 +138,12 @@ module _ {library user : List ℕ} {nlib n : ℕ} {starts : List ℕ} (x : Index
       go : (b : Bool) → onlyFirst nlib rule t ≡ b → Part rule t
       go true e =
           let a = asked-one nlib g rule t e in
-          record { after = drop 1 (g t); is = sym (take-append-drop 1 (g t)) ∙ ap (λ (rs : Group). rs ++ drop 1 (g t)) (sym a); alone = λ _. subst (λ (rs : Group). length rs ≤ 1) (sym a) (short (g t)) }
+          record {
+            after = drop 1 (g t);
+            is = sym (take-append-drop 1 (g t))
+                ∙ ap (λ (rs : Group). rs ++ drop 1 (g t)) (sym a);
+            alone = λ _. subst (λ (rs : Group). length rs ≤ 1) (sym a) (short (g t));
+          }
       go false e =
           let a = asked-all nlib g rule t e in
           record { after = []; is = sym a ∙ sym (append-nil (asked nlib g rule t)); alone = λ q. absurd (subst T (sym q ∙ e) tt) }
@@ -162,7 +167,8 @@ module _ {library user : List ℕ} {nlib n : ℕ} {starts : List ℕ} (x : Index
         few = omega (arith, ap length b, group-few x t, ap length (p .is), length-append (asked nlib g rule t) (p .after));
         one = λ e. omega (arith, ap length b, p .alone e);
         member = λ j r a. subst (λ (i : ℕ). At (g t) i r) (sym (zero-add j)) (subst (λ (rs : Group). At rs j r) (sym (p .is)) (at-left (p .after) (subst (λ (rs : Group). At rs j r) b a)));
-        rest = k .rest ∙ ap (gather (found nlib g rule c)) (from-there nlib n g (w .falls) (w .supers) c user-class there t h) ∙ ap (λ (rs : Group). foundIn nlib g rule c t 0 rs ++ gather (found nlib g rule c) (afterward nlib g c t)) (sym b);
+        rest = k .rest ∙ ap (gather (found nlib g rule c)) (from-there nlib n g (w .falls) (w .supers) c user-class there t h)
+            ∙ ap (λ (rs : Group). foundIn nlib g rule c t 0 rs ++ gather (found nlib g rule c) (afterward nlib g c t)) (sym b);
       }
 
   module _ {rule t : ℕ} {s : List ℕ} {end at k : ℕ} (f : RecordAt library user nlib n c rule t s end at k) where
@@ -174,7 +180,8 @@ module _ {library user : List ℕ} {nlib n : ℕ} {starts : List ℕ} (x : Index
             rules = f .rules;
             spot = o .spot;
             concrete = λ a b. f .concrete a;
-            rest = f .rest ∙ ap (λ (rs : Group). foundIn nlib g rule c t k rs ++ gather (found nlib g rule c) (afterward nlib g c t)) (tiled-end s at end h) ∙ ap (gather (found nlib g rule c)) (o .rest);
+            rest = f .rest ∙ ap (λ (rs : Group). foundIn nlib g rule c t k rs ++ gather (found nlib g rule c) (afterward nlib g c t)) (tiled-end s at end h)
+                ∙ ap (gather (found nlib g rule c)) (o .rest);
           },
           o .less,
         )
@@ -207,8 +214,10 @@ module _ {library user : List ℕ} {nlib n : ℕ} {starts : List ℕ} (x : Index
             place = walk-next (f .place) h;
             few = omega (arith, f .few, ap length more);
             one = λ q. omega (arith, f .one q, ap length more);
-            member = λ j r a. subst (λ (i : ℕ). At (g t) i r) (add-suc k j ∙ sym (suc-add k j) ∙ ap (λ (i : ℕ). i + j) (sym (add-one k))) (f .member (suc j) r (subst (λ (rs : Group). At rs (suc j) r) (sym more) (next a)));
-            rest = f .rest ∙ ap (λ (fs : List Fault). fs ++ gather (found nlib g rule c) (afterward nlib g c t)) (ap (foundIn nlib g rule c t k) more ∙ found-no nlib g rule c t k (recordAt s at) (between s (at + u16 s at) end) b);
+            member = λ j r a. subst (λ (i : ℕ). At (g t) i r) (add-suc k j ∙ sym (suc-add k j) ∙ ap (λ (i : ℕ). i + j) (sym (add-one k)))
+                (f .member (suc j) r (subst (λ (rs : Group). At rs (suc j) r) (sym more) (next a)));
+            rest = f .rest ∙ ap (λ (fs : List Fault). fs ++ gather (found nlib g rule c) (afterward nlib g c t))
+                (ap (foundIn nlib g rule c t k) more ∙ found-no nlib g rule c t k (recordAt s at) (between s (at + u16 s at) end) b);
           })
 
       pub record-hit : {p : ℕ} → t < n → rule ≤ 10 → breaksAt nlib g rule c t k (recordAt s at) ≡ true → p ≡ placeIn c (record { class = t; recordNumber = k }) → verdict rule p ≡ verdictOf nlib g c
@@ -218,7 +227,8 @@ module _ {library user : List ℕ} {nlib n : ℕ} {starts : List ℕ} (x : Index
           later = foundIn nlib g rule c t (k + 1) (between s (at + u16 s at) end)
 
           all : walked nlib g rule c ≡ (record { class = t; recordNumber = k } ∷ later) ++ gather (found nlib g rule c) (afterward nlib g c t)
-          all = f .rest ∙ ap (λ (fs : List Fault). fs ++ gather (found nlib g rule c) (afterward nlib g c t)) (ap (foundIn nlib g rule c t k) more ∙ found-yes nlib g rule c t k (recordAt s at) (between s (at + u16 s at) end) b)
+          all = f .rest ∙ ap (λ (fs : List Fault). fs ++ gather (found nlib g rule c) (afterward nlib g c t))
+              (ap (foundIn nlib g rule c t k) more ∙ found-yes nlib g rule c t k (recordAt s at) (between s (at + u16 s at) end) b)
 
           stands : Stands c (walked nlib g rule c) p
           stands = record { fault = record { class = t; recordNumber = k }; member = subst (List·Memᴰ (record { class = t; recordNumber = k })) (sym all) (List·Memᴰ·head refl); place = sym e }
@@ -227,8 +237,10 @@ module _ {library user : List ℕ} {nlib n : ℕ} {starts : List ℕ} (x : Index
           own-low : t ≡ c → (y : ℕ) → Stands c (walked nlib g rule c) y → p ≤ y
           own-low q y h =
               let none-after : gather (found nlib g rule c) (afterward nlib g c t) ≡ [] =
-              (unfold gather in ap (λ (d : ℕ). gather (found nlib g rule c) (afterward nlib g c d)) q ∙ ap (gather (found nlib g rule c)) (after-self nlib n g (w .falls) (w .supers) c user-class there)) in
-              let m = subst (List·Memᴰ (h .fault)) (all ∙ ap (λ (fs : List Fault). (record { class = t; recordNumber = k } ∷ later) ++ fs) none-after ∙ append-nil (record { class = t; recordNumber = k } ∷ later)) (h .member) in
+              (unfold gather in ap (λ (d : ℕ). gather (found nlib g rule c) (afterward nlib g c d)) q
+              ∙ ap (gather (found nlib g rule c)) (after-self nlib n g (w .falls) (w .supers) c user-class there)) in
+              let m = subst (List·Memᴰ (h .fault)) (all ∙ ap (λ (fs : List Fault). (record { class = t; recordNumber = k } ∷ later) ++ fs) none-after
+              ∙ append-nil (record { class = t; recordNumber = k } ∷ later)) (h .member) in
               pick (List·Memᴰ·cases-cons m)
             where
               pk : p ≡ k

@@ -3,33 +3,33 @@
 use mathlib.Core.Path.{_≡_, refl, sym, ap, ap₂, _∙_, subst}
 use mathlib.Core.Logic.{_⊎_, inl, inr}
 use mathlib.Core.Bool.{Bool, true, false, not, _&&_, _||_, and-false, or-false}
-use mathlib.Core.List.{List, [], _∷_, _++_, map, append-nil, append-assoc}
-use Prim.Native.Nat.{ℕ, zero, suc, _+_, _*_, _-_, _≤_, _<_}
+use mathlib.Core.List.{List, [], _∷_, _++_, append-nil, append-assoc}
+use Prim.Native.Nat.{ℕ, zero, suc, _≤_, _<_}
 use native.Mathlib.Nat.{not-suc-le-zero}
 use native.Mathlib.Decide.{ℕ-discrete}
 use native.Mathlib.Omega.{arith}
 use lib.Dec.{T, eqb, ltb, eqb→eq, ltb→lt, nltb→le}
-use lib.ListN.{length, getD, set, take, replicate, length-set, getD-replicate, List·getD-eq-default}
-use lib.Seq.{getD-set-same, getD-set-other}
+use lib.ListN.{getD, set, take, replicate, length-set, getD-replicate, List·getD-eq-default}
+use lib.Seq.{getD-set-other}
 use borrow.Author.Tests.{eq-eqb, ne-eqb, lt-ltb, le-ltb}
 use Rattle.spec.specs.Lists.{any, keep, gather, numbered}
-use Rattle.spec.specs.Record.{u16, kind, isKind, isClass, CLASS, FIELD, superclass}
+use Rattle.spec.specs.Record.{u16, kind, isClass, CLASS, FIELD, superclass}
 use Rattle.spec.specs.Sheet.{Group, classRecord, isInterface, isInstanceField}
 use Rattle.spec.specs.Classes.{fieldSlot, hasMarker, lineage, root}
 use Rattle.spec.specs.Rules.{Fault, judgedFor}
 use Rattle.spec.specs.Refusals.{oneClass}
 use Rattle.theory.proofs.Bools.{decide, true-t, and-l, and-r}
-use Rattle.theory.proofs.Somewhere.{any-numbered, some, some-append, some-map, some-keep, some-gather}
-use Rattle.theory.proofs.Falls.{Falls}
+use Rattle.theory.proofs.Somewhere.{some, some-append, some-map, some-keep}
 use Rattle.theory.proofs.Lines.{lineage-library, root-library}
-use Rattle.theory.proofs.Form.{Super, lineage-up, root-up}
-use Rattle.breaks.specs.Breaking.{ruleMarker, slotFits, fixedBreaks, rootBreaks, baseBreaks, fieldBreaks, slotsBreak, lineBreaks, headBreaks, firstRules, breaksAt}
+use Rattle.theory.proofs.Form.{lineage-up, root-up}
+use Rattle.breaks.specs.Breaking.{lineBreaks, headBreaks, firstRules, breaksAt}
 use Rattle.breaks.proofs.Lines.{line-library, line-up}
 use Rattle.rules.specs.Walk.{onlyFirst, asked, foundIn, found, above, firstClass, classesFrom, walked, keptAt, climbed, Empty, Kept}
 use Rattle.rules.proofs.Ascent.{Spot, higher, itself, past, left, own-from, above-from, from-past, left-self, left-up}
 use Rattle.rules.proofs.Hits.{asked-all, asked-one}
 use Rattle.rules.proofs.Verdicts.{Ground}
 use Rattle.rules.proofs.Judging.{ClassAt}
+use Rattle.slots.specs.Slots.{ruleMarker, slotFits, fixedBreaks, rootBreaks, fieldBreaks, slotsBreak}
 
 nothing : {A : Type 0} (xs : List A) → some xs ≡ false → xs ≡ []
 unfolding some
@@ -67,7 +67,8 @@ module _ (nlib : ℕ) (g : ℕ → Group) (rule c : ℕ) (late : 7 ≤ rule) whe
   unfolding slotsBreak onlyFirst oneClass any numbered headBreaks
   user-some {t} user ne one =
       found-some t
-      ∙ ap (λ (rs : Group). any (λ (n : ℕ × List ℕ). breaksAt nlib g rule c t (n .0) (n .1)) (numbered 0 rs)) (asked-all nlib g rule t (rw (le-ltb t nlib user, ne-eqb rule 3 (λ e. omega arith), ne-eqb rule 4 (λ e. omega arith), ne-eqb rule 6 (λ e. omega arith))))
+      ∙ ap (λ (rs : Group). any (λ (n : ℕ × List ℕ). breaksAt nlib g rule c t (n .0) (n .1)) (numbered 0 rs))
+      (asked-all nlib g rule t (rw (le-ltb t nlib user, ne-eqb rule 3 (λ e. omega arith), ne-eqb rule 4 (λ e. omega arith), ne-eqb rule 6 (λ e. omega arith))))
       ∙ go (g t) one
     where
       head : headBreaks nlib g rule c t ≡ fixedBreaks g rule t
@@ -76,7 +77,8 @@ module _ (nlib : ℕ) (g : ℕ → Group) (rule c : ℕ) (late : 7 ≤ rule) whe
       go : (h : Group) → T (oneClass h) → any (λ (n : ℕ × List ℕ). breaksAt nlib g rule c t (n .0) (n .1)) (numbered 0 h) ≡ (fixedBreaks g rule t || any (fieldBreaks g rule 0 0) h)
       go [] o = absurd o
       go (r ∷ rs) o =
-          ap₂ (λ (a b : Bool). a || b) (at-record t 0 r ∙ head) (later-fields t 0 rs ∙ ap (λ (b : Bool). b || any (fieldBreaks g rule 0 0) rs) (sym (class-no-field r (and-l (isClass r) (not (any isClass rs)) o))))
+          ap₂ (λ (a b : Bool). a || b) (at-record t 0 r ∙ head) (later-fields t 0 rs
+          ∙ ap (λ (b : Bool). b || any (fieldBreaks g rule 0 0) rs) (sym (class-no-field r (and-l (isClass r) (not (any isClass rs)) o))))
 
   root-some : {t : ℕ} → t < nlib → T (oneClass (g t)) → some (found nlib g rule c t) ≡ rootBreaks g rule t
   unfolding onlyFirst oneClass any numbered headBreaks
@@ -105,7 +107,8 @@ module _ {nlib n : ℕ} {g : ℕ → Group} (w : Ground nlib n g) {c : ℕ} (use
   line-some zero t h l i = absurd (not-suc-le-zero h)
   line-some (suc k) t h l i = go (decide (ltb t nlib)) (λ u v. line-some k (superclass (classRecord (g t))) (omega arith) (omega arith) v)
     where
-      go : T (ltb t nlib) ⊎ T (not (ltb t nlib)) → (superclass (classRecord (g t)) < t → T (not (isInterface (g (superclass (classRecord (g t)))))) → some (gather finds (lineage nlib g (superclass (classRecord (g t))) ++ root nlib g (superclass (classRecord (g t))))) ≡ lineBreaks nlib g rule (superclass (classRecord (g t))))
+      go : T (ltb t nlib) ⊎ T (not (ltb t nlib)) → (superclass (classRecord (g t)) < t → T (not (isInterface (g (superclass (classRecord (g t))))))
+          → some (gather finds (lineage nlib g (superclass (classRecord (g t))) ++ root nlib g (superclass (classRecord (g t))))) ≡ lineBreaks nlib g rule (superclass (classRecord (g t))))
           → some (gather finds (lineage nlib g t ++ root nlib g t)) ≡ lineBreaks nlib g rule t
       go (inl x) ih =
           let h = ltb→lt t nlib x in
@@ -133,13 +136,18 @@ module _ {nlib n : ℕ} {g : ℕ → Group} (w : Ground nlib n g) {c : ℕ} (use
       rules = k .rules;
       spot = itself refl;
       concrete = λ a b. k .concrete a (omega arith);
-      rest = k .rest ∙ parts ∙ ap (λ (fs : List Fault). fs ++ gather finds (c ∷ [])) (nothing _ (line-some (suc t) t (omega arith) l i ∙ e .line)) ∙ ap (gather finds) (sym (own-from nlib n g (w .falls) (w .supers) c user there));
+      rest = k .rest ∙ parts ∙ ap (λ (fs : List Fault). fs ++ gather finds (c ∷ [])) (nothing _ (line-some (suc t) t (omega arith) l i ∙ e .line))
+          ∙ ap (gather finds) (sym (own-from nlib n g (w .falls) (w .supers) c user there));
     }
 
     -- nothing found: so nothing above
     pub none-above : ClassAt nlib n g c rule t → walked nlib g rule c ≡ [] → Empty nlib g rule t
     unfolding some
-    none-above k e = record { line = sym (line-some (suc t) t (omega arith) l i) ∙ left-none _ _ (sym (some-append (gather finds (lineage nlib g t ++ root nlib g t)) (gather finds (c ∷ []))) ∙ ap some (sym parts ∙ sym (k .rest) ∙ e)); concrete = i }
+    none-above k e = record {
+      line = sym (line-some (suc t) t (omega arith) l i)
+          ∙ left-none _ _ (sym (some-append (gather finds (lineage nlib g t ++ root nlib g t)) (gather finds (c ∷ []))) ∙ ap some (sym parts ∙ sym (k .rest) ∙ e));
+      concrete = i;
+    }
       where
         left-none : (a b : Bool) → (a || b) ≡ false → a ≡ false
         left-none true b q = q
@@ -198,7 +206,11 @@ module _ {nlib n : ℕ} {g : ℕ → Group} (w : Ground nlib n g) {c : ℕ} (use
           at : Spot n g c t → Goal c
           at (past h) = absurd (omega (arith, low, h))
           at (itself z) = subst Goal z (k, omega arith)
-          at (higher l i) = (skipped w user there late l i (p .is rule t late ten low one) k, omega (arith, left-self nlib n g (w .falls) (w .supers) c user there, left-up nlib n g (w .falls) (w .supers) c user there t l))
+          at (higher l i) = (
+            skipped w user there late l i (p .is rule t late ten low one) k,
+            omega
+                (arith, left-self nlib n g (w .falls) (w .supers) c user there, left-up nlib n g (w .falls) (w .supers) c user there t l),
+          )
 
   -- the first class that one of rules 7 to 10 asks is the superclass
   pub first-lower : {t : ℕ} → 7 ≤ rule → t ≡ firstClass nlib g n rule c → t < n → t < c
@@ -257,7 +269,11 @@ module _ {nlib n : ℕ} {g : ℕ → Group} (w : Ground nlib n g) {rule : ℕ} (
         record {
           kept = kept-more (k .kept) a b (k .there) few (k .empty) q;
           there = omega (arith, e, u .lower, k .there);
-          empty = subst (Empty nlib g rule) (sym e) (record { line = right-none (slotsBreak g rule t) (lineBreaks nlib g rule (superclass (classRecord (g t)))) (line-up nlib g (w .falls) rule h u ∙ k .empty .line); concrete = u .concrete });
+          empty = subst (Empty nlib g rule) (sym e) (record {
+            line = right-none (slotsBreak g rule t) (lineBreaks nlib g rule (superclass (classRecord (g t))))
+                (line-up nlib g (w .falls) rule h u ∙ k .empty .line);
+            concrete = u .concrete;
+          });
         },
         omega (arith, e, u .lower),
       )

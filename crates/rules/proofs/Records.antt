@@ -13,9 +13,9 @@ use Rattle.spec.specs.Sheet.{Group, wholeEnd}
 use Rattle.theory.proofs.All.{All, all-left}
 use Rattle.theory.proofs.Parts.{part-length}
 use Rattle.theory.proofs.Cut.{Whole, concat-append, records-of-whole}
-use Rattle.groups.specs.Groups.{between, AtRecord, Carries}
-use Rattle.groups.proofs.Between.{placed, tiled-parts}
-use Rattle.groups.proofs.Walks.{walk-on, walk-here}
+use Rattle.records.specs.Records.{between, AtRecord, Carries}
+use Rattle.records.proofs.Between.{placed, tiled-parts}
+use Rattle.records.proofs.Walks.{walk-on, walk-here}
 
 module _ {bytes : List ℕ} {h : Group} (w : Carries bytes h) where
   pub walk-part : (xs ys : Group) → h ≡ xs ++ ys → {end : ℕ} → end ≡ length (concat xs) → AtRecord bytes end 0 × (between bytes 0 end ≡ xs)

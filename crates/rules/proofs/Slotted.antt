@@ -3,7 +3,8 @@
 use mathlib.Core.Path.{_≡_, refl, sym, ap, _∙_, subst}
 use mathlib.Core.Logic.{_⊎_, inl, inr, _↔_}
 use mathlib.Core.Bool.{Bool, true, false, not, _&&_, _||_}
-use mathlib.Core.List.{List, [], _∷_, _++_, map, append-nil, List·Memᴰ, List·Memᴰ·head, List·Memᴰ·tail, List·Memᴰ·cases-cons, List·Memᴰ·append-cases, Memᴰ·append-left, Memᴰ·append-right, Memᴰ·map, Memᴰ·of-map, List·Memᴰ·eq-of-singleton}
+use mathlib.Core.List.{List, [], _∷_, _++_, map, append-nil, List·Memᴰ, List·Memᴰ·head, List·Memᴰ·tail, List·Memᴰ·cases-cons, List·Memᴰ·append-cases, Memᴰ·append-left, Memᴰ·append-right, Memᴰ·map}
+use mathlib.Core.List.{Memᴰ·of-map, List·Memᴰ·eq-of-singleton}
 use Prim.Native.Nat.{ℕ, _≤_, _<_}
 use native.Mathlib.Nat.{zero-add, le-refl}
 use native.Mathlib.Decide.{ℕ-discrete}
@@ -14,7 +15,8 @@ use borrow.Author.Tests.{ne-eqb, lt-ltb, le-ltb}
 use Rattle.spec.specs.Lists.{keep, gather, numbered, onlyIf}
 use Rattle.spec.specs.Record.{kind, isKind, CLASS, FIELD, isStatic, superclass}
 use Rattle.spec.specs.Sheet.{Group, classRecord, isInterface, isInner, isInstanceField}
-use Rattle.spec.specs.Classes.{Slot, fieldSlot, encloserSlot, variableSlot, superclasses, enclosing, hasMarker, localAt, captured, encloserSlots, fieldSlots, capturedSlots, ownSlots, lineage, root, slots}
+use Rattle.spec.specs.Classes.{Slot, fieldSlot, encloserSlot, variableSlot, superclasses, enclosing, hasMarker, localAt, captured, encloserSlots, fieldSlots, capturedSlots, ownSlots, lineage, root}
+use Rattle.spec.specs.Classes.{slots}
 use Rattle.spec.specs.Rules.{Fault, slotFault, judgedFor, slotFaults, placeIn}
 use Rattle.spec.specs.Relations.{At, Lineage, self, up}
 use Rattle.spec.specs.Refusals.{oneClass}
@@ -25,9 +27,10 @@ use Rattle.theory.proofs.Lines.{lineage-is, root-is, lineage-user}
 use Rattle.theory.proofs.Slots.{place-other, place-zero}
 use Rattle.theory.proofs.Faults.{Stands, stands-append, stands-only, Failing, failing-is}
 use Rattle.theory.proofs.Form.{Super, lineage-up, root-up}
-use Rattle.breaks.specs.Breaking.{ruleMarker, slotFits, fixedBreaks, rootBreaks, baseBreaks, fieldBreaks, headBreaks, firstRules, breaksAt}
+use Rattle.breaks.specs.Breaking.{headBreaks, firstRules, breaksAt}
 use Rattle.rules.specs.Walk.{onlyFirst, asked, above, order}
 use Rattle.rules.proofs.Hits.{Hit, first-at, at-first, class-at, class-first, asked-all, asked-one}
+use Rattle.slots.specs.Slots.{ruleMarker, slotFits, fixedBreaks, rootBreaks, baseBreaks, fieldBreaks}
 
 -- a FIELD is no CLASS record, so it is not the first one
 field-later : (h : Group) → T (oneClass h) → {k : ℕ} {r : List ℕ} → At h k r → T (isInstanceField r) → k ≡ 0 → ⊥
@@ -213,7 +216,8 @@ module _ (nlib n : ℕ) (g : ℕ → Group) (f : Falls g) (supers : (c : ℕ) �
         found-head {t} {x} m l h e (inr b) =
             inr (inr (and-l (eqb rule 9) (eqb t c) (and-l (eqb rule 9 && eqb t c) (baseBreaks g c) b), and-r (eqb rule 9 && eqb t c) (baseBreaks g c) b), e)
 
-        found-user : {t k x : ℕ} {r : List ℕ} → List·Memᴰ t (lineage nlib g c) → At (asked nlib g rule t) k r → T (breaksAt nlib g rule c t k r) → placeIn c (record { class = t; recordNumber = k }) ≡ x → Found x
+        found-user : {t k x : ℕ} {r : List ℕ} → List·Memᴰ t (lineage nlib g c) → At (asked nlib g rule t) k r → T (breaksAt nlib g rule c t k r) → placeIn c (record { class = t; recordNumber = k })
+            ≡ x → Found x
         unfolding fieldBreaks slotFault fieldSlot
         found-user {t} {k} {x} {r} m a b p = go (ℕ-discrete k 0)
           where
@@ -233,9 +237,11 @@ module _ (nlib n : ℕ) (g : ℕ → Group) (f : Falls g) (supers : (c : ℕ) �
                 (or-cases (fixedBreaks g rule t) (eqb rule 9 && eqb t c && baseBreaks g c) (subst T (at-head t r ∙ head-user t usr) b₀))
             go (no h) =
                 let q = subst T (at-field t k r h) b in
-                from-slot (fieldSlot t (k, r)) m (field-in at (and-l (isInstanceField r) (not (slotFits g rule (fieldSlot t (k, r)))) q)) (and-r (isInstanceField r) (not (slotFits g rule (fieldSlot t (k, r)))) q) p
+                from-slot (fieldSlot t (k, r)) m (field-in at (and-l (isInstanceField r) (not (slotFits g rule (fieldSlot t (k, r)))) q))
+                (and-r (isInstanceField r) (not (slotFits g rule (fieldSlot t (k, r)))) q) p
 
-        found-root : {t k x : ℕ} {r : List ℕ} → List·Memᴰ t (root nlib g c) → At (asked nlib g rule t) k r → T (breaksAt nlib g rule c t k r) → placeIn c (record { class = t; recordNumber = k }) ≡ x → Found x
+        found-root : {t k x : ℕ} {r : List ℕ} → List·Memᴰ t (root nlib g c) → At (asked nlib g rule t) k r → T (breaksAt nlib g rule c t k r) → placeIn c (record { class = t; recordNumber = k }) ≡ x
+            → Found x
         found-root {t} {k} {x} {r} m a b p =
             let l : t < nlib = root-is nlib g f c t user .0 m .library in
             let q = first-at (g t) (subst (λ (rs : Group). At rs k r) (asked-root t l) a) in
@@ -298,7 +304,8 @@ module _ (nlib n : ℕ) (g : ℕ → Group) (f : Falls g) (supers : (c : ℕ) �
                   bytes = d .bytes;
                   at = subst (λ (rs : Group). At rs (d .number) (d .bytes)) (sym (asked-user t usr)) (d .at);
                   breaks = subst T (sym (at-field t (d .number) (d .bytes) (field-later (g t) (one t below) (d .at) (d .instance))))
-                      (t-and (isInstanceField (d .bytes)) (not (slotFits g rule (fieldSlot t (d .number, d .bytes)))) (d .instance) (subst (λ (s : Slot). T (not (slotFits g rule s))) (sym (d .is)) (h .fails)));
+                      (t-and (isInstanceField (d .bytes)) (not (slotFits g rule (fieldSlot t (d .number, d .bytes)))) (d .instance)
+                      (subst (λ (s : Slot). T (not (slotFits g rule s))) (sym (d .is)) (h .fails)));
                   place = ap (λ (s : Slot). placeIn c (slotFault s)) (d .is) ∙ h .place;
                 }
 

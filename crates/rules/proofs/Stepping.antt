@@ -15,9 +15,9 @@ use Rattle.spec.specs.Classes.{hasMarker}
 use Rattle.spec.specs.Rules.{judgedFor, placeIn}
 use Rattle.theory.proofs.Bools.{t-true, or-l, or-r, eq→eqb}
 use Rattle.theory.proofs.Slots.{place-own, place-other}
-use Rattle.groups.specs.Groups.{Carries}
+use Rattle.records.specs.Records.{Carries}
 use Rattle.overlay.specs.Types.{Known}
-use Rattle.breaks.specs.Breaking.{ruleMarker}
+use Rattle.slots.specs.Slots.{ruleMarker}
 use Rattle.rules.specs.Walk.{onlyFirst, asked, firstClass, nextClass}
 use Rattle.rules.proofs.Hits.{asked-all, asked-one}
 use Rattle.rules.proofs.Records.{first-length, all-length}
@@ -66,11 +66,13 @@ module _ (nlib : ℕ) (g : ℕ → Group) (n rule c : ℕ) where
   unfolding hasMarker bit
   marked-is k em es = rw (em, k .is c, es)
 
-  pub first-unmarked : 7 ≤ rule → {row : List ℕ} {m set : ℕ} {b : Bool} → Known g row → m ≡ getD row c 0 → set ≡ 2 ^ ruleMarker rule → b ≡ eqb (m / set % 2) 1 → not b ≡ true → n ≡ firstClass nlib g n rule c
+  pub first-unmarked : 7 ≤ rule → {row : List ℕ} {m set : ℕ} {b : Bool} → Known g row → m ≡ getD row c 0 → set ≡ 2 ^ ruleMarker rule → b ≡ eqb (m / set % 2) 1 → not b ≡ true → n
+      ≡ firstClass nlib g n rule c
   unfolding judgedFor
   first-unmarked h {b = b} k em es eb e = none-of h (rw (← marked-is k em es, ← eb, not-true b e) (and-false (not (isInterface (g c)))))
 
-  pub first-up : 7 ≤ rule → {f : ℕ} → f ≡ u16 (classRecord (g c)) 4 → (f % 2 ≡ 1 → ⊥) → {row : List ℕ} {m set : ℕ} {b : Bool} → Known g row → m ≡ getD row c 0 → set ≡ 2 ^ ruleMarker rule → b ≡ eqb (m / set % 2) 1 → not b ≡ false
+  pub first-up : 7 ≤ rule → {f : ℕ} → f ≡ u16 (classRecord (g c)) 4 → (f % 2 ≡ 1 → ⊥) → {row : List ℕ} {m set : ℕ} {b : Bool} → Known g row → m ≡ getD row c 0 → set ≡ 2 ^ ruleMarker rule → b
+      ≡ eqb (m / set % 2) 1 → not b ≡ false
       → {x y : ℕ} → x ≡ y → y ≡ u16 (classRecord (g c)) 8 → x ≡ firstClass nlib g n rule c
   unfolding firstClass judgedFor isInterface bit flags superclass
   first-up h {f} ef nf {b = has} k em es eb e a b =
@@ -81,11 +83,13 @@ module _ (nlib : ℕ) (g : ℕ → Group) (n rule c : ℕ) where
 module _ (nlib rule t : ℕ) where
   pub only-library : t < nlib → onlyFirst nlib rule t ≡ true
   unfolding onlyFirst
-  only-library h = t-true (ltb t nlib || eqb rule 3 || eqb rule 4 || eqb rule 6) (or-l (ltb t nlib || eqb rule 3 || eqb rule 4) (eqb rule 6) (or-l (ltb t nlib || eqb rule 3) (eqb rule 4) (or-l (ltb t nlib) (eqb rule 3) (lt→ltb t nlib h))))
+  only-library h = t-true (ltb t nlib || eqb rule 3 || eqb rule 4 || eqb rule 6)
+      (or-l (ltb t nlib || eqb rule 3 || eqb rule 4) (eqb rule 6) (or-l (ltb t nlib || eqb rule 3) (eqb rule 4) (or-l (ltb t nlib) (eqb rule 3) (lt→ltb t nlib h))))
 
   pub only-three : rule ≡ 3 → onlyFirst nlib rule t ≡ true
   unfolding onlyFirst
-  only-three e = t-true (ltb t nlib || eqb rule 3 || eqb rule 4 || eqb rule 6) (or-l (ltb t nlib || eqb rule 3 || eqb rule 4) (eqb rule 6) (or-l (ltb t nlib || eqb rule 3) (eqb rule 4) (or-r (ltb t nlib) (eqb rule 3) (eq→eqb e))))
+  only-three e = t-true (ltb t nlib || eqb rule 3 || eqb rule 4 || eqb rule 6)
+      (or-l (ltb t nlib || eqb rule 3 || eqb rule 4) (eqb rule 6) (or-l (ltb t nlib || eqb rule 3) (eqb rule 4) (or-r (ltb t nlib) (eqb rule 3) (eq→eqb e))))
 
   pub only-four : rule ≡ 4 → onlyFirst nlib rule t ≡ true
   unfolding onlyFirst

@@ -28,7 +28,7 @@ use Rattle.theory.proofs.Capture.{chain-inside, captured-is}
 use Rattle.theory.proofs.Form.{Super, sound-falls, sound-super, sound-bound, sound-variables, group-one-class}
 use Rattle.groups.specs.Groups.{Indexed}
 use Rattle.groups.proofs.Few.{indexed-sound}
-use Rattle.breaks.specs.Breaking.{fromSeven, ruleMarker, slotFits, rootBreaks, baseBreaks}
+use Rattle.slots.specs.Slots.{fromSeven, ruleMarker, slotFits, rootBreaks, baseBreaks}
 use Rattle.rules.specs.Walk.{walked}
 use Rattle.rules.proofs.Hits.{Hit, hit-is, hits1, hits2, hits3, hits4, hits5, hits6}
 use Rattle.rules.proofs.Slotted.{Extra, slot-hits}
@@ -187,7 +187,9 @@ ground {library} {user} x ok =
       falls = sound-falls library user s;
       supers = sound-super library user s;
       one = group-one-class library user;
-      owners = λ l d i m. inside-lower (group library user) (sound-falls library user s) (chain-inside (group library user) (sound-falls library user s) (captured-is (group library user) (sound-falls library user s) (sound-bound library user s) (sound-variables library user s) l d i .0 m .chain));
+      owners = λ l d i m. inside-lower (group library user) (sound-falls library user s)
+          (chain-inside (group library user) (sound-falls library user s)
+          (captured-is (group library user) (sound-falls library user s) (sound-bound library user s) (sound-variables library user s) l d i .0 m .chain));
     })
   where
     s : Sound library user

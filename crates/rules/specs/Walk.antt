@@ -11,7 +11,10 @@ use Rattle.spec.specs.Record.{superclass}
 use Rattle.spec.specs.Sheet.{Group, classRecord, isInterface}
 use Rattle.spec.specs.Classes.{superclasses, lineage, root}
 use Rattle.spec.specs.Rules.{Fault, judgedFor}
-use Rattle.breaks.specs.Breaking.{ruleMarker, lineBreaks, breaksAt}
+use Rattle.records.specs.Records.{Carries}
+use Rattle.groups.specs.declared.Classes.{Classes}
+use Rattle.breaks.specs.Breaking.{lineBreaks, breaksAt}
+use Rattle.slots.specs.Slots.{ruleMarker}
 
 -- the CLASS record alone is asked: of the root, and by rules 3, 4 and 6
 unfoldable pub onlyFirst : ℕ → ℕ → ℕ → Bool
@@ -58,6 +61,10 @@ module _ (nlib : ℕ) (g : ℕ → Group) where
 
   unfoldable pub classesFrom : ℕ → ℕ → ℕ → List ℕ
   classesFrom n c t = elim (ltb t n) [ true ↦ t ∷ afterward c t | false ↦ [] ]
+
+-- the class after t, by the bytes of t
+pub record NextClass (classes : Classes) (c t : ℕ) (bytes : List ℕ) (next : ℕ) : Type 0 where
+  pub is : (g : ℕ → Group) → Carries bytes (g t) → 13 ≤ length (classRecord (g t)) → next ≡ nextClass (classes .library) g (classes .all) c t
 
 -- ---- what earlier walks found
 

@@ -1,12 +1,17 @@
 // The verdict of one class: the first broken rule and the lowest record that breaks it.
+use breaks::BANS_AT;
+use breaks::Step;
 use breaks::breaks;
-use breaks::rule_set;
+use groups::Classes;
 use groups::class_bytes;
 use groups::class_word;
 use markers::has;
 use overlay::known;
-use view::Cut;
-use view::word_in;
+use records::FLAGS_AT;
+use records::SUPERCLASS_AT;
+use records::wide;
+use records::word_in;
+use slots::rule_set;
 ghost use mathlib.Core.Path.{_≡_};
 ghost use mathlib.Core.Option.{none};
 ghost use Prim.Native.Nat.{ℕ, _≤_, _<_};
@@ -15,13 +20,12 @@ ghost use Rattle.spec.specs.Lists.{concat};
 ghost use Rattle.spec.specs.Sheet.{Group, group as groupOf};
 ghost use Rattle.spec.specs.Rules.{placeIn, verdictOf};
 ghost use Rattle.spec.specs.Refusals.{formRefusal};
-ghost use Rattle.view.specs.View.{Fits, spliced};
-ghost use Rattle.groups.specs.Groups.{Carries, Indexed};
+ghost use Rattle.groups.specs.Groups.{Indexed};
 ghost use Rattle.overlay.specs.Types.{Known};
-ghost use Rattle.captured.specs.Captured.{Shown};
-ghost use Rattle.breaks.specs.Breaking.{Bans};
-ghost use Rattle.rules.specs.Walk.{onlyFirst, asked, firstClass, nextClass, keptAt, climbed, Empty, Kept};
+ghost use Rattle.breaks.specs.Breaking.{Judging};
+ghost use Rattle.rules.specs.Walk.{onlyFirst, asked, firstClass, NextClass, keptAt, climbed, Empty, Kept};
 ghost use Rattle.rules.specs.Line.{lineOf};
+ghost use Rattle.records.specs.Records.{Carries};
 
 // Rule and record; 0 and 0 is clean.
 pub struct Verdict {
@@ -29,70 +33,48 @@ pub struct Verdict {
     pub record: u8,
 }
 
-fn wide(x: u16) -> usize
-    ensures { λ r. ⌜ (r ≡ x) × (r < 65536) ⌝ }
-{
-    x as usize
-}
-
 // The first class that the rule asks: the superclass for rules 7 to 10, since inherited faults stand at record 0; n if the rule does not apply.
 fn first_class<'a>(
     library: &'a [u8],
     user: &'a [u8],
-    group: &'a [u8],
-    cut: Cut,
     starts: &[u16],
-    nlib: usize,
-    n: usize,
+    classes: Classes,
     markers: &[u8],
     rule: u8,
     c: usize,
 ) -> usize
-    requires { ⌜ Fits cut (now user) (now group) ⌝ }
-    requires { ⌜ Indexed (now library) (spliced (now user) (now group) cut) nlib n (now starts) ⌝ }
-    requires { ⌜ Known (groupOf (now library) (spliced (now user) (now group) cut)) (now markers) ⌝ }
-    requires { ⌜ c < n ⌝ }
-    ensures { λ r. ⌜ r ≡ firstClass nlib (groupOf (now (library .entry)) (spliced (now (user .entry)) (now (group .entry)) cut)) n rule c ⌝ }
+    ghost { ℕ → Group }
+    requires { λ g. ⌜ groupOf (now library) (now user) ≡ g ⌝ }
+    requires { λ g. ⌜ Indexed (now library) (now user) (classes .library) (classes .all) (now starts) ⌝ }
+    requires { λ g. ⌜ Known g (now markers) ⌝ }
+    requires { λ g. ⌜ c < classes .all ⌝ }
+    ensures { λ g r. ⌜ r ≡ firstClass (classes .library) g (classes .all) rule c ⌝ }
 {
     if rule < 7 {
         return c;
     }
-    let bytes = class_bytes(library, user, group, cut, starts, nlib, n, c);
-    if word_in(bytes, 4) % 2 == 1 {
-        return n;
+    let bytes = class_bytes(library, user, starts, classes, c);
+    if word_in(bytes, FLAGS_AT) % 2 == 1 {
+        return classes.all;
     }
     if !has(known(markers, c), rule_set(rule)) {
-        return n;
+        return classes.all;
     }
-    wide(word_in(bytes, 8))
+    wide(word_in(bytes, SUPERCLASS_AT))
 }
 
 // The class after t: its superclass, after the root c itself, after c none. The bytes are those of t.
-fn next_class<'a>(
-    library: &'a [u8],
-    user: &'a [u8],
-    group: &'a [u8],
-    cut: Cut,
-    starts: &[u16],
-    nlib: usize,
-    n: usize,
-    c: usize,
-    t: usize,
-    bytes: &[u8],
-) -> usize
-    requires { ⌜ Fits cut (now user) (now group) ⌝ }
-    requires { ⌜ Indexed (now library) (spliced (now user) (now group) cut) nlib n (now starts) ⌝ }
-    requires { ⌜ t < n ⌝ }
-    requires { ⌜ Carries (now bytes) (groupOf (now library) (spliced (now user) (now group) cut) t) ⌝ }
-    ensures { λ r. ⌜ r ≡ nextClass nlib (groupOf (now (library .entry)) (spliced (now (user .entry)) (now (group .entry)) cut)) n c t ⌝ }
+fn next_class(classes: Classes, c: usize, t: usize, bytes: &[u8]) -> usize
+    requires { ⌜ 13 ≤ length (now bytes) ⌝ }
+    ensures { λ r. ⌜ NextClass classes c t (now (bytes .entry)) r ⌝ }
 {
     if t == c {
-        return n;
+        return classes.all;
     }
-    if t < nlib {
+    if t < classes.library {
         return c;
     }
-    wide(word_in(bytes, 8))
+    wide(word_in(bytes, SUPERCLASS_AT))
 }
 
 // Where the row of what earlier walks found keeps a rule and a class.
@@ -125,28 +107,27 @@ fn climb(kept: &[u8], n: usize, rule: u8, c: usize, t: usize) -> usize
 fn keep<'a>(
     library: &'a [u8],
     user: &'a [u8],
-    group: &'a [u8],
-    cut: Cut,
     starts: &[u16],
-    nlib: usize,
-    n: usize,
+    classes: Classes,
     rule: u8,
     c: usize,
     kept: &mut [u8],
 )
-    requires { ⌜ Fits cut (now user) (now group) ⌝ }
-    requires { ⌜ Indexed (now library) (spliced (now user) (now group) cut) nlib n (now starts) ⌝ }
-    requires { ⌜ formRefusal (now library) (spliced (now user) (now group) cut) ≡ none ⌝ }
-    requires { ⌜ (7 ≤ rule) × (rule ≤ 10) × (c < n) ⌝ }
-    requires { ⌜ Empty nlib (groupOf (now library) (spliced (now user) (now group) cut)) rule c ⌝ }
-    requires { ⌜ Kept nlib n (groupOf (now library) (spliced (now user) (now group) cut)) (now kept) ⌝ }
-    ensures { λ r. ⌜ Kept nlib n (groupOf (now (library .entry)) (spliced (now (user .entry)) (now (group .entry)) cut)) (now (kept .exit)) ⌝ }
+    ghost { ℕ → Group }
+    requires { λ g. ⌜ groupOf (now library) (now user) ≡ g ⌝ }
+    requires { λ g. ⌜ Indexed (now library) (now user) (classes .library) (classes .all) (now starts) ⌝ }
+    requires { λ g. ⌜ formRefusal (now library) (now user) ≡ none ⌝ }
+    requires { λ g. ⌜ (7 ≤ rule) × (rule ≤ 10) × (c < classes .all) ⌝ }
+    requires { λ g. ⌜ Empty (classes .library) g rule c ⌝ }
+    requires { λ g. ⌜ Kept (classes .library) (classes .all) g (now kept) ⌝ }
+    ensures { λ g r. ⌜ Kept (classes .library) (classes .all) g (now (kept .exit)) ⌝ }
 {
+    let nlib = classes.library;
     let mut t = c;
     while nlib <= t {
         let i = kept_at(rule, t);
         kept[i] = 1;
-        t = wide(class_word(library, user, group, cut, starts, nlib, n, t, 8));
+        t = wide(class_word(library, user, starts, classes, t, SUPERCLASS_AT));
     }
 }
 
@@ -189,59 +170,44 @@ fn place(c: usize, t: usize, k: usize) -> u8
 pub fn verdict_of<'a>(
     library: &'a [u8],
     user: &'a [u8],
-    group: &'a [u8],
-    cut: Cut,
     starts: &[u16],
-    nlib: usize,
-    n: usize,
-    markers: &[u8],
-    row: &[u8],
-    banned: &[u8],
+    classes: Classes,
+    facts: &[u8],
+    lanes: &[u8],
     c: usize,
     kept: &mut [u8],
 ) -> Verdict
-    requires { ⌜ Fits cut (now user) (now group) ⌝ }
-    requires { ⌜ Indexed (now library) (spliced (now user) (now group) cut) nlib n (now starts) ⌝ }
-    requires { ⌜ formRefusal (now library) (spliced (now user) (now group) cut) ≡ none ⌝ }
-    requires { ⌜ Known (groupOf (now library) (spliced (now user) (now group) cut)) (now markers) ⌝ }
-    requires { ⌜ Shown (groupOf (now library) (spliced (now user) (now group) cut)) n (now row) ⌝ }
-    requires { ⌜ (nlib ≤ c) × (c < n) ⌝ }
-    requires { ⌜ Kept nlib n (groupOf (now library) (spliced (now user) (now group) cut)) (now kept) ⌝ }
-    requires { ⌜ Bans nlib (groupOf (now library) (spliced (now user) (now group) cut)) (now banned) ⌝ }
-    ensures verdict { λ r. ⌜ lineOf r ≡ verdictOf nlib (groupOf (now (library .entry)) (spliced (now (user .entry)) (now (group .entry)) cut)) c ⌝ }
-    ensures kept { λ r. ⌜ Kept nlib n (groupOf (now (library .entry)) (spliced (now (user .entry)) (now (group .entry)) cut)) (now (kept .exit)) ⌝ }
+    ghost { ℕ → Group }
+    requires { λ g. ⌜ groupOf (now library) (now user) ≡ g ⌝ }
+    requires { λ g. ⌜ Judging (now library) (now user) (now starts) classes (now facts) (now lanes) ⌝ }
+    requires { λ g. ⌜ (classes .library ≤ c) × (c < classes .all) ⌝ }
+    requires { λ g. ⌜ Kept (classes .library) (classes .all) g (now kept) ⌝ }
+    ensures verdict { λ g r. ⌜ lineOf r ≡ verdictOf (classes .library) g c ⌝ }
+    ensures kept { λ g r. ⌜ Kept (classes .library) (classes .all) g (now (kept .exit)) ⌝ }
 {
+    let n = classes.all;
+    let markers = &facts[0..BANS_AT];
     let mut rule: u8 = 1;
     let found = 'judged: loop {
         if 10 < rule {
             break 'judged Verdict { rule: 0, record: 0 };
         }
-        let first = first_class(library, user, group, cut, starts, nlib, n, markers, rule, c);
+        let first = first_class(library, user, starts, classes, markers, rule, c);
         let mut t = climb(kept, n, rule, c, first);
         while t < n {
-            let bytes = class_bytes(library, user, group, cut, starts, nlib, n, t);
-            let end = asked_end(nlib, rule, t, bytes);
+            let bytes = class_bytes(library, user, starts, classes, t);
+            let end = asked_end(classes.library, rule, t, bytes);
             let mut at = 0;
             let mut k = 0;
             while at < end {
-                if breaks(
-                    library,
-                    user,
-                    group,
-                    cut,
-                    starts,
-                    nlib,
-                    n,
-                    markers,
-                    row,
-                    banned,
-                    rule,
-                    c,
-                    t,
-                    k,
-                    bytes,
-                    at,
-                ) {
+                let step = Step {
+                    rule: rule,
+                    class: c,
+                    asked: t,
+                    number: k,
+                    at: at,
+                };
+                if breaks(library, user, starts, classes, facts, lanes, bytes, step) {
                     break 'judged Verdict {
                         rule: rule,
                         record: place(c, t, k),
@@ -250,23 +216,11 @@ pub fn verdict_of<'a>(
                 at += wide(word_in(bytes, at));
                 k += 1;
             }
-            let next = next_class(library, user, group, cut, starts, nlib, n, c, t, bytes);
-            t = climb(kept, n, rule, c, next);
+            t = climb(kept, n, rule, c, next_class(classes, c, t, bytes));
         }
         if 6 < rule {
             if first < n {
-                keep(
-                    library,
-                    user,
-                    group,
-                    cut,
-                    starts,
-                    nlib,
-                    n,
-                    rule,
-                    first,
-                    kept,
-                );
+                keep(library, user, starts, classes, rule, first, kept);
             }
         }
         rule += 1;

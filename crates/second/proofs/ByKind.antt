@@ -8,7 +8,8 @@ use native.Mathlib.Omega.{arith}
 use lib.Dec.{not-T, eqb, leb, ltb, ltb→lt, leb→le, nltb→le, le→leb}
 use lib.ListN.{length}
 use Rattle.spec.specs.Lists.{any, elem}
-use Rattle.spec.specs.Record.{bit, none16, kind, CLASS, IMPLEMENTS, FIELD, LOCAL, USES, BUILDS, MEMBER, REFERS, flags, superclass, encloser, target, index, Ty, fieldTy, localTy, isStatic, unlessNone, tyReferences, references}
+use Rattle.spec.specs.Record.{bit, none16, kind, CLASS, IMPLEMENTS, FIELD, LOCAL, USES, BUILDS, MEMBER, REFERS, flags, superclass, encloser, target, index}
+use Rattle.spec.specs.Record.{Ty, fieldTy, localTy, isStatic, unlessNone, tyReferences, references}
 use Rattle.spec.specs.Sheet.{Group, ofKind, isInterface, isInstanceField}
 use Rattle.spec.specs.Classes.{enclosers}
 use Rattle.spec.specs.Refusals.{noSuchClass, noSuchIndex, superclassFits, encloserFits, implementsFits, usesFits, nameMet, formTests}
@@ -78,6 +79,22 @@ module _ (n : ℕ) where
       go true = class-there (t .class) [] m
       go false = unfold nineUnless in refl
 
+-- ---- what follows some tests
+
+-- m where they all pass
+record Thenceforth (f : ℕ → ℕ) (m : ℕ) : Type 0 where
+  stops : (f 0 ≡ 0 → ⊥) → f m ≡ f 0
+  goes : f 0 ≡ 0 → f m ≡ m
+
+thenceforth : (a b z s e : Bool) (m : ℕ) → Thenceforth (λ m. nineUnless a (nineUnless b (eightUnless z (eightUnless s (eightUnless e m))))) m
+unfolding nineUnless eightUnless
+thenceforth false b z s e m = record { stops = λ n. refl; goes = λ q. absurd (omega arith) }
+thenceforth true false z s e m = record { stops = λ n. refl; goes = λ q. absurd (omega arith) }
+thenceforth true true false s e m = record { stops = λ n. refl; goes = λ q. absurd (omega arith) }
+thenceforth true true true false e m = record { stops = λ n. refl; goes = λ q. absurd (omega arith) }
+thenceforth true true true true false m = record { stops = λ n. refl; goes = λ q. absurd (omega arith) }
+thenceforth true true true true true m = record { stops = λ n. absurd (n refl); goes = λ q. refl }
+
 -- ---- each kind
 
 module _ (g : ℕ → Group) (nlib n c : ℕ) (r : List ℕ) where
@@ -100,7 +117,7 @@ module _ (g : ℕ → Group) (nlib n c : ℕ) (r : List ℕ) where
   unfolding formNumber formTests noSuchClass noSuchIndex isInstanceField later numberOf
   by-number k e ed = ap₂ (λ (x : ℕ) (ds : List ℕ). refusing 9 (any (leb n) ds) (numberOf (later x))) e ed
 
-  pub class-is : kind r ≡ CLASS → formNumber g nlib n c r ≡ classNumber g nlib n c r
+  pub class-is : kind r ≡ CLASS → formNumber g nlib n c r ≡ classNumber g nlib n c r (refusing 10 (nameMet g c r) 0)
   unfolding later numberOf any classNumber
   class-is e =
       by-number CLASS e (references-class r (eq→eqb e) ∙ ap (λ (ds : List ℕ). unlessNone (superclass r) ++ ds) (sym (append-nil (unlessNone (encloser r)))))
@@ -111,6 +128,17 @@ module _ (g : ℕ → Group) (nlib n c : ℕ) (r : List ℕ) where
       (eight-not (eqb c 0 && bit 0 (flags r)) _
       ∙ ap (eightUnless (not (eqb c 0 && bit 0 (flags r))))
       (eight (superclassFits g c r) _ ∙ ap (eightUnless (superclassFits g c r)) (eight (encloserFits nlib c r) _))))
+
+  -- by its name once nothing else refuses it
+  class-by : (m : ℕ) → Thenceforth (classNumber g nlib n c r) m
+  unfolding classNumber
+  class-by m = thenceforth _ _ _ _ _ m
+
+  pub class-refused : kind r ≡ CLASS → {k : ℕ} → k ≡ classNumber g nlib n c r 0 → (k ≡ 0 → ⊥) → k ≡ formNumber g nlib n c r
+  class-refused e ek z = ek ∙ sym (class-is e ∙ class-by _ .stops (λ q. z (ek ∙ q)))
+
+  pub class-named : kind r ≡ CLASS → {k : ℕ} → k ≡ classNumber g nlib n c r 0 → k ≡ 0 → {b : Bool} → b ≡ nameMet g c r → {v : Bool} → b ≡ v → refusing 10 v 0 ≡ formNumber g nlib n c r
+  class-named e ek z eb ev = ap (λ (x : Bool). refusing 10 x 0) (sym ev ∙ eb) ∙ sym (class-is e ∙ class-by _ .goes (sym ek ∙ z))
 
   pub implements-is : kind r ≡ IMPLEMENTS → formNumber g nlib n c r ≡ implementsNumber g n c (target r)
   unfolding later numberOf any implementsNumber implementsFits

@@ -8,8 +8,7 @@ use native.Mathlib.Omega.{arith}
 use lib.Dec.{leb, ltb}
 use Rattle.spec.specs.Record.{u16, bit, CLASS, IMPLEMENTS, FIELD, LOCAL, USES, BUILDS, MEMBER, REFERS, Ty, tyAt}
 use Rattle.spec.specs.Sheet.{Group, isInterface}
-use Rattle.pass.specs.Pass.{recordAt}
-use Rattle.records.specs.Records.{Sized}
+use Rattle.records.specs.Records.{Sized, recordAt}
 use Rattle.second.specs.Second.{formNumber, nineUnless, typeThere, implementsNumber, fieldNumber, usesNumber, refersNumber}
 use Rattle.second.proofs.ByKind.{refusing, nine, index-there, implements-is, field-is, local-is, uses-is, builds-is, member-is, refers-is}
 use Rattle.records.proofs.Positions.{kind-is, last-kind, target-at, index-at, static-at, field-type-at, local-type-at}
@@ -25,7 +24,9 @@ module _ (g : ℕ → Group) (nlib n c : ℕ) {s : List ℕ} {at : ℕ} (z : Siz
   pub local-at : k ≡ LOCAL → {absent : Bool} → absent ≡ not (typeThere n (tyAt s (at + 4))) → (b : Bool) → absent ≡ b → refusing 9 b 0 ≡ formNumber g nlib n c (recordAt s at)
   local-at e ea b eb =
       let q = kind-is z ek e in
-      ap (λ (x : Bool). refusing 9 x 0) (sym eb ∙ ea) ∙ nine (typeThere n (tyAt s (at + 4))) 0 ∙ sym (local-is g nlib n c (recordAt s at) q ∙ ap (λ (t : Ty). nineUnless (typeThere n t) 0) (local-type-at z q))
+      ap (λ (x : Bool). refusing 9 x 0) (sym eb ∙ ea)
+      ∙ nine (typeThere n (tyAt s (at + 4))) 0
+      ∙ sym (local-is g nlib n c (recordAt s at) q ∙ ap (λ (t : Ty). nineUnless (typeThere n t) 0) (local-type-at z q))
 
   pub member-at : k ≡ MEMBER → 0 ≡ formNumber g nlib n c (recordAt s at)
   member-at e = sym (member-is g nlib n c (recordAt s at) (kind-is z ek e))
@@ -55,4 +56,6 @@ module _ (g : ℕ → Group) (nlib n c : ℕ) {s : List ℕ} {at : ℕ} (z : Siz
       pub builds-at : (b : Bool) → leb n t ≡ b → refusing 9 b 0 ≡ formNumber g nlib n c (recordAt s at)
       builds-at b eb =
           let q = last-kind z ek n1 n2 n3 n4 n5 n7 n8 in
-          ap (λ (x : Bool). refusing 9 x 0) (sym eb) ∙ index-there n t 0 ∙ sym (builds-is g nlib n c (recordAt s at) q ∙ ap (λ (d : ℕ). nineUnless (ltb d n) 0) (target-at z BUILDS q (omega arith) ∙ sym ew ∙ sym et))
+          ap (λ (x : Bool). refusing 9 x 0) (sym eb)
+          ∙ index-there n t 0
+          ∙ sym (builds-is g nlib n c (recordAt s at) q ∙ ap (λ (d : ℕ). nineUnless (ltb d n) 0) (target-at z BUILDS q (omega arith) ∙ sym ew ∙ sym et))

@@ -1,6 +1,6 @@
 pub mod ByKind
 pub mod ByPlace
-pub mod Counting
+pub mod Asking
 pub mod Deciding
 pub mod Enclosing
 pub mod Leaves

@@ -1,6 +1,6 @@
 -- Names compared byte by byte: those of two classes, and those of the classes below one by one.
 -- Assumes nothing.
-use mathlib.Core.Path.{_≡_, refl, sym, ap, ap₂, _∙_}
+use mathlib.Core.Path.{_≡_, refl, sym, ap, _∙_}
 use mathlib.Core.Bool.{Bool, true, false, _&&_, _||_}
 use mathlib.Core.List.{List, _∷_}
 use Prim.Native.Nat.{ℕ, zero, suc, _+_, _-_, _≤_, _<_}
@@ -16,8 +16,8 @@ use Rattle.spec.specs.Record.{u16, className}
 use Rattle.spec.specs.Sheet.{Group, group, classRecord}
 use Rattle.spec.specs.Refusals.{nameMet}
 use Rattle.theory.proofs.Bools.{t-false, not-mono}
-use Rattle.pass.specs.Pass.{recordAt}
-use Rattle.groups.specs.Groups.{Carries, Indexed}
+use Rattle.records.specs.Records.{recordAt, Carries}
+use Rattle.groups.specs.Groups.{Indexed}
 use Rattle.names.specs.Names.{printOf, Opens, Printed}
 use Rattle.names.proofs.Printing.{first-length, first-byte, class-first}
 use Rattle.names.proofs.Telling.{same-list, all-told}
@@ -40,7 +40,9 @@ module _ {a b : List ℕ} (oa : Opens a) (ob : Opens b) {v w : ℕ} (ev : v ≡ 
   pub lengths-differ : (v ≡ len → ⊥) → false ≡ sameList (className (recordAt a 0)) (className (recordAt b 0))
   unfolding className
   lengths-differ n =
-      other-length (drop 12 (recordAt a 0)) (drop 12 (recordAt b 0)) (λ e. n (omega (arith, ev ∙ ew, el ∙ eu, oa .long, ob .long, first-length oa, first-length ob, length-drop 12 (recordAt a 0), length-drop 12 (recordAt b 0))))
+      let la : length (drop 12 (recordAt a 0)) ≡ v - 12 = length-drop 12 (recordAt a 0) ∙ ap (λ (i : ℕ). i - 12) (first-length oa ∙ sym (ev ∙ ew)) in
+      let lb : length (drop 12 (recordAt b 0)) ≡ len - 12 = length-drop 12 (recordAt b 0) ∙ ap (λ (i : ℕ). i - 12) (first-length ob ∙ sym (el ∙ eu)) in
+      other-length _ _ (λ e. n (omega (arith, la, lb, oa .long, ob .long, ev ∙ ew, el ∙ eu)))
 
   pub compares : v ≡ len → Comparing a b len 12
   unfolding className
@@ -76,11 +78,13 @@ module _ {a b : List ℕ} {len j : ℕ} (w : Comparing a b len j) where
     pub compares-on : getD a j 0 ≡ getD b j 0 → Comparing a b len (j + 1)
     compares-on e = record { first-opens = w .first-opens; second-opens = w .second-opens; first = w .first; second = w .second; rest = rw (eq-eqb _ _ e) at here }
 
--- so of two classes, by their bytes
-pub class-names : {library user : List ℕ} {nlib n : ℕ} {row : List ℕ} → Indexed library user nlib n row → {c d : ℕ} → c < n → d < n → {a b : List ℕ}
-    → Carries a (group library user d) → Carries b (group library user c) → {r : Bool} → r ≡ sameList (className (recordAt a 0)) (className (recordAt b 0))
-    → r ≡ sameList (className (classRecord (group library user d))) (className (classRecord (group library user c)))
-class-names x hc hd ka kb e = e ∙ ap₂ (λ (p q : List ℕ). sameList (className p) (className q)) (class-first x hd ka) (class-first x hc kb)
+-- so of the classes whose bytes they are
+module _ {library user : List ℕ} {nlib n : ℕ} {row : List ℕ} (x : Indexed library user nlib n row) {c : ℕ} (h : c < n) {bytes : List ℕ} (k : Carries bytes (group library user c)) where
+  pub first-named : (r : List ℕ) {b : Bool} → b ≡ sameList (className (recordAt bytes 0)) (className r) → b ≡ sameList (className (classRecord (group library user c))) (className r)
+  first-named r e = e ∙ ap (λ (p : List ℕ). sameList (className p) (className r)) (class-first x h k)
+
+  pub second-named : (r : List ℕ) {b : Bool} → b ≡ sameList (className r) (className (recordAt bytes 0)) → b ≡ sameList (className r) (className (classRecord (group library user c)))
+  second-named r e = e ∙ ap (λ (p : List ℕ). sameList (className r) (className p)) (class-first x h k)
 
 -- ---- the classes below c
 

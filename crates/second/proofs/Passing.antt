@@ -1,7 +1,7 @@
 -- The second pass class by class: the records of a class by their places in its bytes, and the classes of a sheet one after the other.
 -- Assumes nothing.
-use mathlib.Core.Path.{_≡_, refl, sym, ap, _∙_, subst}
-use mathlib.Core.Bool.{false, not}
+use mathlib.Core.Path.{_≡_, refl, sym, ap, ap₂, _∙_, subst}
+use mathlib.Core.Bool.{Bool, true, false, not}
 use mathlib.Core.List.{List, [], _∷_}
 use Prim.Native.Nat.{ℕ, _+_, _≤_, _<_}
 use native.Mathlib.Nat.{zero-add}
@@ -12,23 +12,22 @@ use borrow.Author.Tests.{eq-eqb, ne-eqb}
 use Rattle.spec.specs.Lists.{any}
 use Rattle.spec.specs.Record.{u16, kind, isClass, CLASS}
 use Rattle.spec.specs.Sheet.{Group, group, classRecord}
-use Rattle.spec.specs.Refusals.{oneClass}
+use Rattle.spec.specs.Refusals.{oneClass, nameMet}
 use Rattle.theory.proofs.Bools.{t-false, true-t, and-l, and-r, not-or-l, not-or-r}
 use Rattle.theory.proofs.All.{All}
 use Rattle.theory.proofs.Form.{group-one-class}
-use Rattle.pass.specs.Pass.{recordAt}
+use Rattle.records.proofs.Whole.{length-here, kind-here}
 use Rattle.pass.specs.declared.Pass.{Pass}
 use Rattle.pass.specs.declared.Pass.the-variants.{Fine, Refused}
-use Rattle.pass.proofs.Whole.{length-here, kind-here}
-use Rattle.groups.specs.Groups.{startOf, between, AtRecord, Carries, Indexed}
-use Rattle.groups.proofs.Between.{tiled-end}
-use Rattle.groups.proofs.Walks.{walk-on, walk-here, walk-next}
-use Rattle.groups.proofs.Classes.{class-low}
+use Rattle.records.proofs.Between.{tiled-end}
+use Rattle.groups.specs.Groups.{startOf, Indexed}
+use Rattle.records.proofs.Walks.{walk-on, walk-here, walk-next}
+use Rattle.groups.proofs.Held.{class-low}
 use Rattle.names.proofs.Printing.{first-length, class-first, class-opens}
-use Rattle.records.specs.Records.{Sized}
+use Rattle.records.specs.Records.{Sized, recordAt, between, AtRecord, Carries}
 use Rattle.second.specs.Second.{classNumber, formNumber, formOf}
 use Rattle.records.proofs.Positions.{walk-sized, whole}
-use Rattle.second.proofs.ByKind.{class-is}
+use Rattle.second.proofs.ByKind.{class-refused, class-named}
 
 -- ---- one record more
 
@@ -55,6 +54,10 @@ pub record Going (g : ℕ → Group) (nlib n c start : ℕ) (bytes : List ℕ) (
   pub rest : formOf g nlib n c (start + at) (between bytes at (length bytes)) ≡ all
 
 module _ {g : ℕ → Group} {nlib n c start : ℕ} {bytes : List ℕ} {all : Pass} {at : ℕ} (w : Going g nlib n c start bytes all at) where
+  -- the records after the one at hand
+  abbrev later : Group
+  later = between bytes (at + u16 bytes at) (length bytes)
+
   pub goes-end : length bytes ≤ at → Fine c ≡ all
   unfolding formOf
   goes-end h = ap (formOf g nlib n c (start + at)) (sym (tiled-end bytes at (length bytes) h)) ∙ w .rest
@@ -66,11 +69,11 @@ module _ {g : ℕ → Group} {nlib n c start : ℕ} {bytes : List ℕ} {all : Pa
     pub goes-sized : Sized bytes at
     goes-sized = walk-sized (w .place) h
 
-    split : between bytes at (length bytes) ≡ recordAt bytes at ∷ between bytes (at + u16 bytes at) (length bytes)
+    split : between bytes at (length bytes) ≡ recordAt bytes at ∷ later
     unfolding recordAt
     split = walk-here (w .place) h
 
-    no-class : All (λ r. isClass r ≡ false) (recordAt bytes at ∷ between bytes (at + u16 bytes at) (length bytes))
+    no-class : All (λ r. isClass r ≡ false) (recordAt bytes at ∷ later)
     no-class = subst (All (λ r. isClass r ≡ false)) split (w .others)
 
     pub goes-other : {k : ℕ} → k ≡ u16 bytes (at + 2) → k ≡ 1 → ⊥
@@ -79,7 +82,7 @@ module _ {g : ℕ → Group} {nlib n c start : ℕ} {bytes : List ℕ} {all : Pa
     module _ {number : ℕ} (en : number ≡ formNumber g nlib n c (recordAt bytes at)) where
       pub goes-stop : (number ≡ 0 → ⊥) → {b : ℕ} → b ≡ start → Refused number (b + at) ≡ all
       goes-stop z eb =
-          rw (en, eb) (sym (form-stop g nlib n c (start + at) (recordAt bytes at) (between bytes (at + u16 bytes at) (length bytes)) (λ q. z (en ∙ q))) ∙ ap (formOf g nlib n c (start + at)) (sym split) ∙ w .rest)
+          rw (en, eb) (sym (form-stop g nlib n c (start + at) (recordAt bytes at) later (λ q. z (en ∙ q))) ∙ ap (formOf g nlib n c (start + at)) (sym split) ∙ w .rest)
 
       pub goes-on : number ≡ 0 → {l v : ℕ} → l ≡ v → v ≡ u16 bytes at → Going g nlib n c start bytes all (at + l)
       goes-on z {l} el ev =
@@ -87,7 +90,10 @@ module _ {g : ℕ → Group} {nlib n c start : ℕ} {bytes : List ℕ} {all : Pa
           rw (el ∙ ev) (record {
             place = walk-next (w .place) h;
             others = no-class .1;
-            rest = ap (λ (i : ℕ). formOf g nlib n c i (between bytes (at + u16 bytes at) (length bytes))) (sym m) ∙ sym (form-on g nlib n c (start + at) (recordAt bytes at) (between bytes (at + u16 bytes at) (length bytes)) (sym en ∙ z)) ∙ ap (formOf g nlib n c (start + at)) (sym split) ∙ w .rest;
+            rest = ap (λ (i : ℕ). formOf g nlib n c i later) (sym m)
+                ∙ sym (form-on g nlib n c (start + at) (recordAt bytes at) later (sym en ∙ z))
+                ∙ ap (formOf g nlib n c (start + at)) (sym split)
+                ∙ w .rest;
           })
 
 -- ---- the bytes of class c: its CLASS record, then the others
@@ -109,7 +115,9 @@ module _ {library user : List ℕ} {nlib n : ℕ} {row : List ℕ} (x : Indexed 
   parts : g c ≡ classRecord (g c) ∷ tail
   unfolding recordAt
   parts =
-      sym (k .records) ∙ walk-here (k .place) nonempty ∙ ap (λ (r : List ℕ). r ∷ between bytes (0 + u16 bytes 0) (length bytes)) (class-first x h k) ∙ ap (λ (i : ℕ). classRecord (g c) ∷ between bytes i (length bytes)) (zero-add (u16 bytes 0))
+      sym (k .records)
+      ∙ walk-here (k .place) nonempty
+      ∙ ap₂ (λ (r : List ℕ) (i : ℕ). r ∷ between bytes i (length bytes)) (class-first x h k) (zero-add (u16 bytes 0))
 
   one : T (oneClass (classRecord (g c) ∷ tail))
   one = subst (λ (p : Group). T (oneClass p)) parts (group-one-class library user c (omega (arith, x .n-is)))
@@ -121,19 +129,36 @@ module _ {library user : List ℕ} {nlib n : ℕ} {row : List ℕ} (x : Indexed 
   -- `l` is the length of the CLASS record, and `v` the same as it stands there
   pub goes-start : {l v : ℕ} → l ≡ v → v ≡ u16 bytes 0 → Going g nlib n c start bytes (formOf g nlib n c (start + u16 bytes 0) tail) l
   unfolding oneClass
-  goes-start el ev = rw (el ∙ ev) (record { place = subst (AtRecord bytes (length bytes)) (zero-add (u16 bytes 0)) (walk-next (k .place) nonempty); others = others tail (and-r (isClass (classRecord (g c))) (not (any isClass tail)) one); rest = refl })
+  goes-start el ev = rw (el ∙ ev) (record {
+    place = subst (AtRecord bytes (length bytes)) (zero-add (u16 bytes 0)) (walk-next (k .place) nonempty);
+    others = others tail (and-r (isClass (classRecord (g c))) (not (any isClass tail)) one);
+    rest = refl;
+  })
 
-  module _ {number : ℕ} (en : number ≡ classNumber g nlib n c (classRecord (g c))) where
-    is-form : number ≡ formNumber g nlib n c (classRecord (g c))
-    is-form = en ∙ sym (class-is g nlib n c (classRecord (g c)) its-kind)
+  first-is : recordAt bytes 0 ≡ classRecord (g c)
+  first-is = class-first x h k
 
-    pub class-stops : (number ≡ 0 → ⊥) → {b : ℕ} → b ≡ start → Refused number b ≡ formOf g nlib n c start (g c)
-    class-stops z eb = rw (is-form, eb) (sym (form-stop g nlib n c start (classRecord (g c)) tail (λ q. z (is-form ∙ q))) ∙ ap (formOf g nlib n c start) (sym parts))
+  -- refused by the number
+  stops : {number : ℕ} → number ≡ formNumber g nlib n c (classRecord (g c)) → (number ≡ 0 → ⊥) → {b : ℕ} → b ≡ start → Refused number b ≡ formOf g nlib n c start (g c)
+  stops en z eb = rw (en, eb) (sym (form-stop g nlib n c start (classRecord (g c)) tail (λ q. z (en ∙ q))) ∙ ap (formOf g nlib n c start) (sym parts))
 
-    pub class-passes : number ≡ 0 → {p : Pass} → p ≡ formOf g nlib n c (start + u16 bytes 0) tail → p ≡ formOf g nlib n c start (g c)
-    class-passes z ep =
-        let m : length (classRecord (g c)) ≡ u16 bytes 0 = ap length (sym (class-first x h k)) ∙ first-length (class-opens x h k) in
-        ep ∙ ap (λ (i : ℕ). formOf g nlib n c (start + i) tail) (sym m) ∙ sym (form-on g nlib n c start (classRecord (g c)) tail (sym is-form ∙ z)) ∙ ap (formOf g nlib n c start) (sym parts)
+  -- `number` is what all but the name say, `met` whether a class below has the name
+  module _ {number : ℕ} (en : number ≡ classNumber g nlib n c (recordAt bytes 0) 0) where
+    by-form : number ≡ classNumber g nlib n c (classRecord (g c)) 0
+    by-form = en ∙ ap (λ (r : List ℕ). classNumber g nlib n c r 0) first-is
+
+    pub form-stops : (number ≡ 0 → ⊥) → {b : ℕ} → b ≡ start → Refused number b ≡ formOf g nlib n c start (g c)
+    form-stops z eb = stops (class-refused g nlib n c (classRecord (g c)) its-kind by-form z) z eb
+
+    module _ (z : number ≡ 0) {met : Bool} (em : met ≡ nameMet g c (classRecord (g c))) where
+      pub name-stops : met ≡ true → {b : ℕ} → b ≡ start → Refused 10 b ≡ formOf g nlib n c start (g c)
+      name-stops t eb = stops (class-named g nlib n c (classRecord (g c)) its-kind by-form z em t) (λ q. omega arith) eb
+
+      pub class-passes : met ≡ false → {p : Pass} → p ≡ formOf g nlib n c (start + u16 bytes 0) tail → p ≡ formOf g nlib n c start (g c)
+      class-passes t ep =
+          let m : length (classRecord (g c)) ≡ u16 bytes 0 = ap length (sym first-is) ∙ first-length (class-opens x h k) in
+          let none = sym (class-named g nlib n c (classRecord (g c)) its-kind by-form z em t) in
+          ep ∙ ap (λ (i : ℕ). formOf g nlib n c (start + i) tail) (sym m) ∙ sym (form-on g nlib n c start (classRecord (g c)) tail none) ∙ ap (formOf g nlib n c start) (sym parts)
 
   -- sums of the two fit
   pub start-low : start + length bytes ≤ 65536

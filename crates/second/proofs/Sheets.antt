@@ -29,7 +29,7 @@ use Rattle.pass.specs.declared.Pass.the-variants.{Fine, Refused}
 use Rattle.pass.proofs.Places.{answer, classPlace, otherPlace, locate-class, locate-other, number-refuses}
 use Rattle.pass.proofs.Joining.{Opens, open-anywhere}
 use Rattle.groups.specs.Groups.{startOf, Indexed}
-use Rattle.groups.proofs.Classes.{in-library, in-user, library-sheet, user-sheet, group-next}
+use Rattle.groups.proofs.Held.{in-library, in-user, library-sheet, user-sheet, group-next}
 use Rattle.second.specs.Second.{formNumber, formOf, formIn, firstClass, classesEnd}
 use Rattle.second.proofs.Passing.{form-stop, form-on, others}
 
@@ -87,7 +87,8 @@ module _ (g : ℕ → Group) (nlib n sheet : ℕ) where
         let m : at + length r + length (concat rs) ≡ at + length (concat (r ∷ rs)) = (unfold concat in omega (arith, length-append r (concat rs))) in
         rw (locate-other sheet at (suc c) k b r (rs ++ rest) (h .0), ← m) (follow-cons c at r rs (otherPlace sheet at (suc c) k b r) (let z : suc c - 1 ≡ c = omega arith in z) refl refl refl _ _ ih)
 
-    class-follows : (h : Group) → T (oneClass h) → (at : ℕ) → Follows (formOf g nlib n c at h) (along (locate sheet at c 0 0 (h ++ rest))) (along (locate sheet (at + length (concat h)) (suc c) 0 0 rest))
+    class-follows : (h : Group) → T (oneClass h) → (at : ℕ)
+        → Follows (formOf g nlib n c at h) (along (locate sheet at c 0 0 (h ++ rest))) (along (locate sheet (at + length (concat h)) (suc c) 0 0 rest))
     unfolding oneClass
     class-follows [] w at = absurd w
     class-follows (r ∷ rs) w at =
@@ -210,7 +211,8 @@ module _ {library user : List ℕ} {nlib n sheet c : ℕ} (w : Passing library u
         let rest : List Group = drop (suc (w .place)) (groupsOf s) in
         let free = split-join rest (all-drop (λ h. T (oneClass h)) (suc (w .place)) (groupsOf s) groups-one) .0 in
         let one : T (oneClass (g c)) = subst (λ (h : Group). T (oneClass h)) its-is (all-at (λ h. T (oneClass h)) [] (groupsOf s) groups-one (w .place) there) in
-        let m : groupStart s (w .place + 1) ≡ groupStart s (w .place) + length (concat (g c)) = group-next (w .among .clear) (w .place) there ∙ ap (λ (h : Group). groupStart s (w .place) + length (concat h)) its-is in
+        let m : groupStart s (w .place + 1) ≡ groupStart s (w .place) + length (concat (g c)) =
+        group-next (w .among .clear) (w .place) there ∙ ap (λ (h : Group). groupStart s (w .place) + length (concat h)) its-is in
         rw (m, start-is, ← (w .rest), split) (class-follows g nlib n sheet c (concat rest) free (g c) one (groupStart s (w .place)))
 
     module _ {p : Pass} (ep : p ≡ formOf g nlib n c (startOf library user c) (g c)) where

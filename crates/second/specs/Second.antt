@@ -4,14 +4,15 @@ use mathlib.Core.Path.{_≡_}
 use mathlib.Core.Bool.{Bool, true, false, not, _&&_, _||_}
 use mathlib.Core.List.{List, [], _∷_, map}
 use mathlib.Core.Option.{Option}
-use Prim.Native.Nat.{ℕ, _+_, _≤_, _<_}
+use Prim.Native.Nat.{ℕ, _+_, _*_, _%_, _≤_, _<_}
 use lib.Dec.{eqb, leb, ltb}
 use lib.ListN.{length, getD}
 use Rattle.spec.specs.Lists.{firstOf, elem}
 use Rattle.spec.specs.Record.{bit, none16, flags, superclass, encloser, Ty, LOCAL, MEMBER}
-use Rattle.spec.specs.Sheet.{Group, locatedIn, ofKind, isInterface}
+use Rattle.spec.specs.Sheet.{Group, locatedIn, classRecord, ofKind, isInterface}
 use Rattle.spec.specs.Classes.{enclosers}
-use Rattle.spec.specs.Refusals.{Refusal, refuseRecord, formTests, superclassFits, encloserFits, nameMet}
+use Rattle.spec.specs.Refusals.{Refusal, refuseRecord, formTests, superclassFits, encloserFits}
+use Rattle.groups.specs.declared.Classes.{Classes}
 use Rattle.pass.specs.Pass.{numberOf}
 use Rattle.pass.specs.declared.Pass.{Pass}
 use Rattle.pass.specs.declared.Pass.the-variants.{Fine, Refused}
@@ -38,14 +39,12 @@ thereOrNone n d = eqb d none16 || ltb d n
 unfoldable pub typeThere : ℕ → Ty → Bool
 typeThere n t = not (eqb (t .code) 0) || ltb (t .class) n
 
-unfoldable pub classNumber : (ℕ → Group) → ℕ → ℕ → ℕ → List ℕ → ℕ
-classNumber g nlib n c r =
+-- a CLASS record by all but its name; m if nothing refuses it so far
+unfoldable pub classNumber : (ℕ → Group) → ℕ → ℕ → ℕ → List ℕ → ℕ → ℕ
+classNumber g nlib n c r m =
     nineUnless (thereOrNone n (superclass r))
     (nineUnless (thereOrNone n (encloser r))
-    (eightUnless (not (eqb c 0 && bit 0 (flags r)))
-    (eightUnless (superclassFits g c r)
-    (eightUnless (encloserFits nlib c r)
-    (elim (nameMet g c r) [ true ↦ 10 | false ↦ 0 ])))))
+    (eightUnless (not (eqb c 0 && bit 0 (flags r))) (eightUnless (superclassFits g c r) (eightUnless (encloserFits nlib c r) m))))
 
 unfoldable pub implementsNumber : (ℕ → Group) → ℕ → ℕ → ℕ → ℕ
 implementsNumber g n c t = nineUnless (ltb t n) (eightUnless (ltb t c && isInterface (g t)) 0)
@@ -74,16 +73,22 @@ firstClass nlib sheet = elim (eqb sheet 0) [ true ↦ 0 | false ↦ nlib ]
 unfoldable pub classesEnd : ℕ → ℕ → ℕ → ℕ
 classesEnd nlib n sheet = elim (eqb sheet 0) [ true ↦ nlib | false ↦ n ]
 
--- ---- records that others name by an index
+-- ---- what others ask of a class by its number
 
--- how many class c has: MEMBER in the library, LOCAL in the user sheet
-unfoldable pub countOf : ℕ → (ℕ → Group) → ℕ → ℕ
-countOf nlib g c = elim (ltb c nlib) [ true ↦ length (ofKind MEMBER (g c)) | false ↦ length (ofKind LOCAL (g c)) ]
+-- the kind of the records that others name by an index
+unfoldable pub countedKind : ℕ → ℕ → ℕ
+countedKind nlib c = elim (ltb c nlib) [ true ↦ MEMBER | false ↦ LOCAL ]
 
--- the row holds that number of each of n classes
-pub record Counts (g : ℕ → Group) (nlib n : ℕ) (row : List ℕ) : Type 0 where
-  pub long : n ≤ length row
-  pub counts : (d : ℕ) → d < n → getD row d 0 ≡ countOf nlib g d
+-- twice how many of those class c has, and one more if it is an interface
+unfoldable pub headOf : ℕ → (ℕ → Group) → ℕ → ℕ
+headOf nlib g c = 2 * length (ofKind (countedKind nlib c) (g c)) + flags (classRecord (g c)) % 2
+
+-- the row holds the head of each class; of the other kind a class has none
+pub record Heads (g : ℕ → Group) (classes : Classes) (row : List ℕ) : Type 0 where
+  pub long : classes .all ≤ length row
+  pub heads : (d : ℕ) → d < classes .all → getD row d 0 ≡ headOf (classes .library) g d
+  pub locals : (d : ℕ) → d < classes .library → length (ofKind LOCAL (g d)) ≡ 0
+  pub members : (d : ℕ) → classes .library ≤ d → d < classes .all → length (ofKind MEMBER (g d)) ≡ 0
 
 -- the row has 1 at class c and its enclosers, and at none else of n classes
 pub record Enclosing (g : ℕ → Group) (n c : ℕ) (row : List ℕ) : Type 0 where

@@ -4,7 +4,7 @@ use mathlib.Core.Path.{_≡_, sym, subst}
 use mathlib.Core.Bool.{Bool, false, not, _&&_, _||_}
 use mathlib.Core.List.{List, _∷_}
 use mathlib.Core.Option.{none}
-use Prim.Native.Nat.{ℕ, _+_, _≤_, _<_}
+use Prim.Native.Nat.{ℕ, _+_, _<_}
 use native.Mathlib.Omega.{arith}
 use lib.ListN.{length, getD}
 use Rattle.spec.specs.Lists.{any}
@@ -17,9 +17,9 @@ use Rattle.spec.specs.Refusals.{formRefusal}
 use Rattle.theory.proofs.All.{All, weaken}
 use Rattle.theory.proofs.Accept.{Fits, form-fits}
 use Rattle.theory.proofs.References.{references-refers}
-use Rattle.pass.specs.Pass.{recordAt}
-use Rattle.groups.specs.Groups.{between, AtRecord, Carries, Indexed}
-use Rattle.groups.proofs.Walks.{walk-here}
+use Rattle.records.specs.Records.{recordAt, between, AtRecord, Carries}
+use Rattle.groups.specs.Groups.{Indexed}
+use Rattle.records.proofs.Walks.{walk-here}
 use Rattle.records.proofs.Seeking.{Seeking, seek-start, seek-next}
 use Rattle.breaks.specs.Breaking.{Refers}
 use Rattle.survey.specs.Survey.{headBreaks, recordBreaks}
@@ -60,12 +60,14 @@ module _ {nlib n : ℕ} {g : ℕ → Group} {bytes : List ℕ} {at : ℕ} (w : L
   look-next el e = record { seek = seek-next (w .seek) h el e; left = rw el (left-here .1) }
 
 -- REFERS records of an accepted pair name members that are there
-all-refer : {library user : List ℕ} {nlib n : ℕ} {row : List ℕ} → Indexed library user nlib n row → formRefusal library user ≡ none → (c : ℕ) → All (Refers n (group library user)) (group library user c)
+all-refer : {library user : List ℕ} {nlib n : ℕ} {row : List ℕ} → Indexed library user nlib n row → formRefusal library user ≡ none → (c : ℕ)
+    → All (Refers n (group library user)) (group library user c)
 all-refer {library} {user} {n = n} x ok c =
     weaken (Fits (classCount library) (total library user) (group library user) c) (Refers n (group library user))
     (λ r f. record { class = λ u. let a = subst (All (λ d. d < total library user)) (references-refers r u) (f .there) in omega (arith, a .0, x .n-is); member = f .member })
     (group library user c) (form-fits library user ok c)
 
-pub refers-in : {library user : List ℕ} {nlib n : ℕ} {row : List ℕ} → Indexed library user nlib n row → formRefusal library user ≡ none → (c : ℕ) {bytes : List ℕ} → Carries bytes (group library user c)
+pub refers-in : {library user : List ℕ} {nlib n : ℕ} {row : List ℕ} → Indexed library user nlib n row → formRefusal library user ≡ none → (c : ℕ) {bytes : List ℕ}
+    → Carries bytes (group library user c)
     → All (Refers n (group library user)) (between bytes 0 (length bytes))
 refers-in {library} {user} {n = n} x ok c w = subst (All (Refers n (group library user))) (sym (w .records)) (all-refer x ok c)

@@ -4,26 +4,29 @@ use mathlib.Core.Path.{_≡_, refl, sym, ap, ap₂, _∙_}
 use mathlib.Core.Bool.{Bool, true, false, not, _&&_, _||_, and-true, or-false}
 use mathlib.Core.List.{List, [], _∷_, _++_, map}
 use mathlib.Core.Option.{Option, none, some as just}
-use Prim.Native.Nat.{ℕ, zero, suc, min}
+use Prim.Native.Nat.{ℕ, suc, min}
 use native.Mathlib.Omega.{arith}
 use lib.Dec.{eqb, eqb→eq}
 use borrow.Author.Tests.{ne-eqb}
 use Rattle.spec.specs.Lists.{any, keep, gather, numbered, onlyIf, lowest}
-use Rattle.spec.specs.Record.{bit, isKind, REFERS, flags, ownMarkers, target, index, fieldTy, isFinal, references}
+use Rattle.spec.specs.Record.{bit, isKind, REFERS, flags, target, index, fieldTy, isFinal, references}
 use Rattle.spec.specs.Sheet.{Group, classRecord, isStaticField, isInstanceField, isInterface}
-use Rattle.spec.specs.Markers.{Immutable, Powerless, Selfless, DeepSelfless, Token, Throwable, Enum, clash}
+use Rattle.spec.specs.Markers.{Immutable, Powerless, Selfless, DeepSelfless}
 use Rattle.spec.specs.Classes.{Slot, fieldSlot, encloserSlots, fieldSlots, capturedSlots, ownSlots, superclasses, overlay, hasMarker, satisfies, lineage, root, slots}
-use Rattle.spec.specs.Rules.{Fault, Verdict, clean, staticMarker, slotFault, faultIf, faultsAt, memberAllowed, judgedFor, rootFits, baseFits, baseFaults, forbidden, slotFaults, rootFaults, rule1, rule2, rule3, rule4, rule5, rule6, rule7, rule8, rule9, rule10, rules, placeIn, firstBroken, verdictOf}
+use Rattle.spec.specs.Rules.{Fault, Verdict, clean, staticMarker, slotFault, faultIf, faultsAt, memberAllowed, judgedFor, rootFits, baseFits, baseFaults, forbidden, slotFaults, rootFaults, rule1}
+use Rattle.spec.specs.Rules.{rule2, rule3, rule4, rule5, rule6, rule7, rule8, rule9, rule10, rules, placeIn, firstBroken, verdictOf}
 use Rattle.theory.proofs.Bools.{true-t, and-l, and-r}
 use Rattle.theory.proofs.Somewhere.{any-append, any-map, any-gather, any-keep, any-numbered, any-same, any-either, any-never, some, some-append, some-map, some-only, some-keep, some-gather}
-use Rattle.breaks.specs.Breaking.{fromSeven, ruleMarker, slotFits, fixedBreaks, rootBreaks, baseBreaks, fieldBreaks, slotsBreak, lineBreaks}
+use Rattle.breaks.specs.Breaking.{lineBreaks}
 use Rattle.survey.specs.Survey.{isClean, headBreaks, anyLate, recordBreaks, lateBreaks, classBreaks}
+use Rattle.slots.specs.Slots.{fromSeven, ruleMarker, slotFits, fixedBreaks, rootBreaks, baseBreaks, fieldBreaks, slotsBreak}
 
 pub clean-both : (v : Verdict) → isClean v ≡ true → v ≡ clean
 unfolding isClean
 clean-both v e =
     let t = true-t e in
-    ap₂ (λ (r k : ℕ). record { rule = r; recordNumber = k }) (eqb→eq (v .rule) 0 (and-l (eqb (v .rule) 0) (eqb (v .recordNumber) 0) t)) (eqb→eq (v .recordNumber) 0 (and-r (eqb (v .rule) 0) (eqb (v .recordNumber) 0) t))
+    ap₂ (λ (r k : ℕ). record { rule = r; recordNumber = k }) (eqb→eq (v .rule) 0 (and-l (eqb (v .rule) 0) (eqb (v .recordNumber) 0) t))
+    (eqb→eq (v .recordNumber) 0 (and-r (eqb (v .rule) 0) (eqb (v .recordNumber) 0) t))
 
 -- ---- a verdict is clean if no rule has a fault
 
@@ -37,7 +40,8 @@ first-clean n [] = refl
 first-clean n ([] ∷ rest) = first-clean (suc n) rest
 first-clean n ((k ∷ ks) ∷ rest) = go (lowest ks)
   where
-    go : (o : Option ℕ) → isClean (elim (elim o as (λ (x : Option ℕ). Option ℕ) [ none ↦ just k | just m ↦ just (min k m) ]) as (λ (x : Option ℕ). Verdict) [ none ↦ firstBroken (suc (suc n)) rest | just j ↦ record { rule = suc n; recordNumber = j } ]) ≡ false
+    go : (o : Option ℕ) → isClean (elim (elim o as (λ (x : Option ℕ). Option ℕ) [ none ↦ just k | just m ↦ just (min k m) ]) as (λ (x : Option ℕ). Verdict)
+        [ none ↦ firstBroken (suc (suc n)) rest | just j ↦ record { rule = suc n; recordNumber = j } ]) ≡ false
     go none = rule-faulted n k
     go (just m) = rule-faulted n (min k m)
 
@@ -120,7 +124,8 @@ module _ (nlib : ℕ) (g : ℕ → Group) (c : ℕ) where
       some-only (judgedFor g Selfless c) (slotFaults nlib g (slotFits g 9) c ++ baseFaults g c)
       ∙ ap (λ (b : Bool). judgedFor g Selfless c && b)
       (some-append (slotFaults nlib g (slotFits g 9) c) (baseFaults g c)
-      ∙ ap₂ (λ (a b : Bool). a || b) (some-slots 9 ∙ sym (or-false (any (slotsBreak g 9) (lineage nlib g c))) ∙ ap (λ (b : Bool). any (slotsBreak g 9) (lineage nlib g c) || b) (sym (any-never (root nlib g c)))) (some-base g c))
+      ∙ ap₂ (λ (a b : Bool). a || b) (some-slots 9 ∙ sym (or-false (any (slotsBreak g 9) (lineage nlib g c)))
+      ∙ ap (λ (b : Bool). any (slotsBreak g 9) (lineage nlib g c) || b) (sym (any-never (root nlib g c)))) (some-base g c))
 
   -- ---- all ten
 
@@ -146,7 +151,8 @@ module _ (nlib : ℕ) (g : ℕ → Group) (c : ℕ) where
   late-is : (not (isInterface (g c)) && lateBreaks nlib g c) ≡ (some (rule7 nlib g c) || (some (rule8 nlib g c) || (some (rule9 nlib g c) || (some (rule10 nlib g c) || false))))
   unfolding lateBreaks anyLate any judgedFor hasMarker ruleMarker fromSeven
   late-is = rw (some7, some8, some9, some10)
-      (shuffle (not (isInterface (g c))) (bit 0 (overlay g c)) (bit 1 (overlay g c)) (bit 2 (overlay g c)) (bit 7 (overlay g c)) (lineBreaks nlib g 7 c) (lineBreaks nlib g 8 c) (lineBreaks nlib g 9 c) (baseBreaks g c) (lineBreaks nlib g 10 c))
+      (shuffle (not (isInterface (g c))) (bit 0 (overlay g c)) (bit 1 (overlay g c)) (bit 2 (overlay g c)) (bit 7 (overlay g c)) (lineBreaks nlib g 7 c) (lineBreaks nlib g 8 c)
+      (lineBreaks nlib g 9 c) (baseBreaks g c) (lineBreaks nlib g 10 c))
     where
       joined : (p q x b r : Bool) → (b || (p || (q || (x || r)))) ≡ (p || (q || ((x || b) || r)))
       joined true q x true r = refl

@@ -1,7 +1,7 @@
 -- What each test of a class tells of its verdict.
 -- Assumes nothing.
-use mathlib.Core.Path.{_≡_, refl, sym, ap, ap₂, _∙_}
-use mathlib.Core.Bool.{Bool, true, false, not, _&&_, _||_, or-true}
+use mathlib.Core.Path.{_≡_, refl, sym, ap, _∙_}
+use mathlib.Core.Bool.{Bool, true, false, not, _&&_, _||_}
 use mathlib.Core.List.{List}
 use mathlib.Core.Option.{none}
 use Prim.Native.Nat.{ℕ, _/_, _%_, _≤_, _<_}
@@ -12,21 +12,23 @@ use borrow.Author.Tests.{eq-eqb}
 use Rattle.spec.specs.Lists.{any}
 use Rattle.spec.specs.Record.{u8, u16, bit, flags, ownMarkers}
 use Rattle.spec.specs.Sheet.{Group, group, classRecord, isInterface}
-use Rattle.spec.specs.Markers.{Selfless}
 use Rattle.spec.specs.Classes.{overlay}
 use Rattle.spec.specs.Rules.{verdictOf}
 use Rattle.spec.specs.Refusals.{formRefusal}
 use Rattle.theory.proofs.Bools.{false-t}
-use Rattle.groups.specs.Groups.{between, Carries, Indexed}
-use Rattle.groups.proofs.Classes.{class-long}
-use Rattle.groups.proofs.Bytes.{class-word-in, class-byte-in}
+use Rattle.groups.specs.Groups.{Indexed}
+use Rattle.groups.proofs.Held.{class-long}
+use Rattle.records.specs.Records.{between, Carries}
 use Rattle.overlay.specs.Types.{Known}
-use Rattle.breaks.specs.Breaking.{ruleMarker, baseBreaks, lineBreaks}
-use Rattle.survey.specs.Survey.{isClean, headBreaks, anyLate, recordBreaks, lateBreaks, classBreaks, Late, ClassSet, baseBy}
+use Rattle.breaks.specs.Breaking.{lineBreaks}
+use Rattle.survey.specs.Survey.{isClean, headBreaks, anyLate, recordBreaks, lateBreaks, classBreaks, ClassSet}
 use Rattle.survey.proofs.Verdicts.{clean-is}
-use Rattle.survey.proofs.Sets.{twice, met, past}
-use Rattle.survey.proofs.Base.{base-is}
+use Rattle.slots.specs.Slots.{ruleMarker, Late, baseBy}
+use Rattle.slots.proofs.Sets.{twice}
 use Rattle.survey.proofs.Lines.{interface-is, concrete, supers}
+use Rattle.records.proofs.Carried.{class-word-in, class-byte-in}
+use Rattle.survey.proofs.Covering.{met, past}
+use Rattle.slots.proofs.Base.{base-is}
 
 pub turned : {b : Bool} (h : Bool) → b ≡ not h → h ≡ not b
 turned h e = sym (twice h) ∙ ap not (sym e)
@@ -90,5 +92,6 @@ module _ {library user : List ℕ} {nlib n : ℕ} {starts : List ℕ} (x : Index
             says
             (past e late-left
             ∙ ap (λ (k : ℕ). anyLate k (λ rule. lineBreaks nlib g rule c)) (sym (known .is c))
-            ∙ late-same m (λ rule. lineBreaks nlib g rule c) (λ rule. not (bit (ruleMarker rule) set)) (λ rule l. turned (lineBreaks nlib g rule c) (s .class (concrete x ok user-class there w ef o) .is rule l))
+            ∙ late-same m (λ rule. lineBreaks nlib g rule c) (λ rule. not (bit (ruleMarker rule) set))
+            (λ rule l. turned (lineBreaks nlib g rule c) (s .class (concrete x ok user-class there w ef o) .is rule l))
             ∙ turned (anyLate m (λ rule. not (bit (ruleMarker rule) set))) eb)

@@ -1,201 +1,98 @@
 // Whether a class is clean, in one look at each record: a clean class needs no walk over the rules.
+use breaks::BANS_AT;
+use breaks::FACTS;
+use breaks::SETS_AT;
 use breaks::lets_out;
 use breaks::names_forbidden;
 use breaks::refers_forbidden;
 use breaks::reserved;
 use breaks::static_breaks;
-use captured::lacking;
+use groups::Classes;
 use groups::class_bytes;
+use markers::DEEP_SELFLESS;
+use markers::IMMUTABLE;
+use markers::POWERLESS;
+use markers::SELFLESS;
 use markers::clash;
 use markers::common;
 use markers::has;
-use markers::union;
-use overlay::known;
-use overlay::type_markers;
-use view::Cut;
-use view::word_in;
+use records::FLAGS_AT;
+use records::MARKERS_AT;
+use records::SUPERCLASS_AT;
+use records::wide;
+use records::word_in;
+use slots::base_breaks;
+use slots::fields_set;
+use slots::head_set;
 ghost use mathlib.Core.Path.{_≡_};
 ghost use mathlib.Core.Bool.{true, false, not, _&&_};
-ghost use mathlib.Core.Option.{none};
-ghost use Prim.Native.Nat.{_+_, _/_, _%_, _≤_, _<_};
+ghost use Prim.Native.Nat.{ℕ, _+_, _/_, _%_, _≤_, _<_};
 ghost use lib.Dec.{eqb};
-ghost use lib.ListN.{length, drop};
+ghost use lib.ListN.{length};
 ghost use Rattle.spec.specs.Lists.{any};
 ghost use Rattle.spec.specs.Record.{u16, bit};
-ghost use Rattle.spec.specs.Sheet.{group as groupOf};
+ghost use Rattle.spec.specs.Sheet.{Group, group as groupOf};
 ghost use Rattle.spec.specs.Rules.{verdictOf};
-ghost use Rattle.spec.specs.Refusals.{formRefusal};
 ghost use Rattle.theory.proofs.All.{All};
-ghost use Rattle.view.specs.View.{Fits, spliced};
-ghost use Rattle.pass.specs.Pass.{recordAt};
-ghost use Rattle.groups.specs.Groups.{between, AtRecord, Indexed};
+ghost use Rattle.groups.specs.Groups.{Indexed};
 ghost use Rattle.overlay.specs.Types.{Known};
-ghost use Rattle.records.specs.Records.{Sized};
-ghost use Rattle.captured.specs.Captured.{Shown};
-ghost use Rattle.breaks.specs.Breaking.{Bans, Refers, ruleMarker};
-ghost use Rattle.survey.specs.Survey.{isClean, headBreaks, anyLate, recordBreaks, Passes, ClassSet, Passing, slotBy, FieldSet, FieldsSet, RootSet, encloserBy, capturedBy, baseBy};
+ghost use Rattle.records.specs.Records.{between, AtRecord};
+ghost use Rattle.slots.specs.Slots.{ruleMarker, baseBy};
+ghost use Rattle.breaks.specs.Breaking.{Bans, Refers, Judging};
+ghost use Rattle.survey.specs.Survey.{isClean, headBreaks, anyLate, recordBreaks, ClassSet, Passing, setsIn, KeepsFacts, Surveyed};
 
-fn wide(x: u16) -> usize
-    ensures { λ r. ⌜ (r ≡ x) × (r < 65536) ⌝ }
-{
-    x as usize
-}
+// ---- rules 7 to 10
 
-// ---- rules 7 to 10: sets of the markers whose rules a slot passes: 1 Immutable, 2 Powerless, 4 Selfless, 128 DeepSelfless
-
-// By the flags of a field and the markers of its type. One that is not final passes neither rule 7 nor rule 9, a transient one not rule 9.
-fn slot_set(flags: u16, m: u8) -> u8
-    ensures { λ r. ⌜ Passes (slotBy flags m) r ⌝ }
-{
-    if flags % 2 == 0 {
-        return common(m, 130);
-    }
-    if flags / 2 % 2 == 1 {
-        return common(m, 251);
-    }
-    union(m, 4)
-}
-
-// Those that the FIELD record at `at` passes; a static field has no slot.
-fn field_set(bytes: &[u8], at: usize, markers: &[u8]) -> u8
-    requires { ⌜ Sized (now bytes) at ⌝ }
-    requires { ⌜ (length (now bytes) ≤ 32768) × (u16 (now bytes) (at + 2) ≡ 3) ⌝ }
-    ensures { λ r. ⌜ FieldSet (now (markers .entry)) (recordAt (now (bytes .entry)) at) r ⌝ }
-{
-    let flags = word_in(bytes, at + 4);
-    if flags / 4 % 2 == 1 {
-        return 255;
-    }
-    slot_set(flags, type_markers(bytes, at + 6, markers))
-}
-
-// Those that all fields of a class pass.
-fn fields_set(bytes: &[u8], markers: &[u8]) -> u8
-    requires { ⌜ AtRecord (now bytes) (length (now bytes)) 0 ⌝ }
-    ensures { λ r. ⌜ FieldsSet (now (markers .entry)) (between (now (bytes .entry)) 0 (length (now (bytes .entry)))) r ⌝ }
-{
-    let mut at = 0;
-    let mut set: u8 = 255;
-    while at < bytes.len() {
-        if word_in(bytes, at + 2) == 3 {
-            set = common(set, field_set(bytes, at, markers));
-        }
-        at += wide(word_in(bytes, at));
-    }
-    set
-}
-
-// Those that a library class passes as a root; class 0 passes all.
-fn root_set(markers: &[u8], d: usize) -> u8
-    ensures { λ r. ⌜ RootSet (now (markers .entry)) d r ⌝ }
-{
-    if d == 0 {
-        return 255;
-    }
-    union(known(markers, d), 4)
-}
-
-// Those that the encloser of an inner class passes.
-fn encloser_set(bytes: &[u8], markers: &[u8]) -> u8
-    requires { ⌜ 13 ≤ length (now bytes) ⌝ }
-    ensures { λ r. ⌜ Passes (encloserBy (now (bytes .entry)) (now (markers .entry))) r ⌝ }
-{
-    if word_in(bytes, 4) / 2 % 2 == 0 {
-        return 255;
-    }
-    union(known(markers, wide(word_in(bytes, 10))), 4)
-}
-
-// All markers, or those of the mask.
-fn all_or(lacks: bool, mask: u8) -> u8
-    ensures { λ r. ⌜ (lacks ≡ true → r ≡ mask) × (lacks ≡ false → r ≡ 255) ⌝ }
-{
-    if lacks { mask } else { 255 }
-}
-
-// Those that the captured variables of class t pass: each lane is one marker's.
-fn captured_set(row: &[u8], t: usize) -> u8
-    requires { ⌜ t < 256 ⌝ }
-    ensures { λ r. ⌜ Passes (capturedBy (now (row .entry)) t) r ⌝ }
-{
-    let a = all_or(lacking(row, 0, t), 254);
-    let b = all_or(lacking(row, 1, t), 253);
-    let c = all_or(lacking(row, 2, t), 127);
-    common(common(a, b), c)
-}
-
-// Those that class t and its superclasses up to the root pass, by the sets of lower classes. An interface has no slots.
+// The markers whose rules class t and its superclasses up to the root pass, by the sets of lower classes. An interface has no slots.
 fn class_set<'a>(
     library: &'a [u8],
     user: &'a [u8],
-    group: &'a [u8],
-    cut: Cut,
     starts: &[u16],
-    nlib: usize,
-    n: usize,
-    markers: &[u8],
+    classes: Classes,
+    facts: &[u8],
     lanes: &[u8],
-    row: &[u8],
     t: usize,
 ) -> u8
-    requires { ⌜ Fits cut (now user) (now group) ⌝ }
-    requires { ⌜ Indexed (now library) (spliced (now user) (now group) cut) nlib n (now starts) ⌝ }
-    requires { ⌜ formRefusal (now library) (spliced (now user) (now group) cut) ≡ none ⌝ }
-    requires { ⌜ Known (groupOf (now library) (spliced (now user) (now group) cut)) (now markers) ⌝ }
-    requires { ⌜ Shown (groupOf (now library) (spliced (now user) (now group) cut)) n (now lanes) ⌝ }
-    requires { ⌜ (t < n) × Passing nlib t (groupOf (now library) (spliced (now user) (now group) cut)) (now row) ⌝ }
-    ensures { λ r. ⌜ ClassSet nlib (groupOf (now (library .entry)) (spliced (now (user .entry)) (now (group .entry)) cut)) t r ⌝ }
+    ghost { ℕ → Group }
+    requires { λ g. ⌜ groupOf (now library) (now user) ≡ g ⌝ }
+    requires { λ g. ⌜ Judging (now library) (now user) (now starts) classes (now facts) (now lanes) ⌝ }
+    requires { λ g. ⌜ (t < classes .all) × Passing (classes .library) t g (setsIn (now facts)) ⌝ }
+    ensures { λ g r. ⌜ ClassSet (classes .library) g t r ⌝ }
 {
-    if t < nlib {
-        return root_set(markers, t);
+    let bytes = class_bytes(library, user, starts, classes, t);
+    let markers = &facts[0..BANS_AT];
+    let sets = &facts[SETS_AT..FACTS];
+    let head = head_set(bytes, markers, lanes, classes.library, t);
+    if t < classes.library {
+        return head;
     }
-    let bytes = class_bytes(library, user, group, cut, starts, nlib, n, t);
-    if word_in(bytes, 4) % 2 == 1 {
+    if word_in(bytes, FLAGS_AT) % 2 == 1 {
         return 0;
     }
-    let above = wide(word_in(bytes, 8));
-    let fixed = common(encloser_set(bytes, markers), captured_set(lanes, t));
-    let own = common(fixed, fields_set(bytes, markers));
-    common(own, row[above])
+    let above = wide(word_in(bytes, SUPERCLASS_AT));
+    let own = common(head, fields_set(bytes, markers));
+    common(own, sets[above])
 }
 
-// Writes the set of each class.
+// Writes the set of each class beside what else is known of it; all else in the row is kept.
 pub fn passes<'a>(
     library: &'a [u8],
     user: &'a [u8],
-    group: &'a [u8],
-    cut: Cut,
     starts: &[u16],
-    nlib: usize,
-    n: usize,
-    markers: &[u8],
+    classes: Classes,
+    facts: &mut [u8],
     lanes: &[u8],
-    row: &mut [u8],
 )
-    requires { ⌜ Fits cut (now user) (now group) ⌝ }
-    requires { ⌜ Indexed (now library) (spliced (now user) (now group) cut) nlib n (now starts) ⌝ }
-    requires { ⌜ formRefusal (now library) (spliced (now user) (now group) cut) ≡ none ⌝ }
-    requires { ⌜ Known (groupOf (now library) (spliced (now user) (now group) cut)) (now markers) ⌝ }
-    requires { ⌜ Shown (groupOf (now library) (spliced (now user) (now group) cut)) n (now lanes) ⌝ }
-    requires { ⌜ length (now row) ≡ 256 ⌝ }
-    ensures sets { λ r. ⌜ Passing nlib n (groupOf (now (library .entry)) (spliced (now (user .entry)) (now (group .entry)) cut)) (now (row .exit)) ⌝ }
-    ensures rest { λ r. ⌜ drop n (now (row .exit)) ≡ drop n (now (row .entry)) ⌝ }
+    ghost { ℕ → Group }
+    requires { λ g. ⌜ groupOf (now library) (now user) ≡ g ⌝ }
+    requires { λ g. ⌜ Judging (now library) (now user) (now starts) classes (now facts) (now lanes) ⌝ }
+    ensures sets { λ g r. ⌜ Passing (classes .library) (classes .all) g (setsIn (now (facts .exit))) ⌝ }
+    ensures rest { λ g r. ⌜ KeepsFacts (classes .all) (now (facts .entry)) (now (facts .exit)) ⌝ }
 {
+    let end = classes.all;
     let mut c = 0;
-    while c < n {
-        row[c] = class_set(
-            library,
-            user,
-            group,
-            cut,
-            starts,
-            nlib,
-            n,
-            markers,
-            lanes,
-            row,
-            c,
-        );
+    while c < end {
+        facts[SETS_AT + c] = class_set(library, user, starts, classes, facts, lanes, c);
         c += 1;
     }
 }
@@ -215,16 +112,16 @@ fn lacks(m: u8, set: u8, marker: u8) -> bool
 fn covers(m: u8, set: u8) -> bool
     ensures { λ r. ⌜ r ≡ not (anyLate m (λ rule. not (bit (ruleMarker rule) set))) ⌝ }
 {
-    if lacks(m, set, 1) {
+    if lacks(m, set, IMMUTABLE) {
         return false;
     }
-    if lacks(m, set, 2) {
+    if lacks(m, set, POWERLESS) {
         return false;
     }
-    if lacks(m, set, 4) {
+    if lacks(m, set, SELFLESS) {
         return false;
     }
-    !lacks(m, set, 128)
+    !lacks(m, set, DEEP_SELFLESS)
 }
 
 // Rule 9's second part, for a class with the markers m.
@@ -232,17 +129,10 @@ fn base_lacks(m: u8, bytes: &[u8], markers: &[u8]) -> bool
     requires { ⌜ 13 ≤ length (now bytes) ⌝ }
     ensures { λ r. ⌜ r ≡ (eqb (m / 4 % 2) 1 && baseBy (now (bytes .entry)) (now (markers .entry))) ⌝ }
 {
-    if !has(m, 4) {
-        return false;
+    if has(m, SELFLESS) {
+        return base_breaks(bytes, markers);
     }
-    let s = wide(word_in(bytes, 8));
-    if has(known(markers, s), 4) {
-        return false;
-    }
-    if s != 0 {
-        return true;
-    }
-    word_in(bytes, 4) / 4 % 8 != 3
+    false
 }
 
 // ---- rules 1 to 6
@@ -251,40 +141,27 @@ fn base_lacks(m: u8, bytes: &[u8], markers: &[u8]) -> bool
 fn records_fine<'a>(
     library: &'a [u8],
     user: &'a [u8],
-    group: &'a [u8],
-    cut: Cut,
     starts: &[u16],
-    nlib: usize,
-    n: usize,
+    classes: Classes,
     markers: &[u8],
     banned: &[u8],
     bytes: &[u8],
 ) -> bool
-    requires { ⌜ Fits cut (now user) (now group) ⌝ }
-    requires { ⌜ Indexed (now library) (spliced (now user) (now group) cut) nlib n (now starts) ⌝ }
-    requires { ⌜ Known (groupOf (now library) (spliced (now user) (now group) cut)) (now markers) ⌝ }
-    requires { ⌜ AtRecord (now bytes) (length (now bytes)) 0 ⌝ }
-    requires { ⌜ All (Refers n (groupOf (now library) (spliced (now user) (now group) cut))) (between (now bytes) 0 (length (now bytes))) ⌝ }
-    requires { ⌜ Bans nlib (groupOf (now library) (spliced (now user) (now group) cut)) (now banned) ⌝ }
-    ensures { λ r. ⌜ r ≡ not (any (recordBreaks nlib (groupOf (now (library .entry)) (spliced (now (user .entry)) (now (group .entry)) cut))) (between (now (bytes .entry)) 0 (length (now (bytes .entry))))) ⌝ }
+    ghost { ℕ → Group }
+    requires { λ g. ⌜ groupOf (now library) (now user) ≡ g ⌝ }
+    requires { λ g. ⌜ Indexed (now library) (now user) (classes .library) (classes .all) (now starts) ⌝ }
+    requires { λ g. ⌜ Known g (now markers) ⌝ }
+    requires { λ g. ⌜ AtRecord (now bytes) (length (now bytes)) 0 ⌝ }
+    requires { λ g. ⌜ All (Refers (classes .all) g) (between (now bytes) 0 (length (now bytes))) ⌝ }
+    requires { λ g. ⌜ Bans (classes .library) g (now banned) ⌝ }
+    ensures { λ g r. ⌜ r ≡ not (any (recordBreaks (classes .library) g) (between (now (bytes .entry)) 0 (length (now (bytes .entry))))) ⌝ }
 {
     let mut at = 0;
     while at < bytes.len() {
         if names_forbidden(bytes, at, banned) {
             return false;
         }
-        if refers_forbidden(
-            library,
-            user,
-            group,
-            cut,
-            starts,
-            nlib,
-            n,
-            banned,
-            bytes,
-            at,
-        ) {
+        if refers_forbidden(library, user, starts, classes, banned, bytes, at) {
             return false;
         }
         if static_breaks(bytes, at, markers) {
@@ -300,60 +177,44 @@ fn head_fine(bytes: &[u8], m: u8) -> bool
     requires { ⌜ 13 ≤ length (now bytes) ⌝ }
     ensures { λ r. ⌜ r ≡ not (headBreaks (now (bytes .entry)) m) ⌝ }
 {
-    if reserved(bytes[6]) {
+    if reserved(bytes[MARKERS_AT]) {
         return false;
     }
     if clash(m) {
         return false;
     }
-    !lets_out(word_in(bytes, 4))
+    !lets_out(word_in(bytes, FLAGS_AT))
 }
 
 // ---- all ten
 
-// Whether user class c breaks no rule; `sets` is filled by `passes`.
+// Whether user class c breaks no rule; the sets are filled by `passes`.
 pub fn clean<'a>(
     library: &'a [u8],
     user: &'a [u8],
-    group: &'a [u8],
-    cut: Cut,
     starts: &[u16],
-    nlib: usize,
-    n: usize,
-    markers: &[u8],
-    sets: &[u8],
-    banned: &[u8],
+    classes: Classes,
+    facts: &[u8],
     c: usize,
 ) -> bool
-    requires { ⌜ Fits cut (now user) (now group) ⌝ }
-    requires { ⌜ Indexed (now library) (spliced (now user) (now group) cut) nlib n (now starts) ⌝ }
-    requires { ⌜ formRefusal (now library) (spliced (now user) (now group) cut) ≡ none ⌝ }
-    requires { ⌜ Known (groupOf (now library) (spliced (now user) (now group) cut)) (now markers) ⌝ }
-    requires { ⌜ Passing nlib n (groupOf (now library) (spliced (now user) (now group) cut)) (now sets) ⌝ }
-    requires { ⌜ (nlib ≤ c) × (c < n) ⌝ }
-    requires { ⌜ Bans nlib (groupOf (now library) (spliced (now user) (now group) cut)) (now banned) ⌝ }
-    ensures { λ r. ⌜ r ≡ isClean (verdictOf nlib (groupOf (now (library .entry)) (spliced (now (user .entry)) (now (group .entry)) cut)) c) ⌝ }
+    ghost { ℕ → Group }
+    requires { λ g. ⌜ groupOf (now library) (now user) ≡ g ⌝ }
+    requires { λ g. ⌜ Surveyed (now library) (now user) (now starts) classes (now facts) ⌝ }
+    requires { λ g. ⌜ (classes .library ≤ c) × (c < classes .all) ⌝ }
+    ensures { λ g r. ⌜ r ≡ isClean (verdictOf (classes .library) g c) ⌝ }
 {
-    let bytes = class_bytes(library, user, group, cut, starts, nlib, n, c);
+    let bytes = class_bytes(library, user, starts, classes, c);
+    let markers = &facts[0..BANS_AT];
+    let banned = &facts[BANS_AT..SETS_AT];
+    let sets = &facts[SETS_AT..FACTS];
     let m = markers[c];
     if !head_fine(bytes, m) {
         return false;
     }
-    if !records_fine(
-        library,
-        user,
-        group,
-        cut,
-        starts,
-        nlib,
-        n,
-        markers,
-        banned,
-        bytes,
-    ) {
+    if !records_fine(library, user, starts, classes, markers, banned, bytes) {
         return false;
     }
-    if word_in(bytes, 4) % 2 == 1 {
+    if word_in(bytes, FLAGS_AT) % 2 == 1 {
         return true;
     }
     if base_lacks(m, bytes, markers) {

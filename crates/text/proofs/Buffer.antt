@@ -5,7 +5,7 @@ use mathlib.Core.List.{List, [], _∷_, _++_, append-nil}
 use Prim.Native.Nat.{ℕ, suc, _+_, _-_, _≤_, _<_}
 use native.Mathlib.Nat.{add-zero}
 use native.Mathlib.Omega.{arith}
-use lib.ListN.{length, getD, set, take, drop, length-set, length-append, length-take, length-drop}
+use lib.ListN.{length, getD, set, take, drop, length-set, length-append, length-drop}
 use lib.Seq.{take-nil, append-snoc, take-suc, length-take-le, getD-drop}
 use Rattle.text.specs.Text.{putAll, overlaid}
 
@@ -15,10 +15,6 @@ pub put-length : (out : List ℕ) (at : ℕ) (bs : List ℕ) → length (putAll 
 unfolding putAll
 put-length out at [] = refl
 put-length out at (b ∷ bs) = put-length (set out at b) (at + 1) bs ∙ length-set out at b
-
-pub overlaid-length : (text out : List ℕ) → length (overlaid text out) ≡ length out
-unfolding overlaid
-overlaid-length text out = simp (length-append, length-take, length-drop) (omega arith)
 
 -- ---- one part after another
 

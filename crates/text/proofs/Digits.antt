@@ -49,17 +49,6 @@ power (suc m) = power m * 10
 tenth : (m n : ℕ) → n < power (suc m) → n / 10 < power m
 tenth m n h = div-lt-iff-lt-mul {k = 10} {x = n} {y = power m} (omega arith) .1 h
 
-digits-short : (m k n : ℕ) → n < power (suc m) → length (digits k n) ≤ suc m
-unfolding digits
-digits-short m zero n h = omega arith
-digits-short m (suc k) n h = go m h (λ m h. digits-short m k (n / 10) h) (ltb n 10) refl
-  where
-    go : (m : ℕ) → n < power (suc m) → ((m : ℕ) → n / 10 < power (suc m) → length (digits k (n / 10)) ≤ suc m) → (t : Bool) → ltb n 10 ≡ t
-        → length (digits (suc k) n) ≤ suc m
-    go m h i true q = rw (digits-one k n (ltb-true n 10 q)) (omega arith)
-    go zero h i false q = absurd (omega (arith, ltb-false n 10 q))
-    go (suc m) h i false q = let s = i m (tenth (suc m) n h) in rw (digits-more k n (ltb-false n 10 q)) (simp length-append (omega arith))
-
 -- more places than that add nothing
 digits-enough : (k n : ℕ) → n < power (suc k) → digits (suc (suc k)) n ≡ digits (suc k) n
 digits-enough zero n h = digits-one 1 n (omega arith) ∙ sym (digits-one 0 n (omega arith))
@@ -77,10 +66,6 @@ digits-enough (suc k) n h = go (digits-enough k (n / 10) (tenth (suc k) n h)) (l
 pub decimal-length : (n : ℕ) → (1 ≤ length (decimal n)) × (length (decimal n) ≤ 20)
 unfolding decimal
 decimal-length n = (digits-some 19 n, digits-most 20 n)
-
-pub decimal-short : (n : ℕ) → n < 1000 → length (decimal n) ≤ 3
-unfolding decimal
-decimal-short n h = digits-short 2 20 n h
 
 pub decimal-one : (n : ℕ) → n < 10 → decimal n ≡ (48 + n) ∷ []
 unfolding decimal

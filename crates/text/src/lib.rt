@@ -1,4 +1,5 @@
-// Text put into a lent buffer. Each function writes from `at` on and answers the place after what it wrote, also where the buffer ends before it: nothing is written there.
+// Text put into a lent buffer. Each function writes from `at` on and answers the place after what it wrote, also where the buffer ends before it: nothing
+// is written there.
 ghost use mathlib.Core.Path.{_≡_};
 ghost use Prim.Native.Nat.{_+_, _-_, _≤_, _<_};
 ghost use lib.ListN.{length, set, take, drop};

@@ -12,7 +12,8 @@ use lib.ListN.{length, getD}
 use Rattle.spec.specs.Lists.{any}
 use Rattle.spec.specs.Record.{kind, isKind, isClass, bit, flags, index, target, references, kindFits, lengthFits, bodyFits, IMPLEMENTS, LOCAL, USES, MEMBER, REFERS}
 use Rattle.spec.specs.Sheet.{Group, Located, locate, locatedIn, located, Split, splitGroups, recordsOf, wholeEnd, groupsOf, classCount, total, group, ofKind, isInterface, isInstanceField}
-use Rattle.spec.specs.Refusals.{refuseRecord, recordTests, recordRefusal, tornRefusal, noClassRefusal, noSuchClass, noSuchIndex, superclassFits, encloserFits, implementsFits, usesFits, nameMet, formTests, formRefusal, sheetRefusal}
+use Rattle.spec.specs.Refusals.{refuseRecord, recordTests, recordRefusal, tornRefusal, noClassRefusal, noSuchClass, noSuchIndex, superclassFits}
+use Rattle.spec.specs.Refusals.{encloserFits, implementsFits, usesFits, nameMet, formTests, formRefusal, sheetRefusal}
 use Rattle.theory.proofs.Bools.{not-or-l, not-or-r, un-not, imply, not-and-r}
 use Rattle.theory.proofs.All.{All, all-left, all-right, weaken}
 use Rattle.theory.proofs.Cut.{split-class, split-other}

@@ -62,8 +62,9 @@ module _ (g : ℕ → Group) (f : Falls g) where
         let c = gather-mem (λ m. usedIndexes o (g m)) (reach (buildsInside g o) l) (b .0)
         (ascending-mem (length (locals (g o))) (gather (λ m. usedIndexes o (g m)) (reach (buildsInside g o) l)) (b .0) (b .1)) in
         let n : Inside g o l = enclosers-inside g f (suc l) l o (ascending-mem l (enclosers g l) o (a .member)) in
-        let k : Captures g l o (b .0) =
-        record { last = c .source; chain = chain-steps {m = c .source} n (reach-sound (buildsInside g o) l (c .source) (elem-mem {d = c .source} (c .member))); uses = uses-is o (b .0) (g (c .source)) .0 (c .part) } in
+        let e : ℕ = c .source in
+        let s = chain-steps {m = e} n (reach-sound (buildsInside g o) l e (elem-mem {d = e} (c .member))) in
+        let k : Captures g l o (b .0) = record { last = e; chain = s; uses = uses-is o (b .0) (g e) .0 (c .part) } in
         subst₂ (Captures g l) (ap (λ (p : ℕ × ℕ). p .0) (b .2)) (ap (λ (p : ℕ × ℕ). p .1) (b .2)) k
 
     captured-complete : (l d i : ℕ) → Captures g l d i → List·Memᴰ (d, i) (captured g l)

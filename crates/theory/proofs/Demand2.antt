@@ -1,24 +1,27 @@
 -- Demand 2: the verdict of a user class is clean exactly if it breaks no rule at any record, else the lowest broken rule and the lowest record that breaks it.
 -- Assumes nothing.
-use mathlib.Core.Path.{_≡_, refl, sym, ap, _∙_, subst}
+use mathlib.Core.Path.{_≡_, refl, sym, subst}
 use mathlib.Core.Logic.{_⊎_, inl, inr, _≢_, _↔_}
 use mathlib.Core.Bool.{Bool, not, _&&_, _||_}
-use mathlib.Core.List.{List, [], _++_, map, List·Memᴰ, Memᴰ·map, Memᴰ·of-map}
+use mathlib.Core.List.{List, [], _++_, map, List·Memᴰ}
 use Prim.Native.Nat.{ℕ, suc, _≤_, _<_}
 use lib.Dec.{T, T-not, not-T, eqb, ltb, eqb→eq, ltb→lt, lt→ltb, lit<}
 use lib.ListN.{getD, take}
-use Rattle.spec.specs.Lists.{any, keep, gather, onlyIf}
+use Rattle.spec.specs.Lists.{any, gather, onlyIf}
 use Rattle.spec.specs.Record.{bit, isKind, FIELD, REFERS, flags, ownMarkers, target, index, Ty, fieldTy, isFinal, isTransient, isStatic, references}
 use Rattle.spec.specs.Sheet.{Group, classCount, group, classRecord, isInterface, isAllowed, isStaticField}
 use Rattle.spec.specs.Markers.{Immutable, Powerless, Selfless, Equatable, Token, Throwable, Enum, DeepSelfless, clash}
-use Rattle.spec.specs.Classes.{Slot, superclasses, overlay, hasMarker, satisfies, root, slots}
-use Rattle.spec.specs.Rules.{Fault, slotFault, faultIf, memberAllowed, judgedFor, rootFits, baseFits, baseFaults, forbidden, slotFaults, rootFaults, rule1, rule2, rule3, rule4, rule5, rule6, rule7, rule8, rule9, rule10, rules, placeIn, verdictOf}
+use Rattle.spec.specs.Classes.{Slot, superclasses, overlay, hasMarker, satisfies, root}
+use Rattle.spec.specs.Rules.{Fault, faultIf, memberAllowed, judgedFor, rootFits, baseFits, baseFaults, forbidden, slotFaults, rootFaults, rule1}
+use Rattle.spec.specs.Rules.{rule2, rule3, rule4, rule5, rule6, rule7, rule8, rule9, rule10, rules, placeIn, verdictOf}
 use Rattle.spec.specs.Relations.{At, Marked}
-use Rattle.spec.specs.Breaks.{Not, Flag, Allowed, Satisfies, SlotShape, field, fixed, typeOf, Final, Transient, HasSlot, Lacks, slot, root as root-lacks, Varies, Drops, SelflessBase, marked, overrides, UnfitBase, unfit, Claims, Breaks, rule1 as breaks1, rule2 as breaks2, rule3 as breaks3, rule4 as breaks4, rule5 as breaks5, rule6 as breaks6, rule7 as breaks7, rule8 as breaks8, rule9 as breaks9, rule10 as breaks10}
+use Rattle.spec.specs.Breaks.{Not, Flag, Allowed, Satisfies, SlotShape, field, fixed, typeOf, Final, Transient, HasSlot, Lacks, slot, root as root-lacks, Varies, Drops}
+use Rattle.spec.specs.Breaks.{SelflessBase, marked, overrides, UnfitBase, unfit, Claims, Breaks, rule1 as breaks1, rule2 as breaks2, rule3 as breaks3, rule4 as breaks4}
+use Rattle.spec.specs.Breaks.{rule5 as breaks5, rule6 as breaks6, rule7 as breaks7, rule8 as breaks8, rule9 as breaks9, rule10 as breaks10}
 use Rattle.spec.specs.Verdicts.{verdictAt}
 use Rattle.theory.specs.Claims.{Relations, Right, Demand2}
 use Rattle.theory.proofs.Bools.{decide, t-and, and-l, and-r, or-cases, or-l, or-r, not-or-l, not-or-r, not-or, un-not, not-mono, not-and-r, eq→eqb}
-use Rattle.theory.proofs.Members.{any-mem, mem-any, keep-mem, mem-keep}
+use Rattle.theory.proofs.Members.{any-mem, mem-any}
 use Rattle.theory.proofs.Groups.{superclass-is, first-own, first-record, flag-is}
 use Rattle.theory.proofs.Falls.{Falls}
 use Rattle.theory.proofs.Slots.{member-is, satisfies-is, Shows, slots-sound, slots-complete}

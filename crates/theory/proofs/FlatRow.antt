@@ -1,18 +1,67 @@
--- The flat row of verdicts, two bytes a user class: what stands at each byte after it was rewritten.
+-- The flat row of verdicts, `verdictBytes` bytes a user class: what stands at each byte after it was rewritten.
 -- Assumes nothing.
 use mathlib.Core.Path.{_≡_, refl, sym, ap, _∙_}
 use mathlib.Core.Bool.{Bool, true, false, not, _&&_}
 use mathlib.Core.List.{List, [], _∷_}
-use Prim.Native.Nat.{ℕ, zero, suc, _+_, _*_, _/_, _%_, _<_}
-use native.Mathlib.Nat.{zero-add, add-zero, add-suc, suc-add, le-of-suc-le-suc, not-suc-le-zero}
+use Prim.Native.Nat.{ℕ, zero, suc, _+_, _*_, _/_, _%_, _≤_, _<_, suc-le-suc}
+use native.Mathlib.Nat.{zero-add, add-zero, add-suc, suc-add, mul-comm, mul-suc, mul-le-mul-left, mul-div-le, div-add-mod, mod-lt}
+use native.Mathlib.Nat.{le-of-suc-le-suc, not-suc-le-zero, zero-lt-suc}
 use native.Mathlib.Decide.{ℕ-discrete}
 use native.Mathlib.Omega.{arith}
+use lib.Arith.{digits-div, digits-mod}
 use lib.Dec.{T, ltb, lt→ltb}
 use lib.ListN.{length, getD, set, length-set}
-use lib.Seq.{getD-set-same, getD-set-other, ext-getD}
+use lib.Seq.{getD-set-same, getD-set-other, ext-getD, sets, length-sets}
 use Rattle.spec.specs.Rules.{Verdict}
-use Rattle.spec.specs.Verdicts.{flatLines, bytesOf, mapFrom, flatByte, flatRewritten}
+use Rattle.spec.specs.Verdicts.{verdictBytes, flatLines, flatAt, bytesOf, mapFrom, flatByte, flatRewritten}
 use Rattle.theory.proofs.Bools.{t-true, t-false, t-and, and-r, not-mono}
+
+-- ---- a row of lines of w bytes
+
+-- byte j of line i
+pub line-of : (w i j : ℕ) → j < w → ((w * i + j) / w ≡ i) × ((w * i + j) % w ≡ j)
+line-of w i j h = rw (mul-comm w i) (digits-div i h, digits-mod i h)
+
+-- the place of a byte in its line
+of-line : (w i j : ℕ) → j / w ≡ i → w * i + j % w ≡ j
+of-line w i j e = ap (λ (k : ℕ). w * k + j % w) (sym e) ∙ div-add-mod j w
+
+-- a line that n bytes hold is there whole
+line-ends : (w n i : ℕ) → i < n / w → w * i + w ≤ n
+line-ends w n i h = omega (arith, mul-suc w i, mul-le-mul-left w h, mul-div-le n w)
+
+-- ---- the width of a verdict
+
+pub width-some : 0 < verdictBytes
+width-some = omega arith
+
+pub bytes-long : (v : Verdict) → length (bytesOf v) ≡ verdictBytes
+unfolding bytesOf
+bytes-long v = refl
+
+pub line-room : (row : List ℕ) {i : ℕ} → i < flatLines row → verdictBytes * i + verdictBytes ≤ length row
+unfolding flatLines
+line-room row {i} h = line-ends verdictBytes (length row) i h
+
+-- ---- a run of stores
+
+-- outside the run
+sets-kept : (vs l : List ℕ) (i j : ℕ) → ((k : ℕ) → k < length vs → j ≡ i + k → ⊥) → getD (sets l i vs) j 0 ≡ getD l j 0
+sets-kept [] l i j h = refl
+sets-kept (a ∷ vs) l i j h =
+    sets-kept vs (set l i a) (suc i) j (λ k b e. h (suc k) (suc-le-suc b) (e ∙ suc-add i k ∙ sym (add-suc i k)))
+    ∙ getD-set-other l i j a 0 (λ e. h 0 (zero-lt-suc (length vs)) (e ∙ sym (add-zero i)))
+
+-- in it
+sets-new : (vs l : List ℕ) (i k : ℕ) → i + length vs ≤ length l → k < length vs → getD (sets l i vs) (i + k) 0 ≡ getD vs k 0
+sets-new [] l i k r h = absurd (not-suc-le-zero h)
+sets-new (a ∷ vs) l i zero r h =
+    ap (λ (j : ℕ). getD (sets (set l i a) (suc i) vs) j 0) (add-zero i)
+    ∙ sets-kept vs (set l i a) (suc i) i (λ k b e. omega (arith, suc-add i k))
+    ∙ getD-set-same l i a 0 (omega arith)
+sets-new (a ∷ vs) l i (suc k) r h =
+    ap (λ (j : ℕ). getD (sets (set l i a) (suc i) vs) j 0) (add-suc i k ∙ sym (suc-add i k))
+    ∙ sets-new vs (set l i a) (suc i) k (omega (arith, length-set l i a)) (le-of-suc-le-suc h)
 
 -- ---- a list changed place by place
 
@@ -35,49 +84,63 @@ module _ (f : ℕ → ℕ → ℕ) where
   from-kept i (x ∷ xs) zero h = ap (λ (k : ℕ). f k x) (sym (add-zero i)) ∙ h x
   from-kept i (x ∷ xs) (suc j) h = from-kept (suc i) xs j (λ y. ap (λ (k : ℕ). f k y) (suc-add i j ∙ sym (add-suc i j)) ∙ h y)
 
--- ---- one byte: byte j belongs to verdict j / 2
+-- ---- one byte
 
 module _ (changed : ℕ → Bool) (v : ℕ → Verdict) (n i j : ℕ) (x : ℕ) where
   byteIf : Bool → ℕ
-  byteIf b = elim b [ true ↦ getD (bytesOf (v i)) (j % 2) 0 | false ↦ x ]
+  byteIf b = elim b [ true ↦ getD (bytesOf (v i)) (j % verdictBytes) 0 | false ↦ x ]
 
-  byte-is : j / 2 ≡ i → flatByte changed v n j x ≡ byteIf (ltb i n && changed i)
+  byte-is : j / verdictBytes ≡ i → flatByte changed v n j x ≡ byteIf (ltb i n && changed i)
   unfolding flatByte byteIf
-  byte-is e = ap (λ (k : ℕ). elim (ltb k n && changed k) as (λ (b : Bool). ℕ) [ true ↦ getD (bytesOf (v k)) (j % 2) 0 | false ↦ x ]) e
+  byte-is e = ap (λ (k : ℕ). elim (ltb k n && changed k) as (λ (b : Bool). ℕ) [ true ↦ getD (bytesOf (v k)) (j % verdictBytes) 0 | false ↦ x ]) e
 
-  byte-new : j / 2 ≡ i → i < n → T (changed i) → flatByte changed v n j x ≡ getD (bytesOf (v i)) (j % 2) 0
+  byte-new : j / verdictBytes ≡ i → i < n → T (changed i) → flatByte changed v n j x ≡ getD (bytesOf (v i)) (j % verdictBytes) 0
   unfolding byteIf
   byte-new e h t = byte-is e ∙ ap byteIf (t-true (ltb i n && changed i) (t-and (ltb i n) (changed i) (lt→ltb i n h) t))
 
-  byte-kept : j / 2 ≡ i → T (not (changed i)) → flatByte changed v n j x ≡ x
+  byte-kept : j / verdictBytes ≡ i → T (not (changed i)) → flatByte changed v n j x ≡ x
   unfolding byteIf
   byte-kept e t = byte-is e ∙ ap byteIf (t-false (ltb i n && changed i) (not-mono (ltb i n && changed i) (changed i) (and-r (ltb i n) (changed i)) t))
-
--- ---- the two bytes of a verdict
-
-module _ (changed : ℕ → Bool) (v : ℕ → Verdict) (row : List ℕ) (i : ℕ) where
-  pub read-new : i < flatLines row → T (changed i) → (j : ℕ) → j / 2 ≡ i → getD (flatRewritten changed v row) j 0 ≡ getD (bytesOf (v i)) (j % 2) 0
-  unfolding flatRewritten flatLines
-  read-new h t j e =
-      from-new (flatByte changed v (flatLines row)) 0 row j (omega arith)
-      ∙ ap (λ (k : ℕ). flatByte changed v (flatLines row) k (getD row j 0)) (zero-add j)
-      ∙ byte-new changed v (flatLines row) i j (getD row j 0) e h t
-
-  pub read-kept : T (not (changed i)) → (j : ℕ) → j / 2 ≡ i → getD (flatRewritten changed v row) j 0 ≡ getD row j 0
-  unfolding flatRewritten
-  read-kept t j e =
-      from-kept (flatByte changed v (flatLines row)) 0 row j
-      (λ x. ap (λ (k : ℕ). flatByte changed v (flatLines row) k x) (zero-add j) ∙ byte-kept changed v (flatLines row) i j x e t)
-
-pub even : (i : ℕ) → (2 * i / 2 ≡ i) × (2 * i % 2 ≡ 0)
-even i = (omega arith, omega arith)
-
-pub odd : (i : ℕ) → ((2 * i + 1) / 2 ≡ i) × ((2 * i + 1) % 2 ≡ 1)
-odd i = (omega arith, omega arith)
 
 pub rewritten-length : (changed : ℕ → Bool) (v : ℕ → Verdict) (row : List ℕ) → length (flatRewritten changed v row) ≡ length row
 unfolding flatRewritten
 rewritten-length changed v row = from-length (flatByte changed v (flatLines row)) 0 row
+
+pub rewritten-lines : (changed : ℕ → Bool) (v : ℕ → Verdict) (row : List ℕ) → flatLines (flatRewritten changed v row) ≡ flatLines row
+unfolding flatLines
+rewritten-lines changed v row = ap (λ (n : ℕ). n / verdictBytes) (rewritten-length changed v row)
+
+-- ---- the bytes of a verdict, and the verdict
+
+module _ (changed : ℕ → Bool) (v : ℕ → Verdict) (row : List ℕ) (i : ℕ) where
+  module _ (h : i < flatLines row) (t : T (changed i)) where
+    pub read-new : (j : ℕ) → j / verdictBytes ≡ i → getD (flatRewritten changed v row) j 0 ≡ getD (bytesOf (v i)) (j % verdictBytes) 0
+    unfolding flatRewritten
+    read-new j e =
+        from-new (flatByte changed v (flatLines row)) 0 row j (omega (arith, line-room row h, of-line verdictBytes i j e, mod-lt j width-some))
+        ∙ ap (λ (k : ℕ). flatByte changed v (flatLines row) k (getD row j 0)) (zero-add j)
+        ∙ byte-new changed v (flatLines row) i j (getD row j 0) e h t
+
+    pub line-new : (j : ℕ) → j < verdictBytes → getD (flatRewritten changed v row) (verdictBytes * i + j) 0 ≡ getD (bytesOf (v i)) j 0
+    line-new j l = let o = line-of verdictBytes i j l in read-new (verdictBytes * i + j) (o .0) ∙ ap (λ (k : ℕ). getD (bytesOf (v i)) k 0) (o .1)
+
+    pub at-new : flatAt (flatRewritten changed v row) i ≡ v i
+    unfolding flatAt bytesOf
+    at-new k = record { rule = (rw add-zero at (line-new 0 width-some)) k; recordNumber = line-new 1 (omega arith) k }
+
+  module _ (t : T (not (changed i))) where
+    pub read-kept : (j : ℕ) → j / verdictBytes ≡ i → getD (flatRewritten changed v row) j 0 ≡ getD row j 0
+    unfolding flatRewritten
+    read-kept j e =
+        from-kept (flatByte changed v (flatLines row)) 0 row j
+        (λ x. ap (λ (k : ℕ). flatByte changed v (flatLines row) k x) (zero-add j) ∙ byte-kept changed v (flatLines row) i j x e t)
+
+    pub line-kept : (j : ℕ) → j < verdictBytes → getD (flatRewritten changed v row) (verdictBytes * i + j) 0 ≡ getD row (verdictBytes * i + j) 0
+    line-kept j l = read-kept (verdictBytes * i + j) (line-of verdictBytes i j l .0)
+
+    pub at-kept : flatAt (flatRewritten changed v row) i ≡ flatAt row i
+    unfolding flatAt
+    at-kept k = record { rule = (rw add-zero at (line-kept 0 width-some)) k; recordNumber = line-kept 1 (omega arith) k }
 
 -- ---- the whole row
 
@@ -94,49 +157,43 @@ module _ (v : ℕ → Verdict) (row : List ℕ) where
 
   -- nothing changes
   pub rewritten-none : (changed : ℕ → Bool) → ((i : ℕ) → T (not (changed i))) → row ≡ flatRewritten changed v row
-  rewritten-none changed h = rewritten-by changed row refl (λ j l. sym (byte-kept changed v (flatLines row) (j / 2) j (getD row j 0) refl (h (j / 2))))
+  rewritten-none changed h =
+      rewritten-by changed row refl (λ j l. sym (byte-kept changed v (flatLines row) (j / verdictBytes) j (getD row j 0) refl (h (j / verdictBytes))))
 
-  byte-same : (p q : ℕ → Bool) (j x : ℕ) → p (j / 2) ≡ q (j / 2) → flatByte p v (flatLines row) j x ≡ flatByte q v (flatLines row) j x
+  byte-same : (p q : ℕ → Bool) (j x : ℕ) → p (j / verdictBytes) ≡ q (j / verdictBytes) → flatByte p v (flatLines row) j x ≡ flatByte q v (flatLines row) j x
   unfolding flatByte
-  byte-same p q j x e = ap (λ (b : Bool). elim (ltb (j / 2) (flatLines row) && b) as (λ (c : Bool). ℕ) [ true ↦ getD (bytesOf (v (j / 2))) (j % 2) 0 | false ↦ x ]) e
+  byte-same p q j x e =
+      let i = j / verdictBytes in
+      ap (λ (b : Bool). elim (ltb i (flatLines row) && b) as (λ (c : Bool). ℕ) [ true ↦ getD (bytesOf (v i)) (j % verdictBytes) 0 | false ↦ x ]) e
 
   pub rewritten-same : (p q : ℕ → Bool) → ((i : ℕ) → p i ≡ q i) → flatRewritten p v row ≡ flatRewritten q v row
-  rewritten-same p q e = rewritten-by q (flatRewritten p v row) (rewritten-length p v row) (λ j l. read-is p j l ∙ byte-same p q j (getD row j 0) (e (j / 2)))
+  rewritten-same p q e =
+      rewritten-by q (flatRewritten p v row) (rewritten-length p v row) (λ j l. read-is p j l ∙ byte-same p q j (getD row j 0) (e (j / verdictBytes)))
 
   -- one verdict more is written, byte by byte
   pub rewritten-more : (p q : ℕ → Bool) (i : ℕ) → i < flatLines row → T (q i) → ((k : ℕ) → (k ≡ i → ⊥) → p k ≡ q k)
-      → set (set (flatRewritten p v row) (2 * i) (v i .rule)) (2 * i + 1) (v i .recordNumber) ≡ flatRewritten q v row
-  rewritten-more p q i h t same = rewritten-by q (set (set r (2 * i) (v i .rule)) (2 * i + 1) (v i .recordNumber)) (length-set (set r (2 * i) (v i .rule)) (2 * i + 1) (v i .recordNumber) ∙ length-set r (2 * i) (v i .rule) ∙ rewritten-length p v row) at
+      → sets (flatRewritten p v row) (verdictBytes * i) (bytesOf (v i)) ≡ flatRewritten q v row
+  rewritten-more p q i h t same =
+      rewritten-by q (sets r at bytes) (length-sets r at bytes ∙ rewritten-length p v row) (λ j l. go j l (ℕ-discrete (j / verdictBytes) i))
     where
       r : List ℕ
       r = flatRewritten p v row
 
-      long : 2 * i + 1 < length row
-      long = unfold flatLines in omega arith
+      at : ℕ
+      at = verdictBytes * i
 
-      new : (j : ℕ) → j / 2 ≡ i → flatByte q v (flatLines row) j (getD row j 0) ≡ getD (bytesOf (v i)) (j % 2) 0
-      new j e = byte-new q v (flatLines row) i j (getD row j 0) e h t
+      bytes : List ℕ
+      bytes = bytesOf (v i)
 
-      at : (j : ℕ) → j < length row → getD (set (set r (2 * i) (v i .rule)) (2 * i + 1) (v i .recordNumber)) j 0 ≡ flatByte q v (flatLines row) j (getD row j 0)
-      at j l = go (ℕ-discrete j (2 * i + 1)) (ℕ-discrete j (2 * i))
-        where
-          go : Dec (j ≡ 2 * i + 1) → Dec (j ≡ 2 * i) → getD (set (set r (2 * i) (v i .rule)) (2 * i + 1) (v i .recordNumber)) j 0 ≡ flatByte q v (flatLines row) j (getD row j 0)
-          go (yes e) d =
-              let o = odd i in
-              let a : j / 2 ≡ i = omega arith in
-              let b : j % 2 ≡ 1 = omega arith in
-              ap (λ (k : ℕ). getD (set (set r (2 * i) (v i .rule)) (2 * i + 1) (v i .recordNumber)) k 0) e
-              ∙ getD-set-same (set r (2 * i) (v i .rule)) (2 * i + 1) (v i .recordNumber) 0 (omega (arith, length-set r (2 * i) (v i .rule), rewritten-length p v row, long))
-              ∙ sym (new j a ∙ ap (λ (k : ℕ). getD (bytesOf (v i)) k 0) b ∙ (unfold bytesOf in refl))
-          go (no n) (yes e) =
-              let a : j / 2 ≡ i = omega arith in
-              let b : j % 2 ≡ 0 = omega arith in
-              getD-set-other (set r (2 * i) (v i .rule)) (2 * i + 1) j (v i .recordNumber) 0 n
-              ∙ ap (λ (k : ℕ). getD (set r (2 * i) (v i .rule)) k 0) e
-              ∙ getD-set-same r (2 * i) (v i .rule) 0 (omega (arith, rewritten-length p v row, long))
-              ∙ sym (new j a ∙ ap (λ (k : ℕ). getD (bytesOf (v i)) k 0) b ∙ (unfold bytesOf in refl))
-          go (no n) (no m) =
-              getD-set-other (set r (2 * i) (v i .rule)) (2 * i + 1) j (v i .recordNumber) 0 n
-              ∙ getD-set-other r (2 * i) j (v i .rule) 0 m
-              ∙ read-is p j l
-              ∙ byte-same p q j (getD row j 0) (same (j / 2) (λ e. omega arith))
+      room : at + length bytes ≤ length r
+      room = rw (bytes-long (v i), rewritten-length p v row) (line-room row h)
+
+      go : (j : ℕ) → j < length row → Dec (j / verdictBytes ≡ i) → getD (sets r at bytes) j 0 ≡ flatByte q v (flatLines row) j (getD row j 0)
+      go j l (yes e) =
+          ap (λ (k : ℕ). getD (sets r at bytes) k 0) (sym (of-line verdictBytes i j e))
+          ∙ sets-new bytes r at (j % verdictBytes) room (rw (bytes-long (v i)) (mod-lt j width-some))
+          ∙ sym (byte-new q v (flatLines row) i j (getD row j 0) e h t)
+      go j l (no n) =
+          sets-kept bytes r at j (λ k b e. n (ap (λ (m : ℕ). m / verdictBytes) e ∙ line-of verdictBytes i k (rw (bytes-long (v i)) at b) .0))
+          ∙ read-is p j l
+          ∙ byte-same p q j (getD row j 0) (same (j / verdictBytes) n)

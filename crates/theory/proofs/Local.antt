@@ -7,16 +7,21 @@ use Prim.Native.Nat.{ℕ, zero, suc}
 use lib.Dec.{T, eqb, ltb}
 use lib.ListN.{length, getD, take, drop}
 use Rattle.spec.specs.Lists.{any, keep, gather, numbered, onlyIf, elem, ascending}
-use Rattle.spec.specs.Record.{bit, isKind, CLASS, IMPLEMENTS, FIELD, LOCAL, BUILDS, MEMBER, REFERS, flags, ownMarkers, superclass, encloser, target, index, Ty, fieldTy, localTy, isFinal, isStatic, unlessNone, tyReferences, references}
+use Rattle.spec.specs.Record.{bit, isKind, CLASS, IMPLEMENTS, FIELD, LOCAL, BUILDS, MEMBER, REFERS, flags, ownMarkers, superclass, encloser}
+use Rattle.spec.specs.Record.{target, index, Ty, fieldTy, localTy, isFinal, isStatic, unlessNone, tyReferences, references}
 use Rattle.spec.specs.Sheet.{Group, classCount, group, classRecord, groupReferences, ofKind, isInterface, isInner, isAllowed, isStaticField, isInstanceField}
 use Rattle.spec.specs.Markers.{Immutable, Powerless, Selfless, DeepSelfless, closure, union, unionAll}
-use Rattle.spec.specs.Classes.{superclasses, enclosing, targets, supertypes, locals, localAt, usedIndexes, classTy, Slot, fieldSlot, encloserSlot, variableSlot, gathered, overlay, hasMarker, satisfies, enclosersIn, enclosers, inside, lineageIn, lineage, rootIn, root, buildsInside, capturedOf, captured, encloserSlots, fieldSlots, capturedSlots, ownSlots, slots}
-use Rattle.spec.specs.Rules.{Fault, staticMarker, slotFault, faultsAt, faultIf, forbidden, rule1, memberAllowed, rule2, rule3, rule4, rule5, rule6, judgedFor, slotFaults, rootFits, rootFaults, rule7, rule8, baseFits, baseFaults, rule9, rule10, rules, verdictOf}
+use Rattle.spec.specs.Classes.{superclasses, enclosing, targets, supertypes, locals, localAt, usedIndexes, classTy, Slot, fieldSlot, encloserSlot}
+use Rattle.spec.specs.Classes.{variableSlot, gathered, overlay, hasMarker, satisfies, enclosersIn, enclosers, inside, lineageIn, lineage, rootIn, root}
+use Rattle.spec.specs.Classes.{buildsInside, capturedOf, captured, encloserSlots, fieldSlots, capturedSlots, ownSlots, slots}
+use Rattle.spec.specs.Rules.{Fault, staticMarker, slotFault, faultsAt, faultIf, forbidden, rule1, memberAllowed, rule2, rule3, rule4, rule5, rule6, judgedFor}
+use Rattle.spec.specs.Rules.{slotFaults, rootFits, rootFaults, rule7, rule8, baseFits, baseFaults, rule9, rule10, rules, verdictOf}
 use Rattle.spec.specs.Relations.{Depends, self, onward}
 use Rattle.spec.specs.Verdicts.{verdictAt}
 use Rattle.theory.specs.Claims.{Locality}
 use Rattle.theory.proofs.Bools.{and-l, and-cong}
-use Rattle.theory.proofs.All.{All, all-append, all-left, all-right, all-keep, all-take, all-drop, all-if, of-members, at-member, weaken, all-kept, all-gather, all-map, all-parts, map-cong, any-cong, all-cong, keep-cong, all-numbered, gather-same}
+use Rattle.theory.proofs.All.{All, all-append, all-left, all-right, all-keep, all-take, all-drop, all-if, of-members, at-member, weaken, all-kept}
+use Rattle.theory.proofs.All.{all-gather, all-map, all-parts, map-cong, any-cong, all-cong, keep-cong, all-numbered, gather-same}
 use Rattle.theory.proofs.Reach.{reach-in, reach-same}
 use Rattle.theory.proofs.Members.{gather-mem, ascending-mem}
 use Rattle.theory.proofs.References.{references-class, references-implements, references-field, references-local, references-builds, references-refers}

@@ -12,7 +12,7 @@ use Rattle.spec.specs.Sheet.{recordsOf, wholeEnd, groupsOf, classCount}
 use Rattle.spec.specs.Refusals.{tornRefusal, sheetRefusal, newRefusal, presentRefusal, addedSheet, replacedSheet}
 use Rattle.theory.specs.Claims.{NewSheets}
 use Rattle.theory.proofs.Bools.{eq→eqb, not-not}
-use Rattle.theory.proofs.All.{all-append, all-set}
+use Rattle.theory.proofs.All.{All, all-append, all-set}
 use Rattle.theory.proofs.Cut.{IsGroup, concat-append, groups-of-join, sheet-grouped, sheet-groups, whole-join}
 use Rattle.theory.proofs.Answers.{first-none, skip-none, keep-head, none-if}
 use Rattle.theory.proofs.Accept.{Clear, sound}
@@ -24,37 +24,39 @@ concat-last xs x = concat-append xs (x ∷ []) ∙ ap (λ l. concat xs ++ l) (ap
 
 -- a sheet that passes the first pass and a whole group make sheets of whole records
 module _ {sheet n : ℕ} {user : List ℕ} (clear : Clear sheet n user) (g : List ℕ) (whole : IsGroup g) where
+  abbrev gs : List (List ℕ)
+  gs = map concat (groupsOf user)
+
+  -- its groups and the new one, last or in the place of one
+  more-groups : All IsGroup (gs ++ (g ∷ []))
+  more-groups = all-append IsGroup gs (g ∷ []) (sheet-groups user (clear .end) (clear .loose)) (whole, tt)
+
+  more-is : concat (gs ++ (g ∷ [])) ≡ user ++ g
+  more-is = concat-last gs g ∙ ap (λ (s : List ℕ). s ++ g) (sheet-grouped user (clear .end) (clear .loose))
+
+  other-groups : (i : ℕ) → All IsGroup (set gs i g)
+  other-groups i = all-set IsGroup gs i g (sheet-groups user (clear .end) (clear .loose)) whole
+
   pub added-whole : wholeEnd (addedSheet user g) ≡ length (addedSheet user g)
   unfolding addedSheet
-  added-whole =
-      let gs : List (List ℕ) = map concat (groupsOf user) in
-      subst (λ (s : List ℕ). wholeEnd s ≡ length s)
-      (concat-last gs g ∙ ap (λ (s : List ℕ). s ++ g) (sheet-grouped user (clear .end) (clear .loose)))
-      (whole-join (gs ++ (g ∷ [])) (all-append IsGroup gs (g ∷ []) (sheet-groups user (clear .end) (clear .loose)) (whole, tt)))
+  added-whole = subst (λ (s : List ℕ). wholeEnd s ≡ length s) more-is (whole-join (gs ++ (g ∷ [])) more-groups)
 
   pub replaced-whole : (library : List ℕ) (c : ℕ) → wholeEnd (replacedSheet library user c g) ≡ length (replacedSheet library user c g)
   unfolding replacedSheet
-  replaced-whole library c =
-      let gs : List (List ℕ) = map concat (groupsOf user) in
-      let i : ℕ = c - classCount library in
-      whole-join (set gs i g) (all-set IsGroup gs i g (sheet-groups user (clear .end) (clear .loose)) whole)
+  replaced-whole library c = whole-join (set gs (c - classCount library) g) (other-groups (c - classCount library))
 
   -- one class more, and as many
   pub added-count : classCount (addedSheet user g) ≡ classCount user + 1
   unfolding addedSheet classCount
   added-count =
-      let gs : List (List ℕ) = map concat (groupsOf user) in
-      ap (λ (s : List ℕ). length (groupsOf s)) (sym (concat-last gs g ∙ ap (λ (s : List ℕ). s ++ g) (sheet-grouped user (clear .end) (clear .loose))))
-      ∙ ap length (groups-of-join (gs ++ (g ∷ [])) (all-append IsGroup gs (g ∷ []) (sheet-groups user (clear .end) (clear .loose)) (whole, tt)))
+      ap (λ (s : List ℕ). length (groupsOf s)) (sym more-is) ∙ ap length (groups-of-join (gs ++ (g ∷ [])) more-groups)
       ∙ length-map (gs ++ (g ∷ [])) recordsOf ∙ length-append gs (g ∷ []) ∙ ap (λ (k : ℕ). k + 1) (length-map (groupsOf user) concat)
 
   pub replaced-count : (library : List ℕ) (c : ℕ) → classCount (replacedSheet library user c g) ≡ classCount user
   unfolding replacedSheet classCount
   replaced-count library c =
-      let gs : List (List ℕ) = map concat (groupsOf user) in
       let i : ℕ = c - classCount library in
-      ap length (groups-of-join (set gs i g) (all-set IsGroup gs i g (sheet-groups user (clear .end) (clear .loose)) whole))
-      ∙ length-map (set gs i g) recordsOf ∙ length-set gs i g ∙ length-map (groupsOf user) concat
+      ap length (groups-of-join (set gs i g) (other-groups i)) ∙ length-map (set gs i g) recordsOf ∙ length-set gs i g ∙ length-map (groupsOf user) concat
 
 -- beside a library that was accepted, a sheet of whole records
 pub sheet-new : (library user new : List ℕ) → sheetRefusal library user ≡ none → wholeEnd new ≡ length new → sheetRefusal library new ≡ newRefusal library new

@@ -2,6 +2,7 @@
 -- Assumes nothing.
 use mathlib.Core.Path.{_≡_, sym, ap, subst}
 use mathlib.Core.Logic.{_⊎_, inl, inr}
+use mathlib.Core.Bool.{_||_}
 use mathlib.Core.List.{List, [], _∷_, map, List·Memᴰ, List·Memᴰ·head, List·Memᴰ·tail, List·Memᴰ·append-cases, Memᴰ·append-left, Memᴰ·append-right, Memᴰ·of-map}
 use Prim.Native.Nat.{ℕ, zero, suc, _<_}
 use native.Mathlib.Nat.{le-refl, not-suc-le-zero}
@@ -104,15 +105,22 @@ module _ (g : ℕ → Group) (f : Falls g) where
       ap (λ (ms : List ℕ). union (ownMarkers (classRecord (g c))) (unionAll ms))
       (map-cong (λ e. e < c) (gathered g n) (gathered g m) (λ e q. gathered-enough n m e (omega arith) (omega arith)) (supertypes (g c)) (supertypes-lower c))
 
+  -- the markers of a class are its own and those of its supertypes
+  abbrev own-set : ℕ → ℕ
+  own-set d = ownMarkers (classRecord (g d))
+
+  abbrev rest : ℕ → ℕ
+  rest d = unionAll (map (gathered g d) (supertypes (g d)))
+
+  either : (d k : ℕ) → T (bit k (own-set d) || bit k (rest d)) → T (bit k (gathered g (suc d) d))
+  unfolding gathered
+  either d k t = subst T (sym (bit-union k (own-set d) (rest d))) t
+
   -- the markers of a supertype reach the class
   step-down : (d e k : ℕ) → Superclass (g d) e ⊎ Implements (g d) e → T (bit k (gathered g (suc e) e)) → T (bit k (gathered g (suc d) d))
-  unfolding gathered
   step-down d e k h t =
       let q : e < d = super-lt d e h in
-      let own-set : ℕ = ownMarkers (classRecord (g d)) in
-      let rest : ℕ = unionAll (map (gathered g d) (supertypes (g d))) in
-      subst T (sym (bit-union k own-set rest))
-      (or-r (bit k own-set) (bit k rest)
+      either d k (or-r (bit k (own-set d)) (bit k (rest d))
       (in-union k (map (gathered g d) (supertypes (g d)))
       (map-in d k (of-super d e h) (subst (λ (m : ℕ). T (bit k m)) (gathered-enough (suc e) d e (le-refl (suc e)) q) t))))
 
@@ -125,11 +133,7 @@ module _ (g : ℕ → Group) (f : Falls g) where
   held-gathered c k h = down k (h .line) (here-own (h .holder) (h .held))
     where
       here-own : (d : ℕ) → T (bit k (ownMarkers (classRecord (g d)))) → T (bit k (gathered g (suc d) d))
-      here-own d t =
-          unfold gathered in
-          let own-set : ℕ = ownMarkers (classRecord (g d)) in
-          let rest : ℕ = unionAll (map (gathered g d) (supertypes (g d))) in
-          subst T (sym (bit-union k own-set rest)) (or-l (bit k own-set) (bit k rest) t)
+      here-own d t = either d k (or-l (bit k (own-set d)) (bit k (rest d)) t)
 
   module _ (low : (c : ℕ) → ownMarkers (classRecord (g c)) < 256) where
     gathered-low : (n c : ℕ) → gathered g n c < 256

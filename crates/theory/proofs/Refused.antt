@@ -13,7 +13,9 @@ use lib.ListN.{length, take, length-append}
 use Rattle.spec.specs.Lists.{any, all, concat, firstOf, elem}
 use Rattle.spec.specs.Record.{kind, isClass}
 use Rattle.spec.specs.Sheet.{recordsOf, wholeEnd, classCount, total, group, Located, locate, locatedIn, located}
-use Rattle.spec.specs.Refusals.{Refusal, refuseIf, refusePlain, refuseRecord, sizeRefusal, tornRefusal, recordTests, recordRefusal, noClassRefusal, formTests, deemedTests, formRefusal, deemedRefusal, sheetRefusal, newRefusal, presentRefusal, shortRefusal, noUserRefusal, unusedRefusal, groupRefusal, roomRefusal, addedSheet, replacedSheet, judgeRefusal, addRefusal, replaceRefusal, queryRefusal, judgeNumbers, addNumbers, replaceNumbers, queryNumbers}
+use Rattle.spec.specs.Refusals.{Refusal, refuseIf, refusePlain, refuseRecord, sizeRefusal, tornRefusal, recordTests, recordRefusal, noClassRefusal, formTests, deemedTests, formRefusal}
+use Rattle.spec.specs.Refusals.{deemedRefusal, sheetRefusal, newRefusal, presentRefusal, shortRefusal, noUserRefusal, unusedRefusal, groupRefusal, roomRefusal, addedSheet}
+use Rattle.spec.specs.Refusals.{replacedSheet, judgeRefusal, addRefusal, replaceRefusal, queryRefusal, judgeNumbers, addNumbers, replaceNumbers, queryNumbers}
 use Rattle.theory.specs.Claims.{sheetOf, Begins, Blames, size, torn, at, noClass, plain, BlamesEdit, present, made, Refuses, RefusalsHold}
 use Rattle.theory.proofs.All.{All, all-append, all-if, weaken, all-true}
 use Rattle.theory.proofs.Complete.{all-elem}

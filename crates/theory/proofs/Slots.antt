@@ -3,7 +3,8 @@
 use mathlib.Core.Path.{_≡_, refl, sym, ap, _∙_, subst}
 use mathlib.Core.Logic.{_⊎_, inl, inr, _≢_, _↔_}
 use mathlib.Core.Bool.{Bool, true, false, not, _&&_}
-use mathlib.Core.List.{List, [], _∷_, _++_, map, List·Memᴰ, List·Memᴰ·head, List·Memᴰ·not-nil, List·Memᴰ·append-cases, Memᴰ·append-left, Memᴰ·append-right, Memᴰ·map, Memᴰ·of-map, List·Memᴰ·eq-of-singleton}
+use mathlib.Core.List.{List, [], _∷_, _++_, map, List·Memᴰ, List·Memᴰ·head, List·Memᴰ·not-nil, List·Memᴰ·append-cases}
+use mathlib.Core.List.{Memᴰ·append-left, Memᴰ·append-right, Memᴰ·map, Memᴰ·of-map, List·Memᴰ·eq-of-singleton}
 use Prim.Native.Nat.{ℕ, zero, suc, _+_, _≤_, _<_}
 use native.Mathlib.Nat.{le-refl, add-zero, zero-add, suc-add, add-suc}
 use native.Mathlib.Omega.{arith}
@@ -12,7 +13,8 @@ use lib.ListN.{getD, take, drop}
 use Rattle.spec.specs.Lists.{all, keep, numbered}
 use Rattle.spec.specs.Record.{u16, bit, isKind, FIELD, LOCAL, MEMBER, flags, Ty, localTy, isStatic, tyReferences}
 use Rattle.spec.specs.Sheet.{Group, classRecord, ofKind, isInner, isInstanceField}
-use Rattle.spec.specs.Classes.{Slot, fieldSlot, encloserSlot, variableSlot, classTy, enclosing, locals, localAt, hasMarker, satisfies, lineage, captured, encloserSlots, fieldSlots, capturedSlots, ownSlots, slots}
+use Rattle.spec.specs.Classes.{Slot, fieldSlot, encloserSlot, variableSlot, classTy, enclosing, locals, localAt, hasMarker, satisfies}
+use Rattle.spec.specs.Classes.{lineage, captured, encloserSlots, fieldSlots, capturedSlots, ownSlots, slots}
 use Rattle.spec.specs.Rules.{slotFault, placeIn, memberAllowed}
 use Rattle.spec.specs.Relations.{At, Nth, here, over, past, Encloser, Marked, Lineage, self, up, Captures}
 use Rattle.spec.specs.Breaks.{Flag, Allowed, Satisfies, object, primitive, SlotShape, field, fixed, typeOf, Final, Transient, OwnSlot, instance, outer, HasSlot, own, inherited}
@@ -231,8 +233,8 @@ module _ (nlib : ℕ) (g : ℕ → Group) (f : Falls g) (captures : (l d i : ℕ
       let k = keep-mem (λ n. isKind FIELD (n .1) && not (isStatic (n .1))) (numbered 0 (g t)) (a .0) (a .1) in
       let p = numbered-at 0 (g t) (a .0) (k .0) in
       let r : List ℕ = a .0 .1 in
-      subst (Own t) (a .2)
-      (at (a .0) (subst (λ (n : ℕ). At (g t) n r) (sym (zero-add (p .number)) ∙ sym (p .is)) (p .at)) (and-l (isKind FIELD r) (not (isStatic r)) (k .1)) (and-r (isKind FIELD r) (not (isStatic r)) (k .1)))
+      let h : At (g t) (a .0 .0) r = subst (λ (n : ℕ). At (g t) n r) (sym (zero-add (p .number)) ∙ sym (p .is)) (p .at) in
+      subst (Own t) (a .2) (at (a .0) h (and-l (isKind FIELD r) (not (isStatic r)) (k .1)) (and-r (isKind FIELD r) (not (isStatic r)) (k .1)))
     where
       at : (n : ℕ × List ℕ) → At (g t) (n .0) (n .1) → T (isKind FIELD (n .1)) → T (not (isStatic (n .1))) → Own t (fieldSlot t n)
       at n h k u = unfold fieldSlot slotFault in

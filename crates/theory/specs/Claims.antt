@@ -14,7 +14,8 @@ use Rattle.spec.specs.Classes.{hasMarker, inside, lineage, root, buildsInside, 
 use Rattle.spec.specs.Rules.{Verdict, clean, dependencies}
 use Rattle.spec.specs.Relations.{Superclass, Encloser, Implements, References, Depends, Marked, Lineage, Root, Inside, Chain, Captures}
 use Rattle.spec.specs.Breaks.{Not, Flag, Breaks}
-use Rattle.spec.specs.Refusals.{Refusal, Accepted, addedSheet, replacedSheet, judgeNumbers, addNumbers, replaceNumbers, queryNumbers, judgeRefusal, addRefusal, replaceRefusal, queryRefusal, sheetRefusal, newRefusal, presentRefusal, wholeGroup}
+use Rattle.spec.specs.Refusals.{Refusal, Accepted, addedSheet, replacedSheet, judgeNumbers, addNumbers, replaceNumbers, queryNumbers, judgeRefusal}
+use Rattle.spec.specs.Refusals.{addRefusal, replaceRefusal, queryRefusal, sheetRefusal, newRefusal, presentRefusal, wholeGroup}
 use Rattle.spec.specs.Verdicts.{verdictAt}
 
 -- ---- the computed definitions are document 01's relations

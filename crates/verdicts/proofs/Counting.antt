@@ -1,109 +1,133 @@
--- A row of clean lines that is judged has as many faulted lines as the sheet has faulted classes; a call that is refused leaves it clean.
+-- Faulted lines, counted one by one: in a row of structs, and in a flat row written into clean lines.
 -- Assumes nothing.
 use mathlib.Core.Path.{_≡_, refl, sym, ap, _∙_}
 use mathlib.Core.Bool.{Bool, true, false, not}
-use mathlib.Core.Option.{Option, none, some}
-use mathlib.Core.List.{List, _∷_}
-use Prim.Native.Nat.{ℕ, zero, suc, _+_, _-_, _≤_}
+use mathlib.Core.List.{List, [], _∷_, _++_, append-assoc, append-nil}
+use Prim.Native.Nat.{ℕ, zero, suc, _+_, _-_, _≤_, _<_, min}
+use native.Mathlib.Nat.{suc-add}
+use native.Mathlib.Numerals.{add-one}
 use native.Mathlib.Omega.{arith}
-use lib.Dec.{eqb, ltb}
-use lib.ListN.{length, take, replicate}
-use lib.Seq.{take-all}
-use borrow.Author.Tests.{ltb-true, ltb-false}
-use Rattle.spec.specs.Lists.{keep, count, span}
-use Rattle.spec.specs.Sheet.{classCount}
-use Rattle.spec.specs.Rules as spec
-use Rattle.spec.specs.Refusals.{Refusal}
-use Rattle.spec.specs.Verdicts.{userVerdict, faulted, faultedCount}
-use Rattle.spec.specs.Promises.{Answer, Counts, afterwards, Judges, judgedRow}
-use Rattle.drafts.proofs.Drafting.{judged-few}
-use Rattle.verdicts.specs.Row.{clean, lineOf, rewrittenFrom, structs, isFaulted, faultedIn, lower, countRefusal, CountsFaults}
+use lib.Dec.{eqb}
+use lib.ListN.{length, getD, take, drop, replicate, length-replicate, replicate-append-replicate}
+use lib.Seq.{take-suc, take-all, drop-at}
+use borrow.Author.Tests.{eq-eqb, ne-eqb}
+use Rattle.spec.specs.Lists.{keep, count}
+use Rattle.spec.specs.Verdicts.{flatAt}
+use Rattle.theory.proofs.Counts.{step, count-none, count-more}
+use Rattle.verdicts.specs.Row.{clean, lineOf, isFaulted, tallied, faultedIn, shared, firstLines, written, flatFaulted}
 use Rattle.verdicts.specs.declared.Verdict.{Verdict}
-use Rattle.verdicts.proofs.Filling.{lower-first}
-use Rattle.verdicts.proofs.Row.{line-new, line-old}
 
--- ---- counting line by line
+-- ---- one line more
 
-count-yes : {A : Type 0} (p : A → Bool) (x : A) (xs : List A) → p x ≡ true → count p (x ∷ xs) ≡ suc (count p xs)
-unfolding count keep
-count-yes p x xs e = rw (e, count, keep)
+pub tallied-clean : (n : ℕ) (v : Verdict) → v .rule ≡ 0 → n ≡ tallied n v
+unfolding tallied isFaulted
+tallied-clean n v e = rw (tallied, isFaulted, eq-eqb (v .rule) 0 e)
 
-count-no : {A : Type 0} (p : A → Bool) (x : A) (xs : List A) → p x ≡ false → count p (x ∷ xs) ≡ count p xs
-unfolding count keep
-count-no p x xs e = rw (e, count, keep)
+pub tallied-faulted : (n : ℕ) (v : Verdict) → (v .rule ≡ 0 → ⊥) → n + 1 ≡ tallied n v
+unfolding tallied isFaulted
+tallied-faulted n v e = rw (tallied, isFaulted, ne-eqb (v .rule) 0 e)
 
--- a line and a class with the same verdict are counted alike
-count-alike : {A B : Type 0} (p : A → Bool) (q : B → Bool) (x : A) (y : B) (xs : List A) (ys : List B) → p x ≡ q y → count p xs ≡ count q ys → count p (x ∷ xs) ≡ count q (y ∷ ys)
-count-alike p q x y xs ys e h = go (q y) refl
+tallied-step : (n : ℕ) (v : Verdict) → tallied n v ≡ step (isFaulted v) n
+unfolding tallied
+tallied-step n v = go (isFaulted v)
   where
-    go : (b : Bool) → q y ≡ b → count p (x ∷ xs) ≡ count q (y ∷ ys)
-    go true t = count-yes p x xs (e ∙ t) ∙ ap suc h ∙ sym (count-yes q y ys t)
-    go false t = count-no p x xs (e ∙ t) ∙ h ∙ sym (count-no q y ys t)
+    go : (t : Bool) → elim t as (λ (s : Bool). ℕ) [ true ↦ n + 1 | false ↦ n ] ≡ step t n
+    go true = add-one n
+    go false = refl
 
-clean-sound : isFaulted clean ≡ false
-unfolding isFaulted
-clean-sound = refl
+tallied-suc : (n : ℕ) (v : Verdict) → suc (tallied n v) ≡ tallied (suc n) v
+unfolding tallied
+tallied-suc n v = go (isFaulted v)
+  where
+    go : (t : Bool) → suc (elim t as (λ (s : Bool). ℕ) [ true ↦ n + 1 | false ↦ n ]) ≡ elim t as (λ (s : Bool). ℕ) [ true ↦ suc n + 1 | false ↦ suc n ]
+    go true = sym (suc-add n 1)
+    go false = refl
 
-count-clean : (n : ℕ) → count isFaulted (replicate n clean) ≡ 0
-unfolding count keep
-count-clean zero = refl
-count-clean (suc n) = count-no isFaulted clean (replicate n clean) clean-sound ∙ count-clean n
+tallied-last : (l : List Verdict) (v : Verdict) → count isFaulted (l ++ (v ∷ [])) ≡ tallied (count isFaulted l) v
+unfolding count keep tallied
+tallied-last [] v = go (isFaulted v)
+  where
+    go : (t : Bool) → length {A = Verdict} (elim t as (λ (s : Bool). List Verdict) [ true ↦ v ∷ [] | false ↦ [] ]) ≡ elim t as (λ (s : Bool). ℕ) [ true ↦ 0 + 1 | false ↦ 0 ]
+    go true = refl
+    go false = refl
+tallied-last (x ∷ l) v = go (isFaulted x) (tallied-last l v)
+  where
+    longer : List Verdict
+    longer = keep isFaulted (l ++ (v ∷ []))
 
-module _ (v : ℕ → spec.Verdict) (m : ℕ) where
-  abbrev below : ℕ → Bool
-  below i = ltb i m
+    go : (t : Bool) → count isFaulted (l ++ (v ∷ [])) ≡ tallied (count isFaulted l) v
+        → length {A = Verdict} (elim t as (λ (s : Bool). List Verdict) [ true ↦ x ∷ longer | false ↦ longer ])
+        ≡ tallied (length {A = Verdict} (elim t as (λ (s : Bool). List Verdict) [ true ↦ x ∷ keep isFaulted l | false ↦ keep isFaulted l ])) v
+    go true e = ap suc e ∙ tallied-suc (count isFaulted l) v
+    go false e = e
 
+tallied-most : (n : ℕ) (v : Verdict) → tallied n v ≤ n + 1
+unfolding tallied
+tallied-most n v = go (isFaulted v)
+  where
+    go : (t : Bool) → elim t as (λ (s : Bool). ℕ) [ true ↦ n + 1 | false ↦ n ] ≤ n + 1
+    go true = omega arith
+    go false = omega arith
+
+-- ---- the first i lines of a row
+
+module _ (row : List Verdict) where
+  pub faulted-none : 0 ≡ faultedIn row 0
+  unfolding faultedIn count keep
+  faulted-none = refl
+
+  pub faulted-more : (i : ℕ) → i < length row → tallied (faultedIn row i) (getD row i clean) ≡ faultedIn row (i + 1)
+  unfolding faultedIn
+  faulted-more i h = sym
+      (ap (λ (k : ℕ). count isFaulted (take k row)) (add-one i)
+      ∙ ap (count isFaulted) (take-suc row i clean h)
+      ∙ tallied-last (take i row) (getD row i clean))
+
+  pub faulted-most : (i : ℕ) → i ≤ length row → faultedIn row i ≤ i
+  faulted-most zero h = omega (arith, faulted-none)
+  faulted-most (suc i) h =
+      let one : faultedIn row (i + 1) ≤ faultedIn row i + 1 = omega (arith, faulted-more i h, tallied-most (faultedIn row i) (getD row i clean)) in
+      omega (arith, ap (faultedIn row) (add-one i), faulted-most i (omega arith))
+
+-- ---- a flat row, and clean lines past it
+
+clean-past : (l : List Verdict) (m : ℕ) → count isFaulted (l ++ replicate m clean) ≡ count isFaulted l
+clean-past l zero = ap (count isFaulted) (append-nil l)
+clean-past l (suc m) =
+    ap (count isFaulted) (sym (append-assoc l (clean ∷ []) (replicate m clean)))
+    ∙ clean-past (l ++ (clean ∷ [])) m
+    ∙ tallied-last l clean
+    ∙ sym (tallied-clean (count isFaulted l) clean refl)
+
+module _ (flat : List ℕ) where
   abbrev bad : ℕ → Bool
-  bad i = not (eqb (v i .rule) 0)
+  bad i = not (eqb (flatAt flat i .rule) 0)
 
-  -- n clean lines from line k on, of which those below line m are judged
-  count-from : (n k : ℕ) → m ≤ k + n → count isFaulted (rewrittenFrom below v k (replicate n clean)) ≡ count bad (span k (m - k))
-  unfolding rewrittenFrom span isFaulted count keep
-  count-from zero k h = let e : m - k ≡ 0 = omega arith in rw (e, count, keep, span)
-  count-from (suc n) k h = go (ltb k m) refl (count-from n (suc k) (omega arith))
+  lines-counted : (n : ℕ) → count isFaulted (firstLines flat n) ≡ flatFaulted flat n
+  unfolding firstLines flatFaulted isFaulted count keep
+  lines-counted zero = sym (count-none bad)
+  lines-counted (suc n) =
+      let v : Verdict = lineOf (flatAt flat n) in
+      tallied-last (firstLines flat n) v
+      ∙ ap (λ (k : ℕ). tallied k v) (lines-counted n)
+      ∙ tallied-step (flatFaulted flat n) v
+      ∙ sym (count-more bad n)
+
+  -- the row of `faulted`: the flat row's lines, then clean ones
+  pub faults-counted : (n : ℕ) {ys : List Verdict} {r : ℕ} → ys ≡ written flat (replicate 256 clean) n → length ys ≡ 256
+      → r ≡ faultedIn ys (min 256 (length ys)) → r ≡ flatFaulted flat (shared n 256 flat)
+  unfolding faultedIn written
+  faults-counted n {ys} e long told =
+      told
+      ∙ ap (count isFaulted) (take-all (min 256 (length ys)) ys (omega arith) ∙ e ∙ ap (λ (l : List Verdict). firstLines flat k ++ l) rest)
+      ∙ clean-past (firstLines flat k) (256 - k)
+      ∙ lines-counted k
     where
-      rest : List Verdict
-      rest = rewrittenFrom below v (suc k) (replicate n clean)
+      k : ℕ
+      k = shared n 256 flat
 
-      go : (b : Bool) → ltb k m ≡ b → count isFaulted rest ≡ count bad (span (suc k) (m - suc k)) → count isFaulted (rewrittenFrom below v k (clean ∷ replicate n clean)) ≡ count bad (span k (m - k))
-      go true e ih =
-          let s : m - k ≡ suc (m - suc k) = omega (arith, ltb-true k m e) in
-          ap (λ (x : Verdict). count isFaulted (x ∷ rest)) (line-new below v k clean e)
-          ∙ count-alike isFaulted bad (lineOf (v k)) k rest (span (suc k) (m - suc k)) refl ih
-          ∙ ap (λ (j : ℕ). count bad (span k j)) (sym s)
-      go false e ih =
-          let z : m - suc k ≡ m - k = omega (arith, ltb-false k m e) in
-          let o : m - k ≡ 0 = omega (arith, ltb-false k m e) in
-          ap (λ (x : Verdict). count isFaulted (x ∷ rest)) (line-old below v k clean e)
-          ∙ count-no isFaulted clean rest clean-sound
-          ∙ ih
-          ∙ ap (λ (j : ℕ). count bad (span (suc k) j)) (z ∙ o)
-          ∙ ap (λ (j : ℕ). count bad (span k j)) (sym o)
-
--- ---- a judging into 256 clean lines
-
-module _ (library user : List ℕ) (used : ℕ) (scratch : List ℕ) where
-  abbrev why : Option Refusal
-  why = countRefusal library user used scratch
-
-  abbrev sheet : List ℕ
-  sheet = take used user
-
-  pub faults-counted : {answer : Answer Counts} {row : List Verdict} {scratchAfter : List ℕ} {r : ℕ} → Judges structs library user used (replicate 256 clean) scratch answer row scratchAfter
-      → length row ≡ 256 → r ≡ faultedIn row (lower 256 (length row)) → CountsFaults library user used scratch r scratchAfter
-  unfolding afterwards faultedIn judgedRow faultedCount faulted
-  faults-counted {answer} {row} {scratchAfter} {r} j long told = record {
-    answered = told
-        ∙ ap (λ (n : ℕ). count isFaulted (take n row)) (sym (lower-first 256 (length row) (omega (arith, long))))
-        ∙ ap (count isFaulted) (take-all 256 row (omega (arith, long)))
-        ∙ go why refl;
-    scratch-is = j .scratch-is;
-  }
-    where
-      go : (o : Option Refusal) → why ≡ o → count isFaulted row ≡ afterwards why 0 (faultedCount library sheet)
-      go none q =
-          let e : classCount sheet - 0 ≡ classCount sheet = omega arith in
-          ap (count isFaulted) (j .verdicts-are ∙ rw q)
-          ∙ count-from (userVerdict library sheet) (classCount sheet) 256 0 (omega (arith, judged-few library user used 256 (length scratch) q))
-          ∙ rw (q, e)
-      go (some w) q = ap (count isFaulted) (j .verdicts-are ∙ rw q) ∙ count-clean 256 ∙ rw q
+      rest : drop k (replicate 256 clean) ≡ replicate (256 - k) clean
+      rest =
+          let apart : k + (256 - k) ≡ 256 = omega arith in
+          ap (drop k) (sym (replicate-append-replicate k (256 - k) clean ∙ ap (λ (m : ℕ). replicate m clean) apart))
+          ∙ drop-at (replicate k clean) (replicate (256 - k) clean) k (length-replicate k clean)

@@ -1,143 +1,75 @@
--- A row that is counted or written line by line, and how many drafts have their line and their bytes.
+-- A row of structs that is written line by line from a flat row, and what is read in it afterwards.
 -- Assumes nothing.
 use mathlib.Core.Path.{_≡_, refl, sym, ap, _∙_}
-use mathlib.Core.Bool.{Bool, true, false}
 use mathlib.Core.List.{List, [], _∷_, _++_, append-assoc}
-use Prim.Native.Nat.{ℕ, zero, suc, _+_, _*_, _/_, _≤_, _<_}
-use native.Mathlib.Nat.{suc-add}
+use Prim.Native.Nat.{ℕ, zero, suc, _+_, _/_, _≤_, _<_, min}
 use native.Mathlib.Numerals.{add-one}
 use native.Mathlib.Omega.{arith}
-use lib.Dec.{ltb}
-use lib.ListN.{length, getD, set, take, drop, length-append, length-drop}
-use lib.Seq.{take-suc, drop-cons, set-at, getD-at}
-use borrow.Author.Tests.{lt-ltb, le-ltb, eq-eqb, ne-eqb, ltb-true, ltb-false}
-use Rattle.spec.specs.Lists.{keep, count}
-use Rattle.drafts.specs.Drafts.{unwritten}
-use Rattle.verdicts.specs.Row.{clean, isFaulted, tallied, faultedIn, writtenLine, written, lower, draftsIn}
+use lib.ListN.{length, getD, set, drop, length-append, length-drop, List·getD-append}
+use lib.Seq.{drop-cons, set-at, getD-at}
+use borrow.Author.Count.{below-more}
+use Rattle.spec.specs.Verdicts.{verdictBytes, flatLines, flatAt}
+use Rattle.verdicts.specs.Row.{clean, lineOf, shared, firstLines, written}
 use Rattle.verdicts.specs.declared.Verdict.{Verdict}
 
--- ---- the lower of two numbers
+-- how many lines there are, told from the flat row's bytes
+pub shared-is : (flat : List ℕ) (n lines : ℕ) {k : ℕ} → k ≡ min (min n lines) (length flat / verdictBytes) → k ≡ shared n lines flat
+unfolding flatLines
+shared-is flat n lines e = e
 
-pub lower-second : (a b : ℕ) → b < a → b ≡ lower a b
-unfolding lower
-lower-second a b h = rw (lower, lt-ltb b a h)
+module _ (flat : List ℕ) where
+  abbrev pub line : ℕ → Verdict
+  line i = lineOf (flatAt flat i)
 
-pub lower-first : (a b : ℕ) → a ≤ b → a ≡ lower a b
-unfolding lower
-lower-first a b h = rw (lower, le-ltb b a h)
+  first-length : (n : ℕ) → length (firstLines flat n) ≡ n
+  unfolding firstLines
+  first-length zero = refl
+  first-length (suc n) = length-append (firstLines flat n) (line n ∷ []) ∙ ap (λ (k : ℕ). k + 1) (first-length n) ∙ add-one n
 
-lower-most : (a b : ℕ) → (lower a b ≤ a) × (lower a b ≤ b)
-lower-most a b = go (ltb b a) refl
-  where
-    go : (t : Bool) → ltb b a ≡ t → (lower a b ≤ a) × (lower a b ≤ b)
-    go true e = (omega (arith, lower-second a b (ltb-true b a e), ltb-true b a e), omega (arith, lower-second a b (ltb-true b a e)))
-    go false e = (omega (arith, lower-first a b (ltb-false b a e)), omega (arith, lower-first a b (ltb-false b a e), ltb-false b a e))
+  first-at : (n i : ℕ) → i < n → getD (firstLines flat n) i clean ≡ line i
+  unfolding firstLines
+  first-at zero i h = absurd (omega arith)
+  first-at (suc n) i h =
+      below-more (λ j. getD (firstLines flat (suc n)) j clean ≡ line j) n
+      (λ j l. List·getD-append (firstLines flat n) (line n ∷ []) clean j (omega (arith, first-length n)) ∙ first-at n j l)
+      (getD-at (firstLines flat n) (line n) [] clean n (first-length n))
+      i (omega arith)
 
-pub lower-inside : (a b : ℕ) → lower a b ≤ b
-lower-inside a b = lower-most a b .1
+  module _ (row : List Verdict) where
+    -- the row after its first i lines
+    abbrev pub filled : ℕ → List Verdict
+    filled i = firstLines flat i ++ drop i row
 
-pub drafts-are : (n lines bytes : ℕ) {k r : ℕ} → k ≡ lower n lines → r ≡ lower k (bytes / 2) → r ≡ draftsIn n lines bytes
-unfolding draftsIn
-drafts-are n lines bytes e r = r ∙ ap (λ (j : ℕ). lower j (bytes / 2)) e
+    pub filled-none : row ≡ filled 0
+    unfolding firstLines
+    filled-none = refl
 
-pub drafts-fit : (n lines bytes : ℕ) → (draftsIn n lines bytes ≤ lines) × (2 * draftsIn n lines bytes ≤ bytes)
-unfolding draftsIn
-drafts-fit n lines bytes =
-    (omega (arith, lower-most (lower n lines) (bytes / 2) .0, lower-most n lines .1), omega (arith, lower-most (lower n lines) (bytes / 2) .1))
+    pub filled-length : (i : ℕ) → i ≤ length row → length (filled i) ≡ length row
+    filled-length i h = omega (arith, length-append (firstLines flat i) (drop i row), first-length i, length-drop i row)
 
--- ---- the report
+    filled-suc : (i : ℕ) → filled (suc i) ≡ firstLines flat i ++ line i ∷ drop (suc i) row
+    unfolding firstLines
+    filled-suc i = append-assoc (firstLines flat i) (line i ∷ []) (drop (suc i) row)
 
-pub tallied-clean : (n : ℕ) (v : Verdict) → v .rule ≡ 0 → n ≡ tallied n v
-unfolding tallied isFaulted
-tallied-clean n v e = rw (tallied, isFaulted, eq-eqb (v .rule) 0 e)
+    pub filled-more : (i : ℕ) → i < length row → set (filled i) i (line i) ≡ filled (i + 1)
+    filled-more i h =
+        ap (λ (l : List Verdict). set (firstLines flat i ++ l) i (line i)) (drop-cons row i clean h)
+        ∙ set-at (firstLines flat i) (getD row i clean) (drop (suc i) row) (line i) i (first-length i)
+        ∙ sym (filled-suc i)
+        ∙ ap filled (sym (add-one i))
 
-pub tallied-faulted : (n : ℕ) (v : Verdict) → (v .rule ≡ 0 → ⊥) → n + 1 ≡ tallied n v
-unfolding tallied isFaulted
-tallied-faulted n v e = rw (tallied, isFaulted, ne-eqb (v .rule) 0 e)
+    module _ (n : ℕ) where
+      pub filled-written : filled (shared n (length row) flat) ≡ written flat row n
+      unfolding written
+      filled-written = refl
 
-tallied-suc : (n : ℕ) (v : Verdict) → suc (tallied n v) ≡ tallied (suc n) v
-unfolding tallied
-tallied-suc n v = go (isFaulted v)
-  where
-    go : (t : Bool) → suc (elim t as (λ (s : Bool). ℕ) [ true ↦ n + 1 | false ↦ n ]) ≡ elim t as (λ (s : Bool). ℕ) [ true ↦ suc n + 1 | false ↦ suc n ]
-    go true = sym (suc-add n 1)
-    go false = refl
+      pub written-length : length (written flat row n) ≡ length row
+      unfolding written
+      written-length = filled-length (shared n (length row) flat) (omega arith)
 
-tallied-last : (l : List Verdict) (v : Verdict) → count isFaulted (l ++ (v ∷ [])) ≡ tallied (count isFaulted l) v
-unfolding count keep tallied
-tallied-last [] v = go (isFaulted v)
-  where
-    go : (t : Bool) → length {A = Verdict} (elim t as (λ (s : Bool). List Verdict) [ true ↦ v ∷ [] | false ↦ [] ]) ≡ elim t as (λ (s : Bool). ℕ) [ true ↦ 0 + 1 | false ↦ 0 ]
-    go true = refl
-    go false = refl
-tallied-last (x ∷ l) v = go (isFaulted x) (tallied-last l v)
-  where
-    go : (t : Bool) → count isFaulted (l ++ (v ∷ [])) ≡ tallied (count isFaulted l) v
-        → length {A = Verdict} (elim t as (λ (s : Bool). List Verdict) [ true ↦ x ∷ keep isFaulted (l ++ (v ∷ [])) | false ↦ keep isFaulted (l ++ (v ∷ [])) ])
-        ≡ tallied (length {A = Verdict} (elim t as (λ (s : Bool). List Verdict) [ true ↦ x ∷ keep isFaulted l | false ↦ keep isFaulted l ])) v
-    go true e = ap suc e ∙ tallied-suc (count isFaulted l) v
-    go false e = e
-
-tallied-most : (n : ℕ) (v : Verdict) → tallied n v ≤ n + 1
-unfolding tallied
-tallied-most n v = go (isFaulted v)
-  where
-    go : (t : Bool) → elim t as (λ (s : Bool). ℕ) [ true ↦ n + 1 | false ↦ n ] ≤ n + 1
-    go true = omega arith
-    go false = omega arith
-
-module _ (row : List Verdict) where
-  pub faulted-none : 0 ≡ faultedIn row 0
-  unfolding faultedIn count keep
-  faulted-none = refl
-
-  pub faulted-more : (i : ℕ) → i < length row → tallied (faultedIn row i) (getD row i clean) ≡ faultedIn row (i + 1)
-  unfolding faultedIn
-  faulted-more i h = sym (ap (λ (k : ℕ). count isFaulted (take k row)) (add-one i) ∙ ap (count isFaulted) (take-suc row i clean h) ∙ tallied-last (take i row) (getD row i clean))
-
-  pub faulted-most : (i : ℕ) → i ≤ length row → faultedIn row i ≤ i
-  faulted-most zero h = omega (arith, faulted-none)
-  faulted-most (suc i) h = omega (arith, ap (faultedIn row) (add-one i), faulted-more i h, tallied-most (faultedIn row i) (getD row i clean), faulted-most i (omega arith))
-
--- ---- a row that is written
-
-pub line-kept : (drafts : List ℕ) (i : ℕ) (old : Verdict) → getD drafts (2 * i) 0 ≡ unwritten → old ≡ writtenLine drafts i old
-unfolding writtenLine
-line-kept drafts i old e = rw (writtenLine, eq-eqb (getD drafts (2 * i) 0) unwritten e)
-
-pub line-drafted : (drafts : List ℕ) (i : ℕ) (old : Verdict) → (getD drafts (2 * i) 0 ≡ unwritten → ⊥)
-    → record { rule = getD drafts (2 * i) 0; «record» = getD drafts (2 * i + 1) 0 } ≡ writtenLine drafts i old
-unfolding writtenLine
-line-drafted drafts i old e = rw (writtenLine, ne-eqb (getD drafts (2 * i) 0) unwritten e)
-
-module _ (drafts : List ℕ) (row : List Verdict) where
-  -- the row after its first i lines
-  abbrev pub filled : ℕ → List Verdict
-  filled i = written drafts row i ++ drop i row
-
-  abbrev line : ℕ → Verdict
-  line i = writtenLine drafts i (getD row i clean)
-
-  pub written-length : (i : ℕ) → length (written drafts row i) ≡ i
-  unfolding written
-  written-length zero = refl
-  written-length (suc i) = length-append (written drafts row i) (line i ∷ []) ∙ ap (λ (k : ℕ). k + 1) (written-length i) ∙ add-one i
-
-  pub filled-none : row ≡ filled 0
-  unfolding written
-  filled-none = refl
-
-  pub filled-length : (i : ℕ) → i ≤ length row → length (filled i) ≡ length row
-  filled-length i h = omega (arith, length-append (written drafts row i) (drop i row), written-length i, length-drop i row)
-
-  -- line i is still the old one
-  pub filled-old : (i : ℕ) → i < length row → getD (filled i) i clean ≡ getD row i clean
-  filled-old i h = rw (drop-cons row i clean) (getD-at (written drafts row i) (getD row i clean) (drop (suc i) row) clean i (written-length i))
-
-  filled-suc : (i : ℕ) → filled (suc i) ≡ written drafts row i ++ line i ∷ drop (suc i) row
-  unfolding written
-  filled-suc i = append-assoc (written drafts row i) (line i ∷ []) (drop (suc i) row)
-
-  pub filled-more : (i : ℕ) → i < length row → set (filled i) i (line i) ≡ filled (i + 1)
-  filled-more i h = ap (λ (l : List Verdict). set (written drafts row i ++ l) i (line i)) (drop-cons row i clean h)
-      ∙ set-at (written drafts row i) (getD row i clean) (drop (suc i) row) (line i) i (written-length i) ∙ sym (filled-suc i) ∙ ap filled (sym (add-one i))
+      -- the slice reads what the flat row reads
+      pub written-at : (i : ℕ) → i < shared n (length row) flat → getD (written flat row n) i clean ≡ line i
+      unfolding written
+      written-at i h =
+          let k : ℕ = shared n (length row) flat in
+          List·getD-append (firstLines flat k) (drop k row) clean i (omega (arith, first-length k)) ∙ first-at k i h

@@ -1,15 +1,7 @@
-pub mod Again
 pub mod Counting
 pub mod Demand3
 pub mod Filling
-pub mod Frame
 pub mod Lending
 pub mod Lines
-pub mod Low
-pub mod Meeting
-pub mod Operating
-pub mod Reshare
-pub mod Row
-pub mod Settling
+pub mod Opening
 pub mod Walking
-pub mod Writing

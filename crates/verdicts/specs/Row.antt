@@ -1,18 +1,13 @@
--- The verdict row as a list of structs, the report over it, drafts written to it, and faults counted through one.
+-- The verdict row as a list of structs, the report over it, and a flat row's lines written into it.
 -- Assumes nothing.
-use mathlib.Core.Path.{_≡_}
 use mathlib.Core.Bool.{Bool, true, false, not}
-use mathlib.Core.Option.{Option}
 use mathlib.Core.List.{List, [], _∷_, _++_}
-use Prim.Native.Nat.{ℕ, zero, suc, _+_, _*_, _/_}
-use lib.Dec.{eqb, ltb}
-use lib.ListN.{length, getD, take}
-use Rattle.spec.specs.Lists.{count}
+use Prim.Native.Nat.{ℕ, zero, suc, _+_, min}
+use lib.Dec.{eqb}
+use lib.ListN.{length, getD, take, drop}
+use Rattle.spec.specs.Lists.{count, span}
 use Rattle.spec.specs.Rules as spec
-use Rattle.spec.specs.Refusals.{Refusal, judgeRefusal}
-use Rattle.spec.specs.Verdicts.{VerdictRow, faultedCount}
-use Rattle.spec.specs.Promises.{afterwards, cleared}
-use Rattle.drafts.specs.Drafts.{unwritten}
+use Rattle.spec.specs.Verdicts.{VerdictRow, flatLines, flatAt}
 use Rattle.verdicts.specs.declared.Verdict.{Verdict}
 
 -- ---- the row
@@ -46,31 +41,21 @@ tallied n v = elim (isFaulted v) [ true ↦ n + 1 | false ↦ n ]
 unfoldable pub faultedIn : List Verdict → ℕ → ℕ
 faultedIn row n = count isFaulted (take n row)
 
--- ---- writing
+-- ---- a flat row, and its lines written into the row
 
--- a draft's verdict, or the line as it was if the draft is blank
-unfoldable pub writtenLine : List ℕ → ℕ → Verdict → Verdict
-writtenLine drafts i old = elim (eqb (getD drafts (2 * i) 0) unwritten) [ true ↦ old | false ↦ record { rule = getD drafts (2 * i) 0; «record» = getD drafts (2 * i + 1) 0 } ]
+-- how many of n lines both a row of so many structs and a flat row have
+abbrev pub shared : ℕ → ℕ → List ℕ → ℕ
+shared n lines flat = min (min n lines) (flatLines flat)
 
--- the first n lines of a row after their drafts
+-- the first n lines of a flat row
+unfoldable pub firstLines : List ℕ → ℕ → List Verdict
+firstLines flat zero = []
+firstLines flat (suc n) = firstLines flat n ++ (lineOf (flatAt flat n) ∷ [])
+
+-- the row whose first n lines are the flat row's, as far as both have them
 unfoldable pub written : List ℕ → List Verdict → ℕ → List Verdict
-written drafts row zero = []
-written drafts row (suc n) = written drafts row n ++ (writtenLine drafts n (getD row n clean) ∷ [])
+written flat row n = let k = shared n (length row) flat in firstLines flat k ++ drop k row
 
-unfoldable pub lower : ℕ → ℕ → ℕ
-lower a b = elim (ltb b a) [ true ↦ b | false ↦ a ]
-
--- how many of n drafts have their line and their bytes
-unfoldable pub draftsIn : ℕ → ℕ → ℕ → ℕ
-draftsIn n lines bytes = lower (lower n lines) (bytes / 2)
-
--- ---- faults counted through a row of the call's own, of 256 lines
-
-module _ (library user : List ℕ) (used : ℕ) (scratch : List ℕ) where
-  -- why the call is refused: never for want of lines, since no sheets that fit have more classes
-  abbrev pub countRefusal : Option Refusal
-  countRefusal = judgeRefusal library user used 256 (length scratch)
-
-  pub record CountsFaults (faults : ℕ) (scratchAfter : List ℕ) : Type 0 where
-    pub answered : faults ≡ afterwards countRefusal 0 (faultedCount library (take used user))
-    pub scratch-is : scratchAfter ≡ afterwards countRefusal scratch (cleared scratch)
+-- how many of the first n lines of a flat row are faulted
+unfoldable pub flatFaulted : List ℕ → ℕ → ℕ
+flatFaulted flat n = count (λ i. not (eqb (flatAt flat i .rule) 0)) (span 0 n)

@@ -1,34 +1,37 @@
--- The promise of an operation that writes a new user sheet, at each of its ends; and Add.
+-- The promise of an operation that writes a new user sheet, at each of its ends; and the frame of those that put a group in.
 -- Assumes nothing.
-use mathlib.Core.Path.{_≡_, refl, sym, ap, _∙_}
+use mathlib.Core.Path.{_≡_, refl, sym, ap, ap₂, _∙_}
 use mathlib.Core.Bool.{Bool, true, false, _&&_}
-use mathlib.Core.List.{List, [], map}
-use mathlib.Core.Option.{none, some}
+use mathlib.Core.List.{List, _++_}
+use mathlib.Core.Option.{Option, none, some}
 use Prim.Native.Nat.{ℕ, _+_, _-_, _/_, _≤_, _<_}
 use native.Mathlib.Decide.{ℕ-discrete}
 use native.Mathlib.Omega.{arith}
 use lib.Dec.{eqb, ltb}
-use lib.ListN.{length, getD, set, take, replicate, length-set, length-replicate, length-take, drop-of-length-le}
-use lib.Seq.{getD-set-same, getD-set-other}
-use borrow.Author.Tests.{eq-eqb, ne-eqb, lt-ltb, ltb-true}
-use Rattle.spec.specs.Lists.{concat}
+use lib.ListN.{length, getD, take, drop, replicate}
+use lib.Seq.{take-at}
+use borrow.Author.Tests.{ne-eqb, le-ltb, ltb-true, ltb-false}
+use Rattle.spec.specs.Lists.{count, span}
 use Rattle.spec.specs.Sheet.{groupsOf, classCount, total, group}
 use Rattle.spec.specs.Rules.{Verdict, verdictOf}
-use Rattle.spec.specs.Verdicts.{verdictAt, userVerdict, flatLines, flatRewritten, flat}
-use Rattle.spec.specs.Refusals.{Refusal, presentRefusal, addedSheet, addRefusal}
-use Rattle.spec.specs.Promises.{refused, accepted, cleared, bufferWith, State, Edit, edited, Makes, addition}
+use Rattle.spec.specs.Verdicts.{verdictAt, userVerdict, flatLines, flatRewritten, flat, dependsOn}
+use Rattle.spec.specs.Refusals.{Refusal}
+use Rattle.spec.specs.Promises.{Answer, answerOf, afterwards, refused, accepted, cleared, bufferWith, State, Edit, edited, Makes}
 use Rattle.theory.proofs.Answers.{first-some, skip-none, first-none}
 use Rattle.theory.proofs.Accept.{Sound, sound}
 use Rattle.theory.proofs.Cut.{IsGroup, sheet-grouped, sheet-groups}
 use Rattle.theory.proofs.New.{new-sheets, added-count}
 use Rattle.theory.proofs.FlatRow.{rewritten-same}
-use Rattle.view.specs.View.{Sits, spliced}
+use Rattle.theory.proofs.Counts.{count-same}
+use Rattle.view.specs.View.{spliced}
 use Rattle.view.proofs.Splice.{added}
 use Rattle.lanes.proofs.Filling.{getD-replicate}
 use Rattle.admit.specs.Admitting.{admitRefusal, Plain}
 use Rattle.admit.proofs.Turning.{Admitted}
-use Rattle.flat.specs.Row.{chosen}
+use Rattle.flat.specs.Row.{chosen, markedIn}
 use Rattle.queries.proofs.Asking.{used-there, answer-refused, answer-fine}
+use Rattle.view.specs.declared.Cut.{Cut}
+use Rattle.verifier.specs.Changing.{touches, Touched, putting}
 use Rattle.verifier.proofs.Verdicts.{kept-refused, new-fine}
 
 -- ---- any edit
@@ -62,98 +65,77 @@ module _ (library new : List ℕ) {nlib : ℕ} (n : ℕ) (el : nlib ≡ classCou
       same : (i : ℕ) → verdictOf nlib (group library new) (nlib + i) ≡ userVerdict library new i
       same i = rw el
 
--- ---- Add
+-- ---- a group put in
 
--- every mark is 255 but that of the last class
-pub last-chosen : (nlib n k : ℕ) → n ≡ nlib + k + 1 → n ≤ 256 → (i : ℕ) → chosen nlib n (set (replicate 256 255) (n - 1) 0) i ≡ eqb i k
-unfolding chosen
-last-chosen nlib n k e few i = go (ℕ-discrete i k) (ltb (nlib + i) n) refl
-  where
-    go : Dec (i ≡ k) → (b : Bool) → ltb (nlib + i) n ≡ b → (ltb (nlib + i) n && eqb (getD (set (replicate 256 255) (n - 1) 0) (nlib + i) 0) 0) ≡ eqb i k
-    go (yes q) b eb =
-        let w : nlib + i ≡ n - 1 = omega arith in
-        rw (lt-ltb (nlib + i) n (omega arith), w, getD-set-same {A = ℕ} (replicate 256 255) (n - 1) 0 0 (omega (arith, length-replicate {A = ℕ} 256 255)), eq-eqb i k q)
-    go (no q) true eb =
-        let l : nlib + i < n = ltb-true (nlib + i) n eb in
-        rw (eb, getD-set-other {A = ℕ} (replicate 256 255) (n - 1) (nlib + i) 0 0 (λ w. q (omega arith)), getD-replicate 256 255 0 (nlib + i) (omega arith), ne-eqb i k q)
-    go (no q) false eb = rw (eb, ne-eqb i k q)
+module _ (library new : List ℕ) (cut : Cut) (c : ℕ) {n : ℕ} (en : n ≡ total library new) (there : c < n) {marks : List ℕ} (t : Touched library new cut c marks) where
+  -- nothing past the last class is touched
+  untouched : (d : ℕ) → n ≤ d → touches library new cut c d ≡ false
+  unfolding touches dependsOn
+  untouched d h = go (eqb (cut .from) (cut .used)) refl
+    where
+      go : (b : Bool) → eqb (cut .from) (cut .used) ≡ b → touches library new cut c d ≡ false
+      go true e = rw (e, touches) (ne-eqb d c (λ q. omega arith))
+      go false e = rw (e, touches, le-ltb d (total library new) (omega arith))
 
-module _ (library user : List ℕ) (used : ℕ) (verdicts scratch g : List ℕ) where
+  pub touched-chosen : (nlib i : ℕ) → chosen nlib n marks i ≡ touches library new cut c (nlib + i)
+  unfolding chosen
+  touched-chosen nlib i = go (ltb (nlib + i) n) refl
+    where
+      go : (b : Bool) → ltb (nlib + i) n ≡ b → (b && eqb (getD marks (nlib + i) 0) 0) ≡ touches library new cut c (nlib + i)
+      go true e = t .is (nlib + i) (omega (arith, ltb-true (nlib + i) n e))
+      go false e = sym (untouched (nlib + i) (ltb-false (nlib + i) n e))
+
+  pub touched-counted : {m : ℕ} → m ≡ markedIn marks n → m ≡ count (touches library new cut c) (span 0 (total library new))
+  unfolding markedIn
+  touched-counted e =
+      e ∙ count-same (λ d. eqb (getD marks d 0) 0) (touches library new cut c) n (λ d h. t .is d (omega arith))
+      ∙ ap (λ (k : ℕ). count (touches library new cut c) (span 0 k)) en
+
+-- the sheet stands at the front of the buffer that was written
+pub written-sheet : (new user : List ℕ) (used : ℕ) {user′ : List ℕ} {size : ℕ} → user′ ≡ bufferWith new user used → size ≡ length new → take size user′ ≡ new
+unfolding bufferWith
+written-sheet new user used eu es = ap₂ take es eu ∙ take-at new (drop (length new) (replicate used 0 ++ drop used user)) (length new) refl
+
+module _ (library user : List ℕ) (used : ℕ) (verdicts scratch g : List ℕ) (cut : Cut) (c : ℕ) where
   abbrev pub held : State flat
   held = record { user = user; used = used; verdicts = verdicts }
 
-  pub add-present : {r : Refusal} → presentRefusal library user used ≡ some r → Makes flat library (addition flat library held g (length scratch)) held scratch (refused r) held scratch
-  unfolding addition addRefusal
-  add-present o = edit-refused library (addition flat library held g (length scratch)) held scratch (first-some _ o)
+  abbrev put : Edit
+  put = putting library held g cut c (length scratch)
 
-  module _ (o : presentRefusal library user used ≡ none) where
-    now : Sound library (take used user)
-    unfolding presentRefusal
-    now = sound library (take used user) (first-none _ o .1 .0)
+  abbrev pub new : List ℕ
+  new = spliced user g cut
 
-    pub add-sits : Sits (record { from = used; to = used; used = used }) user
-    unfolding concat
-    add-sits =
-        let s : List ℕ = take used user in
-        record {
-          ordered = omega arith;
-          within = omega arith;
-          there = used-there library user used o;
-          around = record {
-            earlier = map concat (groupsOf s);
-            later = [];
-            before = sym (sheet-grouped s (now .userSheet .end) (now .userSheet .loose));
-            after = let h : length s ≤ used = simp length-take (omega arith) in drop-of-length-le s h;
-            earlier-whole = sheet-groups s (now .userSheet .end) (now .userSheet .loose);
-            later-whole = tt;
-          };
-        }
+  pub put-refused : {r : Refusal} → admitRefusal library user g new (flatLines verdicts) (length scratch) ≡ some r → Makes flat library put held scratch (refused r) held scratch
+  unfolding putting
+  put-refused e = edit-refused library put held scratch e
 
-    pub added-is : spliced user g (record { from = used; to = used; used = used }) ≡ addedSheet (take used user) g
-    unfolding addedSheet
-    added-is = added user g used
+  module _ {nlib n : ℕ} {row memo : List ℕ} (a : Admitted library user g new (flatLines verdicts) (length scratch) nlib n row memo) (eu : cut .used ≡ used) (there : c < n) where
+    pub put-made : {marks : List ℕ} → Touched library new cut c marks → {value used′ : ℕ} {user′ verdicts′ cleaned : List ℕ} → value ≡ markedIn marks n
+        → user′ ≡ bufferWith new user (cut .used) → used′ ≡ length new
+        → verdicts′ ≡ flatRewritten (chosen nlib n marks) (λ i. verdictOf nlib (group library new) (nlib + i)) verdicts → cleaned ≡ cleared scratch
+        → Makes flat library put held scratch (accepted value) (record { user = user′; used = used′; verdicts = verdicts′ }) cleaned
+    unfolding putting
+    put-made {marks} t ev ew en er es =
+        edit-made library put held scratch (a .unrefused)
+        (touched-counted library new cut c (a .n-is) there t ev) (ew ∙ ap (bufferWith new user) eu) en
+        (changed-row library new n (a .nlib-is) verdicts marks (λ i. touches library new cut c (classCount library + i))
+        (λ i. touched-chosen library new cut c (a .n-is) there t nlib i ∙ ap (λ (m : ℕ). touches library new cut c (m + i)) (a .nlib-is)) er) es
 
-    past-present : addRefusal library user used g (flatLines verdicts) (length scratch) ≡ admitRefusal library user g (addedSheet (take used user) g) (length verdicts / 2) (length scratch)
-    unfolding addRefusal admitRefusal flatLines
-    past-present = skip-none _ _ o
+-- ---- one edit for another
 
-    -- the sheet that the program reads through the view
-    module _ {new : List ℕ} (q : new ≡ addedSheet (take used user) g) where
-      pub add-plain : Plain library g new
-      add-plain = rw q (record { is = λ t. new-sheets library user used o g t .0 })
-
-      pub add-turned : {r : Refusal} → admitRefusal library user g new (length verdicts / 2) (length scratch) ≡ some r → Makes flat library (addition flat library held g (length scratch)) held scratch (refused r) held scratch
-      unfolding addition
-      add-turned e = edit-refused library (addition flat library held g (length scratch)) held scratch (past-present ∙ sym (ap (λ (x : List ℕ). admitRefusal library user g x (length verdicts / 2) (length scratch)) q) ∙ e)
-
-      module _ {nlib n : ℕ} {row memo : List ℕ} (a : Admitted library user g new (length verdicts / 2) (length scratch) nlib n row memo) where
-        count-is : classCount new ≡ classCount (take used user) + 1
-        unfolding IsGroup
-        count-is = ap classCount q ∙ added-count (now .userSheet) g (a .whole)
-
-        -- the new class is the last one
-        pub last-class : n ≡ nlib + classCount (take used user) + 1
-        unfolding total
-        last-class = omega (arith, a .nlib-is, a .n-is, count-is)
-
-        pub add-made : {value used′ : ℕ} {user′ verdicts′ cleaned : List ℕ} → value ≡ n - 1 → user′ ≡ bufferWith new user used → used′ ≡ length new
-            → verdicts′ ≡ flatRewritten (chosen nlib n (set (replicate 256 255) (n - 1) 0)) (λ i. verdictOf nlib (group library new) (nlib + i)) verdicts → cleaned ≡ cleared scratch
-            → Makes flat library (addition flat library held g (length scratch)) held scratch (accepted value) (record { user = user′; used = used′; verdicts = verdicts′ }) cleaned
-        unfolding addition
-        add-made ev eu en er es =
-            edit-made library (addition flat library held g (length scratch)) held scratch
-            (past-present ∙ sym (ap (λ (x : List ℕ). admitRefusal library user g x (length verdicts / 2) (length scratch)) q) ∙ a .unrefused)
-            (ev ∙ (unfold total in omega (arith, a .nlib-is, last-class)))
-            (eu ∙ ap (λ (x : List ℕ). bufferWith x user used) q) (en ∙ ap length q)
-            (changed-row library new n (a .nlib-is) verdicts (set (replicate 256 255) (n - 1) 0) (λ i. eqb i (classCount (take used user)))
-            (last-chosen nlib n (classCount (take used user)) last-class (a .indexed .few)) er
-            ∙ ap (λ (x : List ℕ). flatRewritten (λ i. eqb i (classCount (take used user))) (userVerdict library x) verdicts) q) es
-
--- ---- small facts of the code
-
-pub lines-room : (row : List ℕ) {k : ℕ} → k ≤ length row / 2 → k ≤ flatLines row
-unfolding flatLines
-lines-room row h = h
-
-pub marks-long : (i v : ℕ) → 256 ≤ length {A = ℕ} (set (replicate 256 255) i v)
-marks-long i v = omega (arith, length-set {A = ℕ} (replicate 256 255) i v, length-replicate {A = ℕ} 256 255)
+-- two edits with the same refusal, sheet and touched classes
+pub makes-as : (library : List ℕ) (e e′ : Edit) → e .refusal ≡ e′ .refusal → e .sheet ≡ e′ .sheet → ((i : ℕ) → e .changed i ≡ e′ .changed i)
+    → {before after : State flat} {scratch cleaned : List ℕ} {answer answer′ : Answer ℕ} → Makes flat library e before scratch answer after cleaned
+    → answer′ ≡ answerOf (e′ .refusal) (e′ .answer) → Makes flat library e′ before scratch answer′ after cleaned
+unfolding edited
+makes-as library e e′ er es ec {before} {scratch = scratch} m ea = record {
+  answered = ea;
+  user-is = m .user-is ∙ ap₂ (λ (o : Option Refusal) (s : List ℕ). afterwards o (before .user) (bufferWith s (before .user) (before .used))) er es;
+  used-is = m .used-is ∙ ap₂ (λ (o : Option Refusal) (s : List ℕ). afterwards o (before .used) (length s)) er es;
+  verdicts-are =
+      m .verdicts-are
+      ∙ ap (afterwards (e .refusal) (before .verdicts)) (rewritten-same (userVerdict library (e .sheet)) (before .verdicts) (e .changed) (e′ .changed) ec)
+      ∙ ap₂ (λ (o : Option Refusal) (s : List ℕ). afterwards o (before .verdicts) (flatRewritten (e′ .changed) (userVerdict library s) (before .verdicts))) er es;
+  scratch-is = m .scratch-is ∙ ap (λ (o : Option Refusal). afterwards o scratch (cleared scratch)) er;
+}

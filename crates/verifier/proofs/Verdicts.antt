@@ -11,12 +11,15 @@ use lib.ListN.{length, getD, take}
 use borrow.Author.Tests.{lt-ltb, le-ltb, ltb-true, ltb-false}
 use Rattle.spec.specs.Sheet.{classCount, total, group}
 use Rattle.spec.specs.Rules.{Verdict, verdictOf}
-use Rattle.spec.specs.Verdicts.{verdictAt, userVerdict, faulted, faultedCount, flatLines, flatAt, bytesOf, flatRewritten, flat}
-use Rattle.spec.specs.Refusals.{Refusal, refuseIf, refusePlain, shortRefusal, judgeRefusal}
+use Rattle.spec.specs.Verdicts.{verdictBytes, verdictAt, userVerdict, faulted, faultedCount, flatLines, flatAt, bytesOf, flatRewritten, flat}
+use Rattle.spec.specs.Refusals.{Refusal, scratchLength, refuseIf, refusePlain, shortRefusal, judgeRefusal}
 use Rattle.spec.specs.Promises.{countsOf, afterwards, refused, accepted, cleared, judgedRow, Judges}
 use Rattle.theory.proofs.Answers.{first-past, first-some}
 use Rattle.theory.proofs.Counts.{count-same}
-use Rattle.theory.proofs.FlatRow.{read-new, even, rewritten-length, rewritten-same}
+use Rattle.theory.proofs.FlatRow.{at-new, rewritten-lines, rewritten-same}
+use Rattle.groups.specs.declared.Classes.{Classes}
+use Rattle.form.specs.declared.Refusal.{Refusal as Turned}
+use Rattle.form.specs.Form.{refusalOf}
 use Rattle.form.specs.declared.Checked.{Checked}
 use Rattle.form.specs.declared.Checked.the-variants.{Fine, Refused}
 use Rattle.form.proofs.Accepting.{Presents}
@@ -58,20 +61,19 @@ module _ (library sheet : List ℕ) {nlib n : ℕ} (el : nlib ≡ classCount lib
   classes-are = omega (arith, el, en)
 
   -- the row that a judging leaves
-  pub row-is : {after : List ℕ} → after ≡ flatRewritten (chosen nlib n marks) (λ i. verdictOf nlib (group library sheet) (nlib + i)) row → after ≡ flatRewritten (λ i. ltb i (classCount sheet)) (userVerdict library sheet) row
-  row-is e = e ∙ ap (λ (v : ℕ → Verdict). flatRewritten (chosen nlib n marks) v row) verdicts ∙ rewritten-same (userVerdict library sheet) row (chosen nlib n marks) (λ i. ltb i (classCount sheet)) every
+  pub row-is : {after : List ℕ} → after ≡ flatRewritten (chosen nlib n marks) (λ i. verdictOf nlib (group library sheet) (nlib + i)) row → after
+      ≡ flatRewritten (λ i. ltb i (classCount sheet)) (userVerdict library sheet) row
+  row-is e = e ∙ ap (λ (v : ℕ → Verdict). flatRewritten (chosen nlib n marks) v row) verdicts
+      ∙ rewritten-same (userVerdict library sheet) row (chosen nlib n marks) (λ i. ltb i (classCount sheet)) every
 
   module _ (room : n - nlib ≤ flatLines row) {after : List ℕ} (e : after ≡ flatRewritten (λ i. ltb i (classCount sheet)) (userVerdict library sheet) row) where
     rule-is : (i : ℕ) → i < classCount sheet → flatAt after i .rule ≡ userVerdict library sheet i .rule
-    unfolding flatAt bytesOf
     rule-is i h =
-        ap (λ (r : List ℕ). getD r (2 * i) 0) e
-        ∙ read-new (λ i. ltb i (classCount sheet)) (userVerdict library sheet) row i (omega (arith, room, classes-are)) (lt→ltb i (classCount sheet) h) (2 * i) (even i .0)
-        ∙ ap (λ (k : ℕ). getD (bytesOf (userVerdict library sheet i)) k 0) (even i .1)
+        ap (λ (r : List ℕ). flatAt r i .rule) e
+        ∙ ap (λ (v : Verdict). v .rule) (at-new (λ i. ltb i (classCount sheet)) (userVerdict library sheet) row i (omega (arith, room, classes-are)) (lt→ltb i (classCount sheet) h))
 
     same-lines : flatLines after ≡ flatLines row
-    unfolding flatLines
-    same-lines = ap (λ (r : List ℕ). length r / 2) e ∙ ap (λ (k : ℕ). k / 2) (rewritten-length (λ i. ltb i (classCount sheet)) (userVerdict library sheet) row)
+    same-lines = ap flatLines e ∙ rewritten-lines (λ i. ltb i (classCount sheet)) (userVerdict library sheet) row
 
     -- the faulted ones of that row
     pub count-is : {m : ℕ} → m ≡ faultedIn after (min (n - nlib) (flatLines after)) → m ≡ faultedCount library sheet
@@ -84,30 +86,30 @@ module _ (library sheet : List ℕ) {nlib n : ℕ} (el : nlib ≡ classCount lib
 -- ---- what refuses a judging
 
 module _ (library user : List ℕ) (used lines scratch : ℕ) {p : Checked} {row memo : List ℕ} (a : Presents library user used p row memo) where
-  pub judge-refused : {number sheet byte : ℕ} → p ≡ Refused number sheet byte → judgeRefusal library user used lines scratch ≡ some (record { number = number; sheet = sheet; byte = byte })
+  pub judge-refused : {r : Turned} → p ≡ Refused r → judgeRefusal library user used lines scratch ≡ some (refusalOf r)
   unfolding judgeRefusal
   judge-refused f = first-some _ (present-refused library user used a f)
 
-  module _ {nlib n : ℕ} (f : p ≡ Fine nlib n) where
-    needed : n - nlib ≡ classCount (take used user)
+  module _ {k : Classes} (f : p ≡ Fine k) where
+    needed : k .all - k .library ≡ classCount (take used user)
     unfolding total
     needed = omega (arith, told library user used a f .1)
 
-    short : (b : Bool) → (ltb lines (n - nlib) || ltb scratch 65536) ≡ b → judgeRefusal library user used lines scratch ≡ refusePlain b 12
+    short : (b : Bool) → (ltb lines (k .all - k .library) || ltb scratch scratchLength) ≡ b → judgeRefusal library user used lines scratch ≡ refusePlain b 12
     unfolding judgeRefusal shortRefusal
-    short b e = first-past _ _ (told library user used a f .0) ∙ ap (λ (x : Bool). refusePlain x 12) (ap (λ (k : ℕ). ltb lines k || ltb scratch 65536) (sym needed) ∙ e)
+    short b e = first-past _ _ (told library user used a f .0) ∙ ap (λ (x : Bool). refusePlain x 12) (ap (λ (j : ℕ). ltb lines j || ltb scratch scratchLength) (sym needed) ∙ e)
 
-    pub row-short : lines < n - nlib → judgeRefusal library user used lines scratch ≡ some (record { number = 12; sheet = 0; byte = 0 })
+    pub row-short : lines < k .all - k .library → judgeRefusal library user used lines scratch ≡ some (record { number = 12; sheet = 0; byte = 0 })
     unfolding refusePlain refuseIf
-    row-short h = short true (rw (lt-ltb lines (n - nlib) h))
+    row-short h = short true (rw (lt-ltb lines (k .all - k .library) h))
 
-    pub scratch-short : n - nlib ≤ lines → scratch < 65536 → judgeRefusal library user used lines scratch ≡ some (record { number = 12; sheet = 0; byte = 0 })
+    pub scratch-short : k .all - k .library ≤ lines → scratch < scratchLength → judgeRefusal library user used lines scratch ≡ some (record { number = 12; sheet = 0; byte = 0 })
     unfolding refusePlain refuseIf
-    scratch-short l h = short true (rw (le-ltb lines (n - nlib) l, lt-ltb scratch 65536 h))
+    scratch-short l h = short true (rw (le-ltb lines (k .all - k .library) l, lt-ltb scratch scratchLength h))
 
-    pub judge-fine : n - nlib ≤ lines → 65536 ≤ scratch → judgeRefusal library user used lines scratch ≡ none
+    pub judge-fine : k .all - k .library ≤ lines → scratchLength ≤ scratch → judgeRefusal library user used lines scratch ≡ none
     unfolding refusePlain refuseIf
-    judge-fine l h = short false (rw (le-ltb lines (n - nlib) l, le-ltb scratch 65536 h))
+    judge-fine l h = short false (rw (le-ltb lines (k .all - k .library) l, le-ltb scratch scratchLength h))
 
 -- ---- the promise of a judging, at each of its ends
 
@@ -116,35 +118,39 @@ module _ (library user : List ℕ) (used : ℕ) (verdicts scratch : List ℕ) {p
   stop : {r : Refusal} → judgeRefusal library user used (flatLines verdicts) (length scratch) ≡ some r → Judges flat library user used verdicts scratch (refused r) verdicts scratch
   stop e = record { answered = answer-refused _ e; verdicts-are = kept-refused _ _ e; scratch-is = kept-refused _ _ e }
 
-  pub sheets-stop : {number sheet byte : ℕ} → p ≡ Refused number sheet byte → Judges flat library user used verdicts scratch (refused (record { number = number; sheet = sheet; byte = byte })) verdicts scratch
+  pub sheets-stop : {r : Turned} → p ≡ Refused r → Judges flat library user used verdicts scratch (refused (refusalOf r)) verdicts scratch
   sheets-stop f = stop (judge-refused library user used (flatLines verdicts) (length scratch) a f)
 
-  module _ {nlib n : ℕ} (f : p ≡ Fine nlib n) where
-    pub classes-ordered : nlib ≤ n
+  module _ {k : Classes} (f : p ≡ Fine k) where
+    pub classes-ordered : k .library ≤ k .all
     unfolding total
     classes-ordered = omega (arith, told library user used a f .1)
 
-    pub row-stop : length verdicts / 2 < n - nlib → Judges flat library user used verdicts scratch (refused (record { number = 12; sheet = 0; byte = 0 })) verdicts scratch
+    pub row-stop : length verdicts / verdictBytes < k .all - k .library → Judges flat library user used verdicts scratch (refused (record { number = 12; sheet = 0; byte = 0 })) verdicts scratch
     row-stop h = stop (row-short library user used (flatLines verdicts) (length scratch) a f (unfold flatLines in h))
 
-    pub scratch-stop : n - nlib ≤ length verdicts / 2 → length scratch < 65536 → Judges flat library user used verdicts scratch (refused (record { number = 12; sheet = 0; byte = 0 })) verdicts scratch
+    pub scratch-stop : k .all - k .library ≤ length verdicts / verdictBytes → length scratch < scratchLength
+        → Judges flat library user used verdicts scratch (refused (record { number = 12; sheet = 0; byte = 0 })) verdicts scratch
     scratch-stop l h = stop (scratch-short library user used (flatLines verdicts) (length scratch) a f (unfold flatLines in l) h)
 
-    pub room-is : n - nlib ≤ length verdicts / 2 → n - nlib ≤ flatLines verdicts
+    pub room-is : k .all - k .library ≤ length verdicts / verdictBytes → k .all - k .library ≤ flatLines verdicts
     unfolding flatLines
     room-is l = l
 
-    pub judged-all : n - nlib ≤ length verdicts / 2 → 65536 ≤ length scratch → {s : List ℕ} → s ≡ take used user → (marks : List ℕ) → ((i : ℕ) → getD marks i 0 ≡ 0) → {after cleaned : List ℕ} {m : ℕ}
-        → after ≡ flatRewritten (chosen nlib n marks) (λ i. verdictOf nlib (group library s) (nlib + i)) verdicts → cleaned ≡ cleared scratch → m ≡ faultedIn after (min (n - nlib) (flatLines after))
-        → Judges flat library user used verdicts scratch (accepted (record { classes = n - nlib; faulted = m })) after cleaned
+    pub judged-all : k .all - k .library ≤ length verdicts / verdictBytes → scratchLength ≤ length scratch → {s : List ℕ} → s ≡ take used user → (marks : List ℕ) → ((i : ℕ) → getD marks i 0 ≡ 0)
+        → {after cleaned : List ℕ} {m : ℕ}
+        → after ≡ flatRewritten (chosen (k .library) (k .all) marks) (λ i. verdictOf (k .library) (group library s) (k .library + i)) verdicts → cleaned ≡ cleared scratch → m
+        ≡ faultedIn after (min (k .all - k .library) (flatLines after))
+        → Judges flat library user used verdicts scratch (accepted (record { classes = k .all - k .library; faulted = m })) after cleaned
     unfolding countsOf judgedRow
     judged-all l h q marks z {after} ea es em =
         let o = judge-fine library user used (flatLines verdicts) (length scratch) a f (unfold flatLines in l) h in
         let t = told library user used a f .1 in
-        let e = row-is library (take used user) (t .0) (t .1) marks z verdicts (ea ∙ ap (λ (x : List ℕ). flatRewritten (chosen nlib n marks) (λ i. verdictOf nlib (group library x) (nlib + i)) verdicts) q) in
+        let e = row-is library (take used user) (t .0) (t .1) marks z verdicts
+        (ea ∙ ap (λ (x : List ℕ). flatRewritten (chosen (k .library) (k .all) marks) (λ i. verdictOf (k .library) (group library x) (k .library + i)) verdicts) q) in
         record {
           answered =
-              ap₂ (λ (k j : ℕ). accepted (record { classes = k; faulted = j })) (classes-are library (take used user) (t .0) (t .1) marks z verdicts)
+              ap₂ (λ (i j : ℕ). accepted (record { classes = i; faulted = j })) (classes-are library (take used user) (t .0) (t .1) marks z verdicts)
               (count-is library (take used user) (t .0) (t .1) marks z verdicts (unfold flatLines in l) e em)
               ∙ answer-fine _ o;
           verdicts-are = e ∙ new-fine _ _ o;

@@ -2,21 +2,16 @@
 -- Assumes nothing.
 use Prim.Native.Nat.{ℕ}
 use Rattle.spec.specs.Promises.{Answer, refused, accepted, Counts}
+use Rattle.form.specs.Form.{refusalOf}
 use Rattle.verifier.specs.declared.Judged.{Judged}
 use Rattle.verifier.specs.declared.Judged.the-variants as J
-use Rattle.verifier.specs.declared.Added.{Added}
-use Rattle.verifier.specs.declared.Added.the-variants as A
-use Rattle.verifier.specs.declared.Replaced.{Replaced}
-use Rattle.verifier.specs.declared.Replaced.the-variants as R
+use Rattle.verifier.specs.declared.Changed.{Changed}
+use Rattle.verifier.specs.declared.Changed.the-variants as C
 
 abbrev pub judgedAnswer : Judged → Answer Counts
 judgedAnswer (J.Fine n m) = accepted (record { classes = n; faulted = m })
-judgedAnswer (J.Refused n s b) = refused (record { number = n; sheet = s; byte = b })
+judgedAnswer (J.Refused r) = refused (refusalOf r)
 
-abbrev pub addedAnswer : Added → Answer ℕ
-addedAnswer (A.Fine n) = accepted n
-addedAnswer (A.Refused n s b) = refused (record { number = n; sheet = s; byte = b })
-
-abbrev pub replacedAnswer : Replaced → Answer ℕ
-replacedAnswer (R.Fine n) = accepted n
-replacedAnswer (R.Refused n s b) = refused (record { number = n; sheet = s; byte = b })
+abbrev pub changedAnswer : Changed → Answer ℕ
+changedAnswer (C.Fine n) = accepted n
+changedAnswer (C.Refused r) = refused (refusalOf r)

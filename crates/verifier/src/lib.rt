@@ -1,38 +1,56 @@
 // The operations over flat rows of numbers: the public interface.
 use admit::admit;
 use edit::write;
+pub use flat::SCRATCH_BYTES;
+pub use flat::VERDICT_BYTES;
 use flat::faulted;
 use flat::marked;
 use flat::rejudge;
 use form::Checked;
+pub use form::Refusal;
 use form::present;
+use groups::Classes;
 use groups::group_end;
-use groups::group_start;
 pub use queries::Marked;
 pub use queries::Placed;
 pub use queries::marks;
 pub use queries::name;
 pub use queries::name_place;
 use reach::dependents;
+use records::wide;
 use view::Cut;
 use view::view_len;
 ghost use mathlib.Core.Path.{_≡_};
 ghost use mathlib.Core.Option.{none};
-ghost use Prim.Native.Nat.{_≤_, _<_};
-ghost use lib.ListN.{take};
-ghost use Rattle.spec.specs.Promises.{Judges, Adds, Replaces};
+ghost use Prim.Native.Nat.{ℕ, _≤_, _<_};
+ghost use lib.ListN.{length, take, replicate};
+ghost use Rattle.spec.specs.Sheet.{Group, group as groupOf, classCount, total};
+ghost use Rattle.spec.specs.Promises.{Judges, Adds, Replaces, Makes};
 ghost use Rattle.spec.specs.Verdicts.{flat};
-ghost use Rattle.spec.specs.Refusals.{presentRefusal};
-ghost use Rattle.groups.specs.Groups.{startOf, endOf, Indexed};
-ghost use Rattle.verifier.specs.Answers.{judgedAnswer, addedAnswer, replacedAnswer};
+ghost use Rattle.spec.specs.Refusals.{presentRefusal, formRefusal};
+ghost use Rattle.groups.specs.Groups.{Indexed};
+ghost use Rattle.form.specs.Form.{checkedOf};
+ghost use Rattle.verifier.specs.Answers.{judgedAnswer, changedAnswer};
+ghost use Rattle.verifier.specs.Changing.{Touched, Puts, putting, CutOf};
 
-// How many user classes there are and how many are faulted, or the refusal: number, sheet, byte.
+// How many user classes there are and how many are faulted, or the refusal.
 pub enum Judged {
     Fine(usize, usize),
-    Refused(u8, u8, usize),
+    Refused(Refusal),
 }
 
-// A verdict for each user class, two bytes each in the row: rule and record, 0 and 0 where it is clean.
+// A refusal that is no record's.
+fn plain(number: u8) -> Refusal
+    ensures { λ r. ⌜ r ≡ record { number = number; sheet = 0; byte = 0 } ⌝ }
+{
+    Refusal {
+        number: number,
+        sheet: 0,
+        byte: 0,
+    }
+}
+
+// A verdict for each user class in the row: rule and record, 0 and 0 where it is clean.
 pub fn judge<'a>(
     library: &'a [u8],
     user: &'a [u8],
@@ -40,76 +58,91 @@ pub fn judge<'a>(
     verdicts: &mut [u8],
     scratch: &mut [u8],
 ) -> Judged
-    ensures { λ r. ⌜ Judges flat (now (library .entry)) (now (user .entry)) used (now (verdicts .entry)) (now (scratch .entry)) (judgedAnswer r) (now (verdicts .exit)) (now (scratch .exit)) ⌝ }
+    ensures { λ r. ⌜ Judges flat (now (library .entry)) (now (user .entry)) used (now (verdicts .entry)) (now (scratch .entry))
+        (judgedAnswer r) (now (verdicts .exit)) (now (scratch .exit)) ⌝ }
 {
     let mut starts = [0u16; 256];
     let mut memo = [65535u16; 256];
     let checked = present(library, user, used, &mut starts, &mut memo);
     match checked {
-        Checked::Refused(number, sheet, byte) => Judged::Refused(number, sheet, byte),
-        Checked::Fine(nlib, n) => {
-            let classes = n - nlib;
-            if verdicts.len() / 2 < classes {
-                return Judged::Refused(12, 0, 0);
+        Checked::Refused(refusal) => Judged::Refused(refusal),
+        Checked::Fine(classes) => {
+            let own = classes.all - classes.library;
+            if verdicts.len() / VERDICT_BYTES < own {
+                return Judged::Refused(plain(12));
             }
-            if scratch.len() < 65536 {
-                return Judged::Refused(12, 0, 0);
+            if scratch.len() < SCRATCH_BYTES {
+                return Judged::Refused(plain(12));
             }
-            let cut = Cut {
-                from: used,
-                to: used,
-                used: used,
-            };
+            let sheet = &user[0..used];
             let marks = [0u8; 256];
             rejudge(
                 library,
-                user,
-                &library[0..0],
-                cut,
+                sheet,
                 &starts,
-                nlib,
-                n,
+                classes,
                 &mut memo,
                 &marks,
                 verdicts,
                 scratch,
             );
-            Judged::Fine(classes, faulted(verdicts, classes))
+            Judged::Fine(own, faulted(verdicts, own))
         }
     }
 }
 
-// The number of the new class, or the refusal: number, sheet, byte.
-pub enum Added {
+// ---- operations that change the user sheet
+
+// The operation's number, or the refusal.
+pub enum Changed {
     Fine(usize),
-    Refused(u8, u8, usize),
+    Refused(Refusal),
 }
 
-// Puts a group after the user sheet's used bytes; the new class's verdict is written.
-pub fn add<'a>(
+// Writes 0 at each class that an edit touches: an addition, which takes nothing out, touches its class alone; a replacement the classes that depend on it.
+fn touch<'a>(
+    library: &'a [u8],
+    user: &'a [u8],
+    starts: &[u16],
+    classes: Classes,
+    cut: Cut,
+    class: usize,
+    marks: &mut [u8],
+)
+    requires { ⌜ Indexed (now library) (now user) (classes .library) (classes .all) (now starts) ⌝ }
+    requires { ⌜ formRefusal (now library) (now user) ≡ none ⌝ }
+    requires { ⌜ (class < classes .all) × (now marks ≡ replicate 256 255) ⌝ }
+    ensures { λ r. ⌜ Touched (now (library .entry)) (now (user .entry)) cut class (now (marks .exit)) ⌝ }
+{
+    if cut.from == cut.used {
+        marks[class] = 0;
+        return;
+    }
+    dependents(library, user, starts, classes, class, marks);
+}
+
+// The frame of an operation that puts a group in: nothing is written until it is admitted; then the sheet is, and the classes that this touches are
+// judged in the buffer. The answer is how many those are.
+fn change<'a>(
     library: &'a [u8],
     user: &mut [u8],
     used: &mut usize,
     group: &'a [u8],
+    cut: Cut,
+    class: usize,
     verdicts: &mut [u8],
     scratch: &mut [u8],
-) -> Added
-    ensures { λ r. ⌜ Adds flat (now (library .entry)) (now (group .entry)) (record { user = now (user .entry); used = now (used .entry); verdicts = now (verdicts .entry) }) (now (scratch .entry)) (addedAnswer r) (record { user = now (user .exit); used = now (used .exit); verdicts = now (verdicts .exit) }) (now (scratch .exit)) ⌝ }
+) -> Changed
+    requires { ⌜ Puts (now library) (now user) (now used) (now group) cut class ⌝ }
+    ensures { λ r. ⌜ Makes flat (now (library .entry))
+        (putting (now (library .entry)) (record { user = now (user .entry); used = now (used .entry); verdicts = now (verdicts .entry) })
+        (now (group .entry)) cut class (length (now (scratch .entry))))
+        (record { user = now (user .entry); used = now (used .entry); verdicts = now (verdicts .entry) }) (now (scratch .entry)) (changedAnswer r)
+        (record { user = now (user .exit); used = now (used .exit); verdicts = now (verdicts .exit) }) (now (scratch .exit)) ⌝ }
 {
     let mut starts = [0u16; 256];
     let mut memo = [65535u16; 256];
-    let size = *used;
-    let checked = present(library, user, size, &mut starts, &mut memo);
-    if let Checked::Refused(number, sheet, byte) = checked {
-        return Added::Refused(number, sheet, byte);
-    }
-    let cut = Cut {
-        from: size,
-        to: size,
-        used: size,
-    };
-    let lines = verdicts.len() / 2;
-    let mut fresh = [65535u16; 256];
+    let lines = verdicts.len() / VERDICT_BYTES;
     let admitted = admit(
         library,
         user,
@@ -118,108 +151,106 @@ pub fn add<'a>(
         lines,
         scratch.len(),
         &mut starts,
-        &mut fresh,
-    );
-    match admitted {
-        Checked::Refused(number, sheet, byte) => Added::Refused(number, sheet, byte),
-        Checked::Fine(nlib, n) => {
-            let class = n - 1;
-            let mut marks = [255u8; 256];
-            marks[class] = 0;
-            rejudge(
-                library,
-                user,
-                group,
-                cut,
-                &starts,
-                nlib,
-                n,
-                &mut fresh,
-                &marks,
-                verdicts,
-                scratch,
-            );
-            write(user, group, cut);
-            *used = size + group.len();
-            Added::Fine(class)
-        }
-    }
-}
-
-// How many classes depend on the replaced one, itself counted, or the refusal: number, sheet, byte.
-pub enum Replaced {
-    Fine(usize),
-    Refused(u8, u8, usize),
-}
-
-// Puts a group where the cut stands, which takes out the group of a user class.
-fn replace_at<'a>(
-    library: &'a [u8],
-    user: &mut [u8],
-    used: &mut usize,
-    nlib: usize,
-    n: usize,
-    class: usize,
-    group: &'a [u8],
-    cut: Cut,
-    starts: &mut [u16],
-    verdicts: &mut [u8],
-    scratch: &mut [u8],
-) -> Replaced
-    requires { ⌜ presentRefusal (now library) (now user) (now used) ≡ none ⌝ }
-    requires { ⌜ Indexed (now library) (take (now used) (now user)) nlib n (now starts) ⌝ }
-    requires { ⌜ (nlib ≤ class) × (class < n) × (cut .from ≡ startOf (now library) (take (now used) (now user)) class) × (cut .to ≡ endOf (now library) (take (now used) (now user)) class) × (cut .used ≡ now used) ⌝ }
-    ensures { λ r. ⌜ Replaces flat (now (library .entry)) class (now (group .entry)) (record { user = now (user .entry); used = now (used .entry); verdicts = now (verdicts .entry) }) (now (scratch .entry)) (replacedAnswer r) (record { user = now (user .exit); used = now (used .exit); verdicts = now (verdicts .exit) }) (now (scratch .exit)) ⌝ }
-{
-    let mut memo = [65535u16; 256];
-    let lines = verdicts.len() / 2;
-    let admitted = admit(
-        library,
-        user,
-        group,
-        cut,
-        lines,
-        scratch.len(),
-        starts,
         &mut memo,
     );
     match admitted {
-        Checked::Refused(number, sheet, byte) => Replaced::Refused(number, sheet, byte),
-        Checked::Fine(libs, all) => {
-            let mut marks = [0u8; 256];
-            dependents(
-                library,
-                user,
-                group,
-                cut,
-                starts,
-                libs,
-                all,
-                class,
-                &mut marks,
-            );
+        Checked::Refused(refusal) => Changed::Refused(refusal),
+        Checked::Fine(classes) => {
             let size = view_len(user, group, cut);
+            write(user, group, cut);
+            *used = size;
+            let sheet = &user[0..size];
+            let mut marks = [255u8; 256];
+            touch(library, sheet, &starts, classes, cut, class, &mut marks);
             rejudge(
                 library,
-                user,
-                group,
-                cut,
-                starts,
-                libs,
-                all,
+                sheet,
+                &starts,
+                classes,
                 &mut memo,
                 &marks,
                 verdicts,
                 scratch,
             );
-            write(user, group, cut);
-            *used = size;
-            Replaced::Fine(marked(&marks, all))
+            Changed::Fine(marked(&marks, classes.all))
         }
     }
 }
 
-// Puts a group in the place of a user class's; the verdicts of the classes that depend on it are rewritten.
+// Whether the present sheets are accepted: the rows that this fills are not kept.
+fn accepted<'a>(library: &'a [u8], user: &'a [u8], used: usize) -> Checked
+    ensures { λ r. ⌜ r ≡ checkedOf (presentRefusal (now (library .entry)) (now (user .entry)) used)
+        (classCount (now (library .entry))) (total (now (library .entry)) (take used (now (user .entry)))) ⌝ }
+{
+    let mut starts = [0u16; 256];
+    let mut memo = [65535u16; 256];
+    present(library, user, used, &mut starts, &mut memo)
+}
+
+// Puts a group after the user sheet's used bytes; the new class's verdict is written, and its number answered.
+pub fn add<'a>(
+    library: &'a [u8],
+    user: &mut [u8],
+    used: &mut usize,
+    group: &'a [u8],
+    verdicts: &mut [u8],
+    scratch: &mut [u8],
+) -> Changed
+    ensures { λ r. ⌜ Adds flat (now (library .entry)) (now (group .entry))
+        (record { user = now (user .entry); used = now (used .entry); verdicts = now (verdicts .entry) }) (now (scratch .entry)) (changedAnswer r)
+        (record { user = now (user .exit); used = now (used .exit); verdicts = now (verdicts .exit) }) (now (scratch .exit)) ⌝ }
+{
+    let size = *used;
+    let checked = accepted(library, user, size);
+    match checked {
+        Checked::Refused(refusal) => Changed::Refused(refusal),
+        Checked::Fine(classes) => {
+            let cut = Cut {
+                from: size,
+                to: size,
+                used: size,
+            };
+            let class = classes.all;
+            let changed = change(library, user, used, group, cut, class, verdicts, scratch);
+            match changed {
+                Changed::Refused(refusal) => Changed::Refused(refusal),
+                Changed::Fine(_touched) => Changed::Fine(class),
+            }
+        }
+    }
+}
+
+// Where the group of a user class stands in the present sheets, as the cut that takes it out; or the refusal.
+enum Found {
+    At(Cut),
+    Refused(Refusal),
+}
+
+fn cut_of<'a>(library: &'a [u8], user: &'a [u8], used: usize, class: usize) -> Found
+    ensures { λ r. ⌜ CutOf (now (library .entry)) (now (user .entry)) used class r ⌝ }
+{
+    let mut starts = [0u16; 256];
+    let mut memo = [65535u16; 256];
+    let checked = present(library, user, used, &mut starts, &mut memo);
+    match checked {
+        Checked::Refused(refusal) => Found::Refused(refusal),
+        Checked::Fine(classes) => {
+            if class < classes.library {
+                return Found::Refused(plain(13));
+            }
+            if classes.all <= class {
+                return Found::Refused(plain(13));
+            }
+            Found::At(Cut {
+                from: wide(starts[class]),
+                to: group_end(&starts, classes, library.len(), used, class),
+                used: used,
+            })
+        }
+    }
+}
+
+// Puts a group in the place of a user class's; the verdicts of the classes that depend on it are rewritten, and how many those are is answered.
 pub fn replace<'a>(
     library: &'a [u8],
     user: &mut [u8],
@@ -228,46 +259,15 @@ pub fn replace<'a>(
     group: &'a [u8],
     verdicts: &mut [u8],
     scratch: &mut [u8],
-) -> Replaced
-    ensures { λ r. ⌜ Replaces flat (now (library .entry)) class (now (group .entry)) (record { user = now (user .entry); used = now (used .entry); verdicts = now (verdicts .entry) }) (now (scratch .entry)) (replacedAnswer r) (record { user = now (user .exit); used = now (used .exit); verdicts = now (verdicts .exit) }) (now (scratch .exit)) ⌝ }
+) -> Changed
+    ensures { λ r. ⌜ Replaces flat (now (library .entry)) class (now (group .entry))
+        (record { user = now (user .entry); used = now (used .entry); verdicts = now (verdicts .entry) }) (now (scratch .entry)) (changedAnswer r)
+        (record { user = now (user .exit); used = now (used .exit); verdicts = now (verdicts .exit) }) (now (scratch .exit)) ⌝ }
 {
-    let mut starts = [0u16; 256];
-    let mut memo = [65535u16; 256];
     let size = *used;
-    let checked = present(library, user, size, &mut starts, &mut memo);
-    match checked {
-        Checked::Refused(number, sheet, byte) => Replaced::Refused(number, sheet, byte),
-        Checked::Fine(nlib, n) => {
-            if class < nlib {
-                return Replaced::Refused(13, 0, 0);
-            }
-            if n <= class {
-                return Replaced::Refused(13, 0, 0);
-            }
-            let all = Cut {
-                from: size,
-                to: size,
-                used: size,
-            };
-            let none = &library[0..0];
-            let cut = Cut {
-                from: group_start(library, user, none, all, &starts, nlib, n, class),
-                to: group_end(library, user, none, all, &starts, nlib, n, class),
-                used: size,
-            };
-            replace_at(
-                library,
-                user,
-                used,
-                nlib,
-                n,
-                class,
-                group,
-                cut,
-                &mut starts,
-                verdicts,
-                scratch,
-            )
-        }
+    let found = cut_of(library, user, size, class);
+    match found {
+        Found::Refused(refusal) => Changed::Refused(refusal),
+        Found::At(cut) => change(library, user, used, group, cut, class, verdicts, scratch),
     }
 }

@@ -17,25 +17,31 @@ getD-after xs ys i h =
     ap (λ (j : ℕ). getD (xs ++ ys) j 0) e ∙ getD-append-add xs ys (i - length xs) 0
 
 module _ (u g : List ℕ) (cut : Cut) (h : Fits cut u g) where
+  abbrev head : List ℕ
+  head = take (cut .from) u
+
+  abbrev tail : List ℕ
+  tail = drop (cut .to) (take (cut .used) u)
+
   head-length : length (take (cut .from) u) ≡ cut .from
   head-length = simp length-take (omega (arith, h .ordered, h .within, h .there))
 
   pub in-head : (i : ℕ) → i < cut .from → getD u i 0 ≡ getD (spliced u g cut) i 0
   unfolding spliced
-  in-head i l =
-      rw (List·getD-append (take (cut .from) u) (g ++ drop (cut .to) (take (cut .used) u)) 0 i (omega (arith, head-length)), getD-take (cut .from) u i 0 l)
+  in-head i l = rw (List·getD-append head (g ++ tail) 0 i (omega (arith, head-length)), getD-take (cut .from) u i 0 l)
 
   pub in-group : (i k : ℕ) → cut .from + k ≡ i → k < length g → getD g k 0 ≡ getD (spliced u g cut) i 0
   unfolding spliced
   in-group i k e l =
-      let m : i - length (take (cut .from) u) ≡ k = omega (arith, head-length) in
-      rw (getD-after (take (cut .from) u) (g ++ drop (cut .to) (take (cut .used) u)) i (omega (arith, head-length)), m, List·getD-append g (drop (cut .to) (take (cut .used) u)) 0 k l)
+      let m : i - length head ≡ k = omega (arith, head-length) in
+      rw (getD-after head (g ++ tail) i (omega (arith, head-length)), m, List·getD-append g tail 0 k l)
 
   pub in-tail : (i k : ℕ) → cut .from + length g + k ≡ i → cut .to + k < cut .used → getD u (cut .to + k) 0 ≡ getD (spliced u g cut) i 0
   unfolding spliced
   in-tail i k e l =
-      let w : i - length (take (cut .from) u) - length g ≡ k = omega (arith, head-length) in
-      rw (getD-after (take (cut .from) u) (g ++ drop (cut .to) (take (cut .used) u)) i (omega (arith, head-length)), getD-after g (drop (cut .to) (take (cut .used) u)) (i - length (take (cut .from) u)) (omega (arith, head-length)), w, getD-drop (cut .to) (take (cut .used) u) k 0, getD-take (cut .used) u (cut .to + k) 0 l)
+      let w : i - length head - length g ≡ k = omega (arith, head-length) in
+      rw (getD-after head (g ++ tail) i (omega (arith, head-length)), getD-after g tail (i - length head) (omega (arith, head-length)), w)
+      (rw (getD-drop (cut .to) (take (cut .used) u) k 0, getD-take (cut .used) u (cut .to + k) 0 l))
 
   pub length-spliced : length (spliced u g cut) ≡ cut .from + length g + (cut .used - cut .to)
   unfolding spliced

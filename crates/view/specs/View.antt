@@ -8,7 +8,9 @@ use lib.ListN.{length, take, drop}
 use Rattle.spec.specs.Lists.{concat}
 use Rattle.theory.proofs.All.{All}
 use Rattle.theory.proofs.Cut.{IsGroup}
+use Rattle.groups.specs.Groups.{Indexed}
 use Rattle.view.specs.declared.Cut.{Cut}
+use Rattle.view.specs.declared.View.{View}
 
 -- whole groups stand before the cut and after it
 pub record Around (cut : Cut) (user : List ℕ) : Type 0 where
@@ -40,3 +42,8 @@ pub record Fits (cut : Cut) (user group : List ℕ) : Type 0 where
 -- the buffer's bytes before the cut, the group, and the used bytes after it
 unfoldable pub spliced : List ℕ → List ℕ → Cut → List ℕ
 spliced user group cut = take (cut .from) user ++ (group ++ drop (cut .to) (take (cut .used) user))
+
+-- a view of two sheets: the cut fits, and the row holds the starts of the classes of the library and of the spliced sheet
+pub record Views (view : View) (library user group starts : List ℕ) : Type 0 where
+  pub fits : Fits (view .cut) user group
+  pub indexed : Indexed library (spliced user group (view .cut)) (view .classes .library) (view .classes .all) starts

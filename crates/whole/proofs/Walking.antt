@@ -2,80 +2,22 @@
 -- Assumes nothing.
 use mathlib.Core.Path.{_≡_, refl, sym, ap, _∙_}
 use mathlib.Core.Bool.{Bool, true, false, not, _&&_, and-false}
-use mathlib.Core.List.{List, [], _∷_}
-use Prim.Native.Nat.{ℕ, zero, suc, _+_, _≤_, _<_}
+use mathlib.Core.List.{List}
+use Prim.Native.Nat.{ℕ, _+_, _≤_, _<_}
 use native.Mathlib.Nat.{zero-add}
 use native.Mathlib.Decide.{ℕ-discrete}
 use native.Mathlib.Omega.{arith}
 use lib.Dec.{eqb}
 use lib.ListN.{length, take, drop, length-append, length-drop}
-use lib.Seq.{drop-drop}
 use borrow.Author.Tests.{eq-eqb, ne-eqb}
 use Rattle.spec.specs.Lists.{any, concat}
 use Rattle.spec.specs.Record.{u16, isClass}
-use Rattle.spec.specs.Sheet.{wholeFirst, recordsIn, recordsOf, wholeEnd}
+use Rattle.spec.specs.Sheet.{wholeFirst, recordsOf, wholeEnd}
 use Rattle.spec.specs.Refusals.{oneClass, wholeGroup}
-use Rattle.theory.proofs.Bools.{true-t}
-use Rattle.theory.proofs.Parts.{u16-here, part-length, part-kind}
-use Rattle.theory.proofs.Cut.{first-is, is-first, short-stop, records-step, records-stop}
-use Rattle.whole.specs.Lengths.{wholeLength}
-
--- ---- the records from a byte on
-
--- a whole record begins at `at`, n bytes long
-pub record Stands (s : List ℕ) (at n : ℕ) : Type 0 where
-  pub size : n ≡ u16 s at
-  pub four : 4 ≤ n
-  pub ends : at + n ≤ length s
-
--- ---- lengths that the code reads
-
-module _ (s : List ℕ) (at : ℕ) where
-  first-here : {n : ℕ} → Stands s at n → wholeFirst (drop at s) ≡ true
-  first-here w =
-      let l = length-drop at s in
-      let u = u16-here s at in
-      is-first (drop at s) (record { left = omega (arith, w); four = omega (arith, w); ends = omega (arith, w) })
-
-  stands-here : wholeFirst (drop at s) ≡ true → Stands s at (u16 s at)
-  stands-here e =
-      let f = first-is (drop at s) (true-t e) in
-      let l = length-drop at s in
-      let u = u16-here s at in
-      record { size = refl; four = omega arith; ends = omega arith }
-
-  length-true : wholeFirst (drop at s) ≡ true → wholeLength s at ≡ u16 s at
-  unfolding wholeLength
-  length-true e = rw (e, wholeLength)
-
-  length-false : wholeFirst (drop at s) ≡ false → wholeLength s at ≡ 0
-  unfolding wholeLength
-  length-false e = rw (e, wholeLength)
-
-  pub length-is : (n : ℕ) → Stands s at n → n ≡ wholeLength s at
-  length-is n w = w .size ∙ sym (length-true (first-here w))
-
-  pub length-none : (Stands s at (u16 s at) → ⊥) → 0 ≡ wholeLength s at
-  length-none h = go (wholeFirst (drop at s)) refl
-    where
-      go : (b : Bool) → wholeFirst (drop at s) ≡ b → 0 ≡ wholeLength s at
-      go true e = absurd (h (stands-here e))
-      go false e = sym (length-false e)
-
-  module _ {n : ℕ} (e : n ≡ wholeLength s at) where
-    pub length-some : (n ≡ 0 → ⊥) → Stands s at n
-    length-some h = go (wholeFirst (drop at s)) refl
-      where
-        go : (b : Bool) → wholeFirst (drop at s) ≡ b → Stands s at n
-        go true f = rw (e ∙ length-true f) (stands-here f)
-        go false f = absurd (h (e ∙ length-false f))
-
-    pub length-zero : n ≡ 0 → wholeFirst (drop at s) ≡ false
-    length-zero z = go (wholeFirst (drop at s)) refl
-      where
-        go : (b : Bool) → wholeFirst (drop at s) ≡ b → b ≡ false
-        go true f = absurd (omega (arith, stands-here f .four, length-true f))
-        go false f = refl
+use Rattle.theory.proofs.Parts.{part-length, part-kind}
+use Rattle.theory.proofs.Cut.{short-stop, records-stop}
+use Rattle.records.specs.Lengths.{wholeLength}
+use Rattle.records.proofs.Lengths.{Stands, length-some, length-zero, records-here}
 
 -- ---- the walk
 
@@ -91,14 +33,13 @@ shift-eqb n a b x y ea eb = go (ℕ-discrete x y)
     go (no e) = ne-eqb a b (λ q. e (omega arith)) ∙ sym (ne-eqb x y e)
 
 module _ {s : List ℕ} {at n : ℕ} (w : Stands s at n) where
-  pub records-here : recordsOf (drop at s) ≡ take n (drop at s) ∷ recordsOf (drop (at + n) s)
-  records-here = records-step (drop at s) (first-here s at w) ∙ rw (u16-here s at ∙ sym (w .size), drop-drop n at s)
-
   end-here : eqb (wholeEnd (drop at s)) (length (drop at s)) ≡ eqb (wholeEnd (drop (at + n) s)) (length (drop (at + n) s))
   unfolding wholeEnd concat
   end-here =
-      shift-eqb n _ _ _ _ (ap (λ (rs : List (List ℕ)). length (concat rs)) records-here ∙ length-append (take n (drop at s)) _ ∙ ap (λ (k : ℕ). k + length (concat (recordsOf (drop (at + n) s)))) (part-length s at n (w .ends)))
-      (omega (arith, length-drop at s, length-drop (at + n) s, w .ends))
+      let after : ℕ = length (concat (recordsOf (drop (at + n) s))) in
+      let e : length (concat (recordsOf (drop at s))) ≡ n + after =
+      ap (λ (rs : List (List ℕ)). length (concat rs)) (records-here w) ∙ length-append (take n (drop at s)) _ ∙ ap (λ (k : ℕ). k + after) (part-length s at n (w .ends)) in
+      shift-eqb n _ _ _ _ e (omega (arith, length-drop at s, length-drop (at + n) s, w .ends))
 
   kind-here : {k : ℕ} → k ≡ u16 s (at + 2) → isClass (take n (drop at s)) ≡ eqb k 1
   kind-here e = ap (λ (k : ℕ). eqb k 1) (part-kind s at n (w .four) ∙ sym e)
@@ -106,19 +47,19 @@ module _ {s : List ℕ} {at n : ℕ} (w : Stands s at n) where
   module _ {k : ℕ} (e : k ≡ u16 s (at + 2)) where
     class-stop : k ≡ 1 → othersOnly (drop at s) ≡ false
     unfolding othersOnly any
-    class-stop h = rw (records-here, kind-here e ∙ eq-eqb k 1 h) (and-false (eqb (wholeEnd (drop at s)) (length (drop at s))))
+    class-stop h = rw (records-here w, kind-here e ∙ eq-eqb k 1 h) (and-false (eqb (wholeEnd (drop at s)) (length (drop at s))))
 
     other-step : (k ≡ 1 → ⊥) → othersOnly (drop at s) ≡ othersOnly (drop (at + n) s)
     unfolding othersOnly any
-    other-step h = rw (end-here, records-here, kind-here e ∙ ne-eqb k 1 h) refl
+    other-step h = rw (end-here, records-here w, kind-here e ∙ ne-eqb k 1 h) refl
 
     class-first : k ≡ 1 → wholeGroup (drop at s) ≡ othersOnly (drop (at + n) s)
     unfolding othersOnly wholeGroup oneClass
-    class-first h = rw (end-here, records-here, kind-here e ∙ eq-eqb k 1 h) refl
+    class-first h = rw (end-here, records-here w, kind-here e ∙ eq-eqb k 1 h) refl
 
     other-first : (k ≡ 1 → ⊥) → wholeGroup (drop at s) ≡ false
     unfolding wholeGroup oneClass
-    other-first h = rw (records-here, kind-here e ∙ ne-eqb k 1 h) (and-false (eqb (wholeEnd (drop at s)) (length (drop at s))))
+    other-first h = rw (records-here w, kind-here e ∙ ne-eqb k 1 h) (and-false (eqb (wholeEnd (drop at s)) (length (drop at s))))
 
 none-stop : (s : List ℕ) (at : ℕ) → wholeFirst (drop at s) ≡ false → at < length s → othersOnly (drop at s) ≡ false
 unfolding othersOnly wholeEnd concat any

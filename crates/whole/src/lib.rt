@@ -1,37 +1,11 @@
 // Whether the bytes of a group are whole records with one CLASS, its first.
-use view::word_in;
+use records::CLASS;
+use records::KIND_AT;
+use records::whole_length;
+use records::word_in;
 ghost use mathlib.Core.Path.{_≡_};
-ghost use Prim.Native.Nat.{_+_, _-_, _≤_, _<_};
-ghost use lib.ListN.{length};
+ghost use Prim.Native.Nat.{_+_, _<_};
 ghost use Rattle.spec.specs.Refusals.{wholeGroup};
-ghost use Rattle.whole.specs.Lengths.{wholeLength};
-
-fn wide(x: u16) -> usize
-    ensures { λ r. ⌜ (r ≡ x) × (r < 65536) ⌝ }
-{
-    x as usize
-}
-
-// The length of the whole record at `at`, 0 if none begins there.
-pub fn whole_length(group: &[u8], at: usize) -> usize
-    ensures { λ r. ⌜ (r ≡ wholeLength (now (group .entry)) at) × (r ≤ length (now (group .entry)) - at) ⌝ }
-{
-    if group.len() <= at {
-        return 0;
-    }
-    let left = group.len() - at;
-    if left < 4 {
-        return 0;
-    }
-    let len = wide(word_in(group, at));
-    if len < 4 {
-        return 0;
-    }
-    if left < len {
-        return 0;
-    }
-    len
-}
 
 pub fn whole_group(group: &[u8]) -> bool
     ensures { λ r. ⌜ r ≡ wholeGroup (now (group .entry)) ⌝ }
@@ -40,7 +14,7 @@ pub fn whole_group(group: &[u8]) -> bool
     if at == 0 {
         return false;
     }
-    if word_in(group, 2) != 1 {
+    if word_in(group, KIND_AT) != CLASS {
         return false;
     }
     while at < group.len() {
@@ -48,7 +22,7 @@ pub fn whole_group(group: &[u8]) -> bool
         if len == 0 {
             return false;
         }
-        if word_in(group, at + 2) == 1 {
+        if word_in(group, at + KIND_AT) == CLASS {
             return false;
         }
         at += len;

@@ -1,123 +1,106 @@
--- `admit::admit`.
+-- Test after test: the group, the sheet that it makes, the lines and the scratch.
 -- Assumes nothing.
 use native.Mathlib.Omega.{arith}
-use Rattle.admit.proofs.Turning.{group-fits, not-whole, over-buffer, over-limit, sheet-refused, admit-ordered, few-lines, short-scratch, admitted}
 use borrow.Author.Needs.{needs}
+use Rattle.admit.proofs.Turning.{group-fits, not-whole, over-buffer, over-limit, sheet-refused, admit-ordered, few-lines, short-scratch, admitted}
 use Rattle.admit.proofs.admit.Statement.{statement}
 use Rattle.admit.proofs.admit.Tie as tie
 
--- the start, from the place past the check
-abbrev start : tie.After-check → tie.Start
-start c = c .before .before .before .before .before .before .before .before .before .before .before .before .before
+-- ---- places: the start, the length of the new sheet, its check, and its classes
 
-whole-group-requires : tie.Need-whole-group-requires
-whole-group-requires c κs = search needs
+abbrev start : tie.After-whole-group → tie.Start
+start c = c .before .before .before .before .before .before
 
-returns : tie.Need-returns
-returns c = not-whole _ _ _ _ _ _ (c .before .before .before .before .before .before .before .pre .1 .1 .0) (c .before .whole-group .ensures) (c .if1 .taken)
+abbrev whole : tie.After-view-len → tie.After-whole-group
+whole c = c .before .before
+
+abbrev size : tie.After-check → tie.After-view-len
+size c = c .before .before .before .before .before
+
+abbrev check : tie.After-checked → tie.After-check
+check c = c .before .before .before .before .before .before
+
+-- ---- the needs
 
 view-len-requires : tie.Need-view-len-requires
-view-len-requires c κs = group-fits (c .before .before .before .before .before .before .before .pre .0) (c .before .whole-group .ensures) (c .if1 .left)
+view-len-requires c κs = let w = c .before in group-fits (start w .pre .0) (w .whole-group .ensures) (c .if1 .left)
 
 returns-2 : tie.Need-returns-2
 returns-2 c =
-    over-buffer _ _ _ _ _ _ (c .before .before .before .whole-group .ensures) (c .before .before .if1 .left) (c .before .before .before .before .before .before .before .before .before .pre .1 .1 .0)
-    (c .before .view-len .ensures) (omega arith)
+    let v = c .before in
+    let w = whole v in
+    over-buffer _ _ _ _ _ _ (w .whole-group .ensures) (v .before .if1 .left) (start w .pre .1 .1 .0) (v .view-len .ensures) (omega arith)
 
 returns-3 : tie.Need-returns-3
 returns-3 c =
-    over-limit _ _ _ _ _ _ (c .before .before .before .before .whole-group .ensures) (c .before .before .before .if1 .left)
-    (c .before .before .before .before .before .before .before .before .before .before .pre .1 .1 .0) (c .before .before .view-len .ensures) (omega arith) (omega arith)
+    let v = c .before .before in
+    let w = whole v in
+    over-limit _ _ _ _ _ _ (w .whole-group .ensures) (v .before .if1 .left) (start w .pre .1 .1 .0) (v .view-len .ensures) (omega arith) (omega arith)
 
 check-requires : tie.Need-check-requires
 check-requires c κs =
-    let p = c .before .before .before .before .before .before .before .before .before .before .before .before .pre in
-    let fits = group-fits (p .0) (c .before .before .before .before .before .before .whole-group .ensures) (c .before .before .before .before .before .if1 .left) in
-    (fits, ((p .1 .0, omega (arith, c .before .before .before .before .view-len .ensures)), p .1 .1 .0))
-
-enum-known-checked : tie.Need-enum-known-checked
-enum-known-checked c = search needs
-
-enum-told : tie.Need-enum-told
-enum-told c = search needs
-
-same-length : tie.Need-same-length
-same-length c = search needs
-
-same-length-2 : tie.Need-same-length-2
-same-length-2 c = search needs
+    let v = c .before .before .before .before in
+    let w = whole v in
+    let p = start w .pre in
+    (group-fits (p .0) (w .whole-group .ensures) (v .before .if1 .left), ((p .1 .0, omega (arith, v .view-len .ensures)), p .1 .1 .0))
 
 returns-4 : tie.Need-returns-4
 returns-4 c =
-    let w = c .before .before .before .before .before .before in
-    let v = w .before .before .before .before .before in
-    sheet-refused _ _ _ _ _ _ (v .before .before .whole-group .ensures) (v .before .if1 .left) (v .view-len .ensures) (omega arith) (omega arith)
-    (start w .pre .1 .1 .1) (w .check .ensures) (c .enum-told .given .1)
-
-sub-if4 : tie.Need-sub-if4
-sub-if4 c = omega (arith, admit-ordered _ _ (c .before .before .before .before .before .before .before .check .ensures .0) (c .before .checked .given .1))
-
-same-length-3 : tie.Need-same-length-3
-same-length-3 c = search needs
-
-same-length-4 : tie.Need-same-length-4
-same-length-4 c = search needs
+    let k = c .before .before .before .before .before .before in
+    let v = size k in
+    let w = whole v in
+    sheet-refused _ _ _ _ _ _ (w .whole-group .ensures) (v .before .if1 .left) (v .view-len .ensures) (omega arith) (omega arith) (start w .pre .1 .1 .1) (k .check .ensures)
+    (c .enum-told .given .1)
 
 returns-5 : tie.Need-returns-5
 returns-5 c =
-    let w = c .before .before .before .before .before .before .before .before in
-    let v = w .before .before .before .before .before in
-    few-lines _ _ _ _ _ _ (v .before .before .whole-group .ensures) (v .before .if1 .left) (v .view-len .ensures) (omega arith) (omega arith)
-    (start w .pre .1 .1 .1) (w .check .ensures) (c .before .before .checked .given .1) (omega arith)
-
-same-length-5 : tie.Need-same-length-5
-same-length-5 c = search needs
-
-same-length-6 : tie.Need-same-length-6
-same-length-6 c = search needs
+    let d = c .before .before .before in
+    let k = check d in
+    let v = size k in
+    let w = whole v in
+    few-lines _ _ _ _ _ _ (w .whole-group .ensures) (v .before .if1 .left) (v .view-len .ensures) (omega arith) (omega arith) (start w .pre .1 .1 .1) (k .check .ensures)
+    (d .checked .given .1) (omega arith)
 
 returns-6 : tie.Need-returns-6
 returns-6 c =
-    let w = c .before .before .before .before .before .before .before .before .before in
-    let v = w .before .before .before .before .before in
-    short-scratch _ _ _ _ _ _ (v .before .before .whole-group .ensures) (v .before .if1 .left) (v .view-len .ensures) (omega arith) (omega arith)
-    (start w .pre .1 .1 .1) (w .check .ensures) (c .before .before .before .checked .given .1) (omega arith) (omega arith)
-
-same-length-7 : tie.Need-same-length-7
-same-length-7 c = search needs
-
-same-length-8 : tie.Need-same-length-8
-same-length-8 c = search needs
+    let d = c .before .before .before .before in
+    let k = check d in
+    let v = size k in
+    let w = whole v in
+    short-scratch _ _ _ _ _ _ (w .whole-group .ensures) (v .before .if1 .left) (v .view-len .ensures) (omega arith) (omega arith) (start w .pre .1 .1 .1) (k .check .ensures)
+    (d .checked .given .1) (omega arith) (omega arith)
 
 returns-7 : tie.Need-returns-7
 returns-7 c =
-    let w = c .before .before .before .before .before .before .before .before .before in
-    let v = w .before .before .before .before .before in
-    admitted _ _ _ _ _ _ (v .before .before .whole-group .ensures) (v .before .if1 .left) (v .view-len .ensures) (omega arith) (omega arith)
-    (start w .pre .1 .1 .1) (w .check .ensures) (c .before .before .before .checked .given .1) (omega arith) (omega arith)
+    let d = c .before .before .before .before in
+    let k = check d in
+    let v = size k in
+    let w = whole v in
+    admitted _ _ _ _ _ _ (w .whole-group .ensures) (v .before .if1 .left) (v .view-len .ensures) (omega arith) (omega arith) (start w .pre .1 .1 .1) (k .check .ensures)
+    (d .checked .given .1) (omega arith) (omega arith)
 
 pub admit-spec : {M : Type 1} → statement M
 admit-spec =
     tie.close
     (tie.spec
-    whole-group-requires
-    returns
+    (λ c κs. search needs)
+    (λ c. let w = c .before in not-whole _ _ _ _ _ _ (start w .pre .1 .1 .0) (w .whole-group .ensures) (c .if1 .taken))
     view-len-requires
     returns-2
     returns-3
     check-requires
-    enum-known-checked
-    enum-told
-    same-length
-    same-length-2
+    (λ c. search needs)
+    (λ c. search needs)
+    (λ c. search needs)
+    (λ c. search needs)
     returns-4
-    sub-if4
-    same-length-3
-    same-length-4
+    (λ c. let d = c .before .before in omega (arith, admit-ordered _ _ (check d .check .ensures .0) (d .checked .given .1)))
+    (λ c. search needs)
+    (λ c. search needs)
     returns-5
-    same-length-5
-    same-length-6
+    (λ c. search needs)
+    (λ c. search needs)
     returns-6
-    same-length-7
-    same-length-8
+    (λ c. search needs)
+    (λ c. search needs)
     returns-7)

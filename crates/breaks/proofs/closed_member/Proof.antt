@@ -1,8 +1,7 @@
 -- `breaks::closed_member`: the kind, then the flag.
 -- Assumes nothing.
 use native.Mathlib.Omega.{arith}
-use Rattle.spec.specs.Record.{MEMBER}
-use Rattle.records.proofs.Positions.{room, room-of}
+use Rattle.records.proofs.Positions.{room}
 use Rattle.breaks.proofs.Referring.{closed-other, closed-here}
 use Rattle.breaks.proofs.closed_member.Statement.{statement}
 use Rattle.breaks.proofs.closed_member.Tie as tie

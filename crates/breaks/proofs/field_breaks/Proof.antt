@@ -1,56 +1,37 @@
--- `breaks::field_breaks`: kind, flags, then the slot.
+-- A record that is no FIELD has no slot; the set of a field's slot lacks the rule's marker just where the field does not pass.
 -- Assumes nothing.
-use mathlib.Core.Path.{_∙_}
+use mathlib.Core.Path.{sym, _∙_}
 use native.Mathlib.Omega.{arith}
-use Rattle.spec.specs.Record.{FIELD}
-use Rattle.overlay.proofs.Types.{row-markers}
-use Rattle.records.proofs.Positions.{room, room-of}
-use Rattle.breaks.proofs.Fields.{field-other, field-static, field-own}
+use Rattle.records.proofs.Positions.{room}
+use Rattle.slots.proofs.Fields.{field-other}
+use Rattle.breaks.proofs.Heads.{field-told}
 use borrow.Author.Needs.{needs}
 use Rattle.breaks.proofs.field_breaks.Statement.{statement}
 use Rattle.breaks.proofs.field_breaks.Tie as tie
 
-add-word-in : tie.Need-add-word-in
-add-word-in c = omega (arith, room (c .before .before .pre .0))
-
-word-in-requires : tie.Need-word-in-requires
-word-in-requires c κs = omega (arith, room (c .before .before .pre .0))
-
 returns : tie.Need-returns
-returns c = λ g t k w. field-other g (c .before .before .before .before .pre .0) (c .before .word-in .ensures) (c .before .before .before .before .args .rule) t k (c .if1 .taken)
+returns c =
+    let s = c .before .before .before .before in
+    record { is = λ g t k w. field-other g (s .pre .0) (c .before .word-in .ensures) (s .args .rule) t k (c .if1 .taken) }
 
-add-word-in-2 : tie.Need-add-word-in-2
-add-word-in-2 c = omega (arith, room (c .before .before .before .before .pre .0))
-
-word-in-requires-2 : tie.Need-word-in-requires-2
-word-in-requires-2 c κs = omega (arith, room (c .before .before .before .before .pre .0))
+field-set-requires : tie.Need-field-set-requires
+field-set-requires c κs =
+    let p = c .before .before .before .before .pre in
+    (p .0, (p .1 .0, sym (c .before .word-in .ensures) ∙ c .if1 .left))
 
 returns-2 : tie.Need-returns-2
-returns-2 c = λ g t k w. field-static g (c .before .before .before .before .before .before .pre .0) (c .before .before .before .word-in .ensures) (c .before .before .if1 .left) (c .before .word-in2 .ensures) (c .before .before .before .before .before .before .args .rule) t k (c .if2 .taken)
-
-add-type-markers : tie.Need-add-type-markers
-add-type-markers c = omega (arith, room (c .before .before .before .before .before .before .pre .0))
-
-type-markers-requires : tie.Need-type-markers-requires
-type-markers-requires c κs = (omega (arith, room-of (c .before .before .before .before .before .before .pre .0) (c .before .before .before .word-in .ensures) FIELD (c .before .before .if1 .left)), c .before .before .before .before .before .before .pre .1 .0)
-
-slot-fits-requires : tie.Need-slot-fits-requires
-slot-fits-requires c κs = search needs
-
-returns-3 : tie.Need-returns-3
-returns-3 c = λ g t k w. field-own g (c .before .before .before .before .before .before .before .before .pre .0) (c .before .before .before .before .before .word-in .ensures) (c .before .before .before .before .if1 .left) (c .before .before .before .word-in2 .ensures) (c .before .before .before .before .before .before .before .before .args .rule) t k (c .before .before .if2 .left) (c .before .type-markers .ensures ∙ row-markers w _) (c .slot-fits .ensures)
+returns-2 c =
+    let p = c .before .before .before .before .before .before .before .pre in
+    field-told (p .1 .1) (p .1 .2) (c .before .before .field-set .ensures) (c .before .rule-set .ensures .0) (c .has .ensures)
 
 pub field-breaks-spec : {M : Type 1} → statement M
 field-breaks-spec =
     tie.close
     (tie.spec
-    add-word-in
-    word-in-requires
+    (λ c. omega (arith, room (c .before .before .pre .0)))
+    (λ c κs. omega (arith, room (c .before .before .pre .0)))
     returns
-    add-word-in-2
-    word-in-requires-2
-    returns-2
-    add-type-markers
-    type-markers-requires
-    slot-fits-requires
-    returns-3)
+    field-set-requires
+    (λ c κs. search needs)
+    (λ c κs. search needs)
+    returns-2)

@@ -1,6 +1,6 @@
 -- `breaks::lets_out`: three bits, added.
 -- Assumes nothing.
-use Rattle.breaks.proofs.Bits.{lets-out-is}
+use Rattle.slots.proofs.Bits.{lets-out-is}
 use borrow.Author.Needs.{needs}
 use Rattle.breaks.proofs.lets_out.Statement.{statement}
 use Rattle.breaks.proofs.lets_out.Tie as tie

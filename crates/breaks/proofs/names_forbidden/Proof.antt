@@ -21,7 +21,8 @@ known-requires-2 : tie.Need-known-requires-2
 known-requires-2 c κs = search needs
 
 returns-2 : tie.Need-returns-2
-returns-2 c = names-second _ (c .before .before .before .before .any-named .ensures) (c .before .before .before .known .ensures) (c .before .before .if1 .left) (c .before .second-named .ensures) (c .known2 .ensures)
+returns-2 c = names-second _ (c .before .before .before .before .any-named .ensures) (c .before .before .before .known .ensures) (c .before .before .if1 .left) (c .before .second-named .ensures)
+    (c .known2 .ensures)
 
 pub names-forbidden-spec : {M : Type 1} → statement M
 names-forbidden-spec =

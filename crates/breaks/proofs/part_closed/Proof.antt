@@ -5,8 +5,8 @@ use mathlib.Core.Path.{sym, _∙_}
 use Prim.Native.Nat.{_-_}
 use native.Mathlib.Omega.{arith}
 use lib.ListN.{length}
-use Rattle.groups.proofs.Between.{tiled-room}
-use Rattle.groups.proofs.Walks.{walk-on}
+use Rattle.records.proofs.Between.{tiled-room}
+use Rattle.records.proofs.Walks.{walk-on}
 use Rattle.records.proofs.Positions.{walk-sized}
 use Rattle.records.proofs.Seeking.{Seeking, seek-start, seek-end, seek-hit, seek-next}
 use Rattle.breaks.specs.Breaking.{closedMember, partBy}
@@ -36,12 +36,18 @@ add-at : tie.Need-add-at Inv-loop μ-loop
 add-at c = omega (arith, c .before .before .before .before .before .loop .inv .place .small, c .wide .ensures .1)
 
 loop-less : tie.Need-loop-less Inv-loop μ-loop
-loop-less c = omega (arith, walk-on (c .before .before .before .before .before .loop .inv .place) (c .before .before .before .before .loop-test .taken), c .wide .ensures .0 ∙ c .before .word-in .ensures)
+loop-less c = omega (
+  arith,
+  walk-on (c .before .before .before .before .before .loop .inv .place) (c .before .before .before .before .loop-test .taken),
+  c .wide .ensures .0
+      ∙ c .before .word-in .ensures,
+)
 
 loop-again : tie.Need-loop-again Inv-loop μ-loop
 loop-again c =
     let one = c .before .before in
-    seek-next (one .before .before .before .loop .inv) (one .before .before .loop-test .taken) (c .wide .ensures .0 ∙ c .before .word-in .ensures) (sym (one .before .closed-member .ensures) ∙ one .if1 .left)
+    seek-next (one .before .before .before .loop .inv) (one .before .before .loop-test .taken) (c .wide .ensures .0 ∙ c .before .word-in .ensures)
+    (sym (one .before .closed-member .ensures) ∙ one .if1 .left)
 
 returns-2 : tie.Need-returns-2 Inv-loop μ-loop
 unfolding partBy

@@ -1,6 +1,6 @@
 -- `breaks::reserved`: three bits, added.
 -- Assumes nothing.
-use Rattle.breaks.proofs.Bits.{reserved-is}
+use Rattle.slots.proofs.Bits.{reserved-is}
 use borrow.Author.Needs.{needs}
 use Rattle.breaks.proofs.reserved.Statement.{statement}
 use Rattle.breaks.proofs.reserved.Tie as tie

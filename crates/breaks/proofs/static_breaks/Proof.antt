@@ -5,7 +5,7 @@ use native.Mathlib.Omega.{arith}
 use Rattle.spec.specs.Record.{FIELD}
 use Rattle.overlay.proofs.Types.{row-markers}
 use Rattle.records.proofs.Positions.{room, room-of}
-use Rattle.breaks.proofs.Fields.{static-other, static-instance, static-changing, static-typed}
+use Rattle.slots.proofs.Fields.{static-other, static-instance, static-changing, static-typed}
 use borrow.Author.Needs.{needs}
 use Rattle.breaks.proofs.static_breaks.Statement.{statement}
 use Rattle.breaks.proofs.static_breaks.Tie as tie
@@ -26,22 +26,33 @@ word-in-requires-2 : tie.Need-word-in-requires-2
 word-in-requires-2 c κs = omega (arith, room (c .before .before .before .before .pre .0))
 
 returns-2 : tie.Need-returns-2
-returns-2 c = λ g w. static-instance g (c .before .before .before .before .before .before .pre .0) (c .before .before .before .word-in .ensures) (c .before .before .if1 .left) (c .before .word-in2 .ensures) (c .if2 .taken)
+returns-2 c = λ g w. static-instance g (c .before .before .before .before .before .before .pre .0) (c .before .before .before .word-in .ensures) (c .before .before .if1 .left)
+    (c .before .word-in2 .ensures) (c .if2 .taken)
 
 returns-3 : tie.Need-returns-3
-returns-3 c = λ g w. static-changing g (c .before .before .before .before .before .before .before .pre .0) (c .before .before .before .before .word-in .ensures) (c .before .before .before .if1 .left) (c .before .before .word-in2 .ensures) (c .before .if2 .left) (c .if3 .taken)
+returns-3 c = λ g w. static-changing g (c .before .before .before .before .before .before .before .pre .0) (c .before .before .before .before .word-in .ensures) (c .before .before .before .if1 .left)
+    (c .before .before .word-in2 .ensures) (c .before .if2 .left) (c .if3 .taken)
 
 add-type-markers : tie.Need-add-type-markers
 add-type-markers c = omega (arith, room (c .before .before .before .before .before .before .before .pre .0))
 
 type-markers-requires : tie.Need-type-markers-requires
-type-markers-requires c κs = (omega (arith, room-of (c .before .before .before .before .before .before .before .pre .0) (c .before .before .before .before .word-in .ensures) FIELD (c .before .before .before .if1 .left)), c .before .before .before .before .before .before .before .pre .1)
+type-markers-requires c κs = (
+  omega (
+    arith,
+    room-of (c .before .before .before .before .before .before .before .pre .0) (c .before .before .before .before .word-in .ensures) FIELD
+        (c .before .before .before .if1 .left),
+  ),
+  c .before .before .before .before .before .before .before .pre .1,
+)
 
 has-requires : tie.Need-has-requires
 has-requires c κs = search needs
 
 returns-4 : tie.Need-returns-4
-returns-4 c = λ g w. static-typed g (c .before .before .before .before .before .before .before .before .before .pre .0) (c .before .before .before .before .before .before .word-in .ensures) (c .before .before .before .before .before .if1 .left) (c .before .before .before .before .word-in2 .ensures) (c .before .before .before .if2 .left) (c .before .before .if3 .left) (c .before .type-markers .ensures ∙ row-markers w _) (c .has .ensures)
+returns-4 c = λ g w. static-typed g (c .before .before .before .before .before .before .before .before .before .pre .0) (c .before .before .before .before .before .before .word-in .ensures)
+    (c .before .before .before .before .before .if1 .left) (c .before .before .before .before .word-in2 .ensures) (c .before .before .before .if2 .left) (c .before .before .if3 .left)
+    (c .before .type-markers .ensures ∙ row-markers w _) (c .has .ensures)
 
 pub static-breaks-spec : {M : Type 1} → statement M
 static-breaks-spec =

@@ -12,23 +12,39 @@ fill-requires c κs = search needs
 
 seed-requires : tie.Need-seed-requires
 seed-requires c κs =
-    let p = c .before .before .before .before .before .before .before .before .before .before .before .pre in
-    (p .0, (p .1 .0, (p .1 .1 .0, (p .1 .1 .1 .0, omega (arith, p .1 .1 .1 .1, emptied (c .before .before .before .before .before .before .before .before .before .before .before .args .row .now) (p .1 .1 .1 .1) (c .before .before .before .fill .ensures) .long)))))
+    let p = c .before .before .before .before .before .before .before .before .before .before .pre in (
+      p .0,
+      (
+        p .1 .0,
+        (
+          p .1 .1 .0,
+          omega (
+            arith,
+            p .1 .1 .1,
+            emptied (c .before .before .before .before .before .before .before .before .before .before .args .row .now) (p .1 .1 .1)
+                (c .before .before .before .fill .ensures) .long,
+          ),
+        ),
+      ),
+    )
 
 close-requires : tie.Need-close-requires
 close-requires c κs =
-    let p = c .before .before .before .before .before .before .before .before .before .before .before .before .before .before .before .pre in
-    let e = emptied (c .before .before .before .before .before .before .before .before .before .before .before .before .before .before .before .args .row .now) (p .1 .1 .1 .1) (c .before .before .before .before .before .before .before .fill .ensures) in
+    let p = c .before .before .before .before .before .before .before .before .before .before .before .before .before .before .pre in
+    let e = emptied (c .before .before .before .before .before .before .before .before .before .before .before .before .before .before .args .row .now) (p .1 .1 .1)
+    (c .before .before .before .before .before .before .before .fill .ensures) in
     let f = c .before .before .before .seed .ensures in
-    (p .0, (p .1 .0, (omega (arith, p .1 .1 .1 .1, e .long, f .long), captures-fit (p .1 .0) (p .1 .1 .0) e f)))
+    (p .0, (omega (arith, p .1 .1 .1, e .long, f .long), captures-fit (p .0) (p .1 .0) e f))
 
 same-length : tie.Need-same-length
 same-length c = search needs
 
 returns : tie.Need-returns
 returns c =
-    let p = c .before .before .before .before .before .before .before .before .before .before .before .before .before .before .before .before .before .before .pre in
-    captures-end (p .1 .0) (p .1 .1 .0) (emptied (c .before .before .before .before .before .before .before .before .before .before .before .before .before .before .before .before .before .before .args .row .now) (p .1 .1 .1 .1) (c .before .before .before .before .before .before .before .before .before .before .fill .ensures)) (c .before .before .before .before .before .before .seed .ensures) (c .before .before .close .ensures) (c .before .before .close .kept .1 .1 .1 .1 .1 .1 .1 .1 .1 .0)
+    let p = c .before .before .before .before .before .before .before .before .before .before .before .before .before .before .before .before .before .pre in
+    captures-end (p .0) (p .1 .0) (emptied (c .before .before .before .before .before .before .before .before .before .before .before .before .before .before .before .before .before .args .row .now)
+    (p .1 .1 .1) (c .before .before .before .before .before .before .before .before .before .before .fill .ensures)) (c .before .before .before .before .before .before .seed .ensures)
+    (c .before .before .close .ensures) (c .before .before .close .kept .1 .1 .1 .1 .1 .1 .0)
 
 pub captures-spec : {M : Type 1} → statement M
 captures-spec =

@@ -46,7 +46,8 @@ same-length-2 : tie.Need-same-length-2
 same-length-2 c = search needs
 
 returns-3 : tie.Need-returns-3
-returns-3 c = lane-write (c .before .before .before .before .has .ensures) (c .before .before .before .before .before .lane-set .ensures .0) _ (c .before .before .before .if1 .left) (c .before .entry .ensures .0) (c .if2 .left) (omega arith)
+returns-3 c = lane-write (c .before .before .before .before .has .ensures) (c .before .before .before .before .before .lane-set .ensures .0) _ (c .before .before .before .if1 .left)
+    (c .before .entry .ensures .0) (c .if2 .left) (omega arith)
 
 pub lower-spec : {M : Type 1} → statement M
 lower-spec =

@@ -17,7 +17,8 @@ returns : tie.Need-returns
 returns c = seed-none _ _ (none-there (c .before .before .class-bytes .ensures) USES (c .before .nth-in .ensures) (c .if1 .taken)) _
 
 seed-records-requires : tie.Need-seed-records-requires
-seed-records-requires c κs = let p = c .before .before .before .before .before .before .before .before .before .before .pre in (p .0, (p .1 .0, (p .1 .1 .0, (p .1 .1 .1 .0, (c .before .before .before .class-bytes .ensures, p .1 .1 .1 .1)))))
+seed-records-requires c κs = let p = c .before .before .before .before .before .before .before .before .before .pre in
+    (p .0, (p .1 .0, (p .1 .1 .0, (c .before .before .before .class-bytes .ensures, p .1 .1 .1))))
 
 same-length : tie.Need-same-length
 same-length c = search needs

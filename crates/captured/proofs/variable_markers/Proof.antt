@@ -13,13 +13,15 @@ nth-in-requires : tie.Need-nth-in-requires
 nth-in-requires c κs = search needs
 
 add-type-markers : tie.Need-add-type-markers
-add-type-markers c = let p = c .before .before .before .before .before .before .before .pre .1 .1 .1 in omega (arith, variable-room (c .before .class-bytes .ensures) _ (p .1) (c .nth-in .ensures))
+add-type-markers c = let p = c .before .before .before .before .before .before .pre .1 .1 in omega (arith, variable-room (c .before .class-bytes .ensures) _ (p .1) (c .nth-in .ensures))
 
 type-markers-requires : tie.Need-type-markers-requires
-type-markers-requires c κs = let p = c .before .before .before .before .before .before .before .pre .1 .1 .1 in (omega (arith, variable-room (c .before .class-bytes .ensures) _ (p .1) (c .nth-in .ensures)), c .before .class-bytes .ensures .place .small)
+type-markers-requires c κs = let p = c .before .before .before .before .before .before .pre .1 .1 in
+    (omega (arith, variable-room (c .before .class-bytes .ensures) _ (p .1) (c .nth-in .ensures)), c .before .class-bytes .ensures .place .small)
 
 returns : tie.Need-returns
-returns c = let p = c .before .before .before .before .before .before .before .before .pre .1 .1 in variable-markers (c .before .before .class-bytes .ensures) _ (p .1 .1) (c .before .nth-in .ensures) (p .0) (c .type-markers .ensures)
+returns c = let p = c .before .before .before .before .before .before .before .pre .1 in
+    variable-markers (c .before .before .class-bytes .ensures) _ (p .1 .1) (c .before .nth-in .ensures) (p .0) (c .type-markers .ensures)
 
 pub variable-markers-spec : {M : Type 1} → statement M
 variable-markers-spec =

@@ -13,27 +13,11 @@ Inv-loop buffer₀ from to i₀ buffer i = (from ≤ i) × Copied buffer₀ from
 abbrev μ-loop : tie.MeasureT-loop
 μ-loop buffer₀ from to i₀ buffer i = to - i
 
-loop-holds : tie.Need-loop-holds Inv-loop μ-loop
-loop-holds c = (omega arith, copy-start _ _ _ _ _ (omega arith))
-
-slice-write-buffer : tie.Need-slice-write-buffer Inv-loop μ-loop
-slice-write-buffer c = omega (arith, copy-long (c .before .loop .inv .1) (omega arith) (simp length-replicate (omega arith)))
-
-add-i : tie.Need-add-i Inv-loop μ-loop
-add-i c = omega arith
-
-loop-less : tie.Need-loop-less Inv-loop μ-loop
-loop-less c = omega arith
-
 loop-again : tie.Need-loop-again Inv-loop μ-loop
 loop-again c =
-    let h : c .before .loop .i - c .before .before .args .from < c .before .before .args .to - c .before .before .args .from = omega arith in (omega arith, copy-next (c .before .loop .inv .1) (omega arith) (simp length-replicate (omega arith)) (omega arith) (omega arith) (rw getD-replicate) (omega arith))
-
-same-length : tie.Need-same-length Inv-loop μ-loop
-same-length c = copy-long (c .before .loop .inv .1) (omega arith) (simp length-replicate (omega arith))
-
-returns : tie.Need-returns Inv-loop μ-loop
-returns c = copy-end (c .before .loop .inv .1) (omega arith) (simp length-replicate (omega arith)) (omega arith)
+    let a = c .before .before .args in
+    let h : c .before .loop .i - a .from < a .to - a .from = omega arith in
+    (omega arith, copy-next (c .before .loop .inv .1) (omega arith) (omega arith) (rw getD-replicate) (omega arith))
 
 pub clear-spec : {M : Type 1} → statement M
 clear-spec =
@@ -41,10 +25,10 @@ clear-spec =
     (tie.spec
     Inv-loop
     μ-loop
-    loop-holds
-    slice-write-buffer
-    add-i
-    loop-less
+    (λ c. (omega arith, copy-start _ _ _ _ _ (omega arith) (omega arith) (simp length-replicate (omega arith))))
+    (λ c. omega (arith, copy-long (c .before .loop .inv .1)))
+    (λ c. omega arith)
+    (λ c. omega arith)
     loop-again
-    same-length
-    returns)
+    (λ c. copy-long (c .before .loop .inv .1))
+    (λ c. copy-end (c .before .loop .inv .1) (omega arith)))

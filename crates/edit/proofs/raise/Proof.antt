@@ -14,35 +14,10 @@ Inv-loop buffer₀ from to n i₀ buffer i = Backed buffer₀ to (drop from buff
 abbrev μ-loop : tie.MeasureT-loop
 μ-loop buffer₀ from to n i₀ buffer i = i
 
-loop-holds : tie.Need-loop-holds Inv-loop μ-loop
-loop-holds c = back-start _ _ _ _
-
-sub-i : tie.Need-sub-i Inv-loop μ-loop
-sub-i c = omega arith
-
-add-buffer : tie.Need-add-buffer Inv-loop μ-loop
-add-buffer c = omega arith
-
-slice-read-buffer : tie.Need-slice-read-buffer Inv-loop μ-loop
-slice-read-buffer c = omega (arith, back-long (c .before .before .loop .inv) (omega arith) (simp length-drop (omega arith)))
-
-add-buffer-2 : tie.Need-add-buffer-2 Inv-loop μ-loop
-add-buffer-2 c = omega arith
-
-slice-write-buffer : tie.Need-slice-write-buffer Inv-loop μ-loop
-slice-write-buffer c = omega (arith, back-long (c .before .before .loop .inv) (omega arith) (simp length-drop (omega arith)))
-
-loop-less : tie.Need-loop-less Inv-loop μ-loop
-loop-less c = omega arith
-
 loop-again : tie.Need-loop-again Inv-loop μ-loop
-loop-again c = back-next (c .before .before .loop .inv) (omega arith) (simp length-drop (omega arith)) (omega arith) refl (back-ahead (c .before .before .loop .inv) (omega arith) (simp length-drop (omega arith)) _ (omega arith) ∙ simp getD-drop)
-
-same-length : tie.Need-same-length Inv-loop μ-loop
-same-length c = back-long (c .before .loop .inv) (omega arith) (simp length-drop (omega arith))
-
-returns : tie.Need-returns Inv-loop μ-loop
-returns c = back-end (c .before .loop .inv) (omega arith) (simp length-drop (omega arith)) (omega arith)
+loop-again c =
+    let inv = c .before .before .loop .inv in
+    back-next inv (omega arith) refl (back-ahead inv _ (omega arith) ∙ simp getD-drop)
 
 pub raise-spec : {M : Type 1} → statement M
 raise-spec =
@@ -50,13 +25,13 @@ raise-spec =
     (tie.spec
     Inv-loop
     μ-loop
-    loop-holds
-    sub-i
-    add-buffer
-    slice-read-buffer
-    add-buffer-2
-    slice-write-buffer
-    loop-less
+    (λ c. back-start _ _ _ _ (omega arith) (simp length-drop (omega arith)))
+    (λ c. omega arith)
+    (λ c. omega arith)
+    (λ c. omega (arith, back-long (c .before .before .loop .inv)))
+    (λ c. omega arith)
+    (λ c. omega (arith, back-long (c .before .before .loop .inv)))
+    (λ c. omega arith)
     loop-again
-    same-length
-    returns)
+    (λ c. back-long (c .before .loop .inv))
+    (λ c. back-end (c .before .loop .inv) (omega arith)))

@@ -2,44 +2,51 @@
 -- Assumes nothing.
 use borrow.Author.Needs.{needs}
 use mathlib.Core.Path.{refl}
+use Prim.Native.Nat.{_+_, _-_, _≤_}
+use lib.ListN.{length}
 use native.Mathlib.Omega.{arith}
 use Rattle.edit.proofs.Splicing.{sheet-room, edit-made}
 use Rattle.edit.proofs.write.Statement.{statement}
 use Rattle.edit.proofs.write.Tie as tie
 
-add-later : tie.Need-add-later
-add-later c = search needs
+-- the buffer has room for the new sheet
+room : (s : tie.Start)
+    → let k = s .args .cut in
+    k .from + length (s .args .group .now) + (k .used - k .to) ≤ length (s .args .user .now)
+room s = sheet-room _ _ _ (s .pre .0) (s .pre .1)
 
-sub-rest : tie.Need-sub-rest
-sub-rest c = search needs
+-- the later part is moved, then the group is copied
+abbrev start : tie.After-shift → tie.Start
+start c = c .before .before .before .before .before .before
 
-shift-requires : tie.Need-shift-requires
-shift-requires c κs = omega (arith, sheet-room _ _ _ (c .before .before .before .before .before .pre .0) (c .before .before .before .before .before .pre .1))
+abbrev shifted : tie.After-copy → tie.After-shift
+shifted c = c .before .before .before .before
 
 copy-requires : tie.Need-copy-requires
-copy-requires c κs = omega (arith, sheet-room _ _ _ (c .before .before .before .before .before .before .before .before .before .pre .0) (c .before .before .before .before .before .before .before .before .before .pre .1), c .before .before .before .shift .kept .0)
-
-add-clear : tie.Need-add-clear
-add-clear c = search needs
+copy-requires c κs = let m = c .before .before .before in omega (arith, room (start m), m .shift .kept .0)
 
 clear-requires : tie.Need-clear-requires
-clear-requires c κs = omega (arith, sheet-room _ _ _ (c .before .before .before .before .before .before .before .before .before .before .before .before .before .pre .0) (c .before .before .before .before .before .before .before .before .before .before .before .before .before .pre .1), c .before .before .before .before .before .before .before .shift .kept .0, c .before .before .before .copy .kept .0)
-
-same-length : tie.Need-same-length
-same-length c = search needs
+clear-requires c κs =
+    let k = c .before .before .before in
+    let m = shifted k in
+    omega (arith, room (start m), m .shift .kept .0, k .copy .kept .0)
 
 returns : tie.Need-returns
-returns c = edit-made _ _ _ (c .before .before .before .before .before .before .before .before .before .before .before .before .before .before .before .before .pre .0) (c .before .before .before .before .before .before .before .before .before .before .before .before .before .before .before .before .pre .1) refl refl refl (c .before .before .before .before .before .before .before .before .before .before .shift .ensures) (c .before .before .before .before .before .before .copy .ensures) (c .before .before .clear .ensures)
+returns c =
+    let z = c .before .before in
+    let k = z .before .before .before .before in
+    let m = shifted k in
+    edit-made _ _ _ (start m .pre .0) (start m .pre .1) refl refl refl (m .shift .ensures) (k .copy .ensures) (z .clear .ensures)
 
 pub write-spec : {M : Type 1} → statement M
 write-spec =
     tie.close
     (tie.spec
-    add-later
-    sub-rest
-    shift-requires
+    (λ c. search needs)
+    (λ c. search needs)
+    (λ c κs. omega (arith, room (c .before .before .before .before .before)))
     copy-requires
-    add-clear
+    (λ c. search needs)
     clear-requires
-    same-length
+    (λ c. search needs)
     returns)

@@ -38,7 +38,10 @@ loop-less c = omega arith
 
 loop-again : tie.Need-loop-again Inv-loop μ-loop
 loop-again c =
-    ⊎-elim (λ w. count-yes (c .before .before .before .loop .inv) (omega arith) (rule-broken _ _ refl (w .0 .taken)) (w .1)) (λ w. count-no (c .before .before .before .loop .inv) (omega arith) (rule-clean _ _ refl (w .0 .left)) (w .1)) (c .if1 .came)
+    ⊎-elim
+    (λ w. count-yes (c .before .before .before .loop .inv) (omega arith) (rule-broken _ _ refl (w .0 .taken)) (w .1))
+    (λ w. count-no (c .before .before .before .loop .inv) (omega arith) (rule-clean _ _ refl (w .0 .left)) (w .1))
+    (c .if1 .came)
 
 returns : tie.Need-returns Inv-loop μ-loop
 returns c = faulted-is _ (count-end (c .before .loop .inv) (omega arith)) (c .before .before .lines-of .ensures)

@@ -9,10 +9,10 @@ use Rattle.flat.proofs.marked.Statement.{statement}
 use Rattle.flat.proofs.marked.Tie as tie
 
 abbrev Inv-loop : tie.InvT-loop
-Inv-loop marks n c₀ m₀ c m = CountAt (markedAt marks) n c m
+Inv-loop marks n i₀ m₀ i m = CountAt (markedAt marks) n i m
 
 abbrev μ-loop : tie.MeasureT-loop
-μ-loop marks n c₀ m₀ c m = n - c
+μ-loop marks n i₀ m₀ i m = n - i
 
 loop-holds : tie.Need-loop-holds Inv-loop μ-loop
 loop-holds c = count-start _ _
@@ -23,14 +23,18 @@ shared-slice-read-if1 c = omega (arith, c .before .before .before .pre)
 add-m : tie.Need-add-m Inv-loop μ-loop
 add-m c = omega (arith, c .before .before .before .loop .inv .few)
 
-add-c : tie.Need-add-c Inv-loop μ-loop
-add-c c = omega arith
+add-i : tie.Need-add-i Inv-loop μ-loop
+add-i c = omega arith
 
 loop-less : tie.Need-loop-less Inv-loop μ-loop
 loop-less c = omega arith
 
 loop-again : tie.Need-loop-again Inv-loop μ-loop
-loop-again c = ⊎-elim (λ w. count-yes (c .before .before .before .loop .inv) (omega arith) (eq-eqb _ _ (w .0 .taken)) (w .1)) (λ w. count-no (c .before .before .before .loop .inv) (omega arith) (ne-eqb _ _ (w .0 .left)) (w .1)) (c .if1 .came)
+loop-again c =
+    ⊎-elim
+    (λ w. count-yes (c .before .before .before .loop .inv) (omega arith) (eq-eqb _ _ (w .0 .taken)) (w .1))
+    (λ w. count-no (c .before .before .before .loop .inv) (omega arith) (ne-eqb _ _ (w .0 .left)) (w .1))
+    (c .if1 .came)
 
 returns : tie.Need-returns Inv-loop μ-loop
 returns c = marked-is _ _ (count-end (c .before .loop .inv) (omega arith))
@@ -44,7 +48,7 @@ marked-spec =
     loop-holds
     shared-slice-read-if1
     add-m
-    add-c
+    add-i
     loop-less
     loop-again
     returns)

@@ -1,56 +1,69 @@
--- `flat::rewrite`.
+-- In the loop the verdicts of the marked classes below c are written, and `kept` is right.
 -- Assumes nothing.
-use Prim.Native.Nat.{_+_, _-_}
-use mathlib.Core.Path.{sym, _∙_}
+use mathlib.Core.Path.{_≡_, sym, ap, _∙_, subst}
+use mathlib.Core.Logic.{⊎-elim}
+use Prim.Native.Nat.{ℕ, _+_, _-_}
 use native.Mathlib.Omega.{arith}
 use Rattle.spec.specs.Sheet.{group as groupOf}
-use Rattle.spec.specs.Rules.{verdictOf}
-use Rattle.view.specs.View.{spliced}
+use Rattle.spec.specs.Rules.{Verdict, verdictOf}
 use Rattle.groups.proofs.Few.{classes-ordered}
 use Rattle.rules.specs.Walk.{Kept}
-use Rattle.flat.proofs.Rewriting.{Rewriting, rewrite-start, rewrite-long, rewrite-next, rewrite-end, lines-same, class-is}
+use Rattle.rules.proofs.Keeping.{kept-none}
+use Rattle.flat.proofs.Rewriting.{Rewriting, rewrite-start, rewrite-long, rewrite-passed, rewrite-put, rewrite-end, lines-same}
 use Rattle.flat.proofs.rewrite.Statement.{statement}
 use Rattle.flat.proofs.rewrite.Tie as tie
 
 abbrev Inv-loop : tie.InvT-loop
-Inv-loop library user group cut starts nlib n markers row sets banned marks kept₀ verdicts₀ c₀ kept verdicts c =
-    Rewriting nlib n (λ i. verdictOf nlib (groupOf library (spliced user group cut)) (nlib + i)) marks verdicts₀ verdicts c × Kept nlib n (groupOf library (spliced user group cut)) kept
+Inv-loop library user starts classes facts lanes marks verdicts₀ nlib end kept₀ c₀ verdicts kept c =
+    Rewriting (classes .library) (classes .all) (λ i. verdictOf (classes .library) (groupOf library user) (classes .library + i)) marks verdicts₀ verdicts c
+    × Kept (classes .library) (classes .all) (groupOf library user) kept
 
 abbrev μ-loop : tie.MeasureT-loop
-μ-loop library user group cut starts nlib n markers row sets banned marks kept₀ verdicts₀ c₀ kept verdicts c = n - c
+μ-loop library user starts classes facts lanes marks verdicts₀ nlib end kept₀ c₀ verdicts kept c = classes .all - c
+
+abbrev start : (c : tie.At-loop Inv-loop μ-loop) → tie.Start Inv-loop μ-loop
+start c = c .before .before .before .before .before .before .before .before
 
 loop-holds : tie.Need-loop-holds Inv-loop μ-loop
-loop-holds c = let p = c .before .before .before .before .before .before .before .before .before .before .before .pre in (rewrite-start _ _ _ _ _ (omega (arith, classes-ordered (p .1 .0))), p .1 .1 .1 .1 .1 .1 .1 .0)
+loop-holds c =
+    let x = c .before .before .before .before .before .before .before .pre .0 .indexed in
+    (rewrite-start _ _ _ _ _ (classes-ordered x), kept-none (x .few))
 
-rewrite-class-requires : tie.Need-rewrite-class-requires Inv-loop μ-loop
-rewrite-class-requires c κs =
-    let p = c .before .before .before .before .before .before .before .before .before .before .before .before .before .before .before .pre in
-    let f = c .before .before .before .loop .inv in
-    (p .0, (p .1 .0, (p .1 .1 .0, (p .1 .1 .1 .0, (p .1 .1 .1 .1 .0, (p .1 .1 .1 .1 .1 .0, ((p .1 .1 .1 .1 .1 .1 .0 .0, lines-same (f .0) (p .1 .1 .1 .1 .1 .1 .0 .1)), ((f .0 .low, omega arith), (f .1, p .1 .1 .1 .1 .1 .1 .1 .1)))))))))
+shared-slice-read-if1 : tie.Need-shared-slice-read-if1 Inv-loop μ-loop
+shared-slice-read-if1 c = let p = start (c .before .before) .pre in omega (arith, p .0 .indexed .few, p .1 .1 .0, c .before .loop-test .taken)
 
-add-c : tie.Need-add-c Inv-loop μ-loop
-add-c c = omega arith
+judged-requires : tie.Need-judged-requires Inv-loop μ-loop
+judged-requires c κs =
+    let p = start (c .before .before .before .before) .pre in
+    let inv = c .before .before .before .before .loop .inv in
+    (p .0, (p .1 .0, ((inv .0 .low, c .before .before .before .loop-test .taken), inv .1)))
 
-loop-less : tie.Need-loop-less Inv-loop μ-loop
-loop-less c = omega arith
+put-requires : tie.Need-put-requires Inv-loop μ-loop
+put-requires c κs =
+    let l = c .before .before .before .before .before .before .before in
+    let inv = l .loop .inv .0 in
+    omega (arith, lines-same inv ((start l) .pre .1 .1 .1), inv .low, c .before .before .before .before .before .before .loop-test .taken)
 
 loop-again : tie.Need-loop-again Inv-loop μ-loop
 loop-again c =
-    let s = c .before .before .before .before .before .before .before .before .before .before .before .before .before .before .before .before .before .before .before .before in
-    let a = s .args in
-    let f = c .before .before .before .before .before .before .before .before .loop .inv in
-    let g = groupOf (a .library .now) (spliced (a .user .now) (a .group .now) (a .cut)) in
-    let done = c .before .before .before .before .rewrite-class .ensures in
-    (rewrite-next (f .0) (omega arith) (s .pre .1 .1 .1 .1 .1 .1 .0 .1) (done .0 ∙ class-is (f .0) (verdictOf (a .nlib) g)), done .1)
+    let s = start (c .before .before .before) in
+    let inv = c .before .before .before .loop .inv in
+    let low = c .before .before .loop-test .taken in
+    let own : c .before .before .before .loop .c ≡ s .args .classes .library + (c .before .before .before .loop .c - s .args .classes .library) = omega (arith, inv .0 .low) in
+    let v : ℕ → Verdict = verdictOf (s .args .classes .library) (groupOf (s .args .library .now) (s .args .user .now)) in
+    ⊎-elim
+    (λ w. (rewrite-put (inv .0) low (w .0 .taken) (s .pre .1 .1 .1) (w .2 .ensures .0 ∙ ap v own) (w .8 ∙ w .5 .ensures), subst (Kept _ _ _) (sym (w .9)) (w .2 .ensures .1)))
+    (λ w. (rewrite-passed (inv .0) low (w .0 .left) (w .1), subst (Kept _ _ _) (sym (w .2)) (inv .1)))
+    (c .if1 .came)
+
+slice-aggregate-judged : tie.Need-slice-aggregate-judged Inv-loop μ-loop
+slice-aggregate-judged c = sym (c .before .before .before .before .loop .inv .1 .long)
 
 same-length : tie.Need-same-length Inv-loop μ-loop
-same-length c = c .before .loop .inv .1 .long ∙ sym (c .before .before .before .before .before .before .before .before .before .before .before .before .before .pre .1 .1 .1 .1 .1 .1 .1 .0 .long)
-
-same-length-2 : tie.Need-same-length-2 Inv-loop μ-loop
-same-length-2 c = rewrite-long (c .before .loop .inv .0)
+same-length c = rewrite-long (c .before .loop .inv .0)
 
 returns : tie.Need-returns Inv-loop μ-loop
-returns c = (rewrite-end (c .before .loop .inv .0) (omega arith), c .before .loop .inv .1)
+returns c = rewrite-end (c .before .loop .inv .0) (c .loop-test .left)
 
 pub rewrite-spec : {M : Type 1} → statement M
 rewrite-spec =
@@ -59,10 +72,13 @@ rewrite-spec =
     Inv-loop
     μ-loop
     loop-holds
-    rewrite-class-requires
-    add-c
-    loop-less
+    shared-slice-read-if1
+    slice-aggregate-judged
+    judged-requires
+    (λ c. omega arith)
+    put-requires
+    (λ c. omega arith)
+    (λ c. omega arith)
     loop-again
     same-length
-    same-length-2
     returns)

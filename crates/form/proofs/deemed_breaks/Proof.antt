@@ -5,9 +5,6 @@ use Rattle.form.proofs.Deeming.{breaks-clash, breaks-zero, breaks-other
 use Rattle.form.proofs.deemed_breaks.Statement.{statement}
 use Rattle.form.proofs.deemed_breaks.Tie as tie
 
-clash-requires : tie.Need-clash-requires
-clash-requires c κs = search needs
-
 returns : tie.Need-returns
 returns c = breaks-clash _ _ (c .before .clash .ensures) (c .if1 .taken)
 
@@ -18,4 +15,4 @@ returns-3 : tie.Need-returns-3
 returns-3 c = breaks-other _ _ (c .before .before .clash .ensures) (c .before .if1 .left) (c .if2 .left)
 
 pub deemed-breaks-spec : {M : Type 1} → statement M
-deemed-breaks-spec = tie.close (tie.spec clash-requires returns returns-2 returns-3)
+deemed-breaks-spec = tie.close (tie.spec (λ c κs. search needs) returns returns-2 returns-3)

@@ -1,8 +1,8 @@
 -- The lengths first, then the sheets.
 -- Assumes nothing.
-use borrow.Author.Needs.{needs}
-use native.Mathlib.Omega.{arith}
 use mathlib.Core.Path.{ap}
+use native.Mathlib.Omega.{arith}
+use borrow.Author.Needs.{needs}
 use lib.ListN.{length, length-take}
 use Rattle.view.proofs.Splice.{plain, plain-fits}
 use Rattle.form.proofs.Accepting.{library-long, used-long, used-past, present-is}
@@ -18,27 +18,12 @@ returns-2 c = used-long _ _ _ (omega arith) (c .before .before .before .before .
 returns-3 : tie.Need-returns-3
 returns-3 c = used-past _ _ _ (omega arith) (omega arith) (c .before .before .before .before .before .before .before .pre) (omega arith)
 
-sub-check : tie.Need-sub-check
-sub-check c = search needs
-
-part-check-start : tie.Need-part-check-start
-part-check-start c = search needs
-
-part-check-end : tie.Need-part-check-end
-part-check-end c = search needs
-
 check-requires : tie.Need-check-requires
 check-requires c κs =
     let s = c .before .before .before .before .before .before .before .before .before .before in
     let u = s .args .user .now in
     let k = s .args .used in
     (plain-fits _ _ (omega arith), ((omega arith, omega (arith, ap length (plain u k), length-take k u)), s .pre))
-
-same-length : tie.Need-same-length
-same-length c = search needs
-
-same-length-2 : tie.Need-same-length-2
-same-length-2 c = search needs
 
 returns-4 : tie.Need-returns-4
 returns-4 c =
@@ -53,10 +38,10 @@ present-spec =
     returns
     returns-2
     returns-3
-    sub-check
-    part-check-start
-    part-check-end
+    (λ c. search needs)
+    (λ c. search needs)
+    (λ c. search needs)
     check-requires
-    same-length
-    same-length-2
+    (λ c. search needs)
+    (λ c. search needs)
     returns-4)

@@ -1,89 +1,59 @@
--- The bytes from the group's start to its end, in the library, before the cut, in the group or after the cut.
+-- The bytes from the group's start to its end, in the library or in the user sheet.
 -- Assumes nothing.
-use mathlib.Core.Path.{refl}
+use mathlib.Core.Path.{_≡_, refl, _∙_}
 use native.Mathlib.Omega.{arith}
 use borrow.Author.Needs.{needs}
-use Rattle.groups.proofs.Bytes.{some, library-within, library-bytes, head-end, head-bytes, group-bytes, tail-within, tail-bytes, carries}
+use Prim.Native.Nat.{_<_}
+use Rattle.groups.specs.Groups.{startOf, endOf}
+use Rattle.groups.proofs.Bytes.{some, library-within, library-bytes, user-within, user-bytes, carries}
 use Rattle.groups.proofs.class_bytes.Statement.{statement}
 use Rattle.groups.proofs.class_bytes.Tie as tie
 
-group-start-requires : tie.Need-group-start-requires
-group-start-requires c κs = search needs
+-- ---- start and end, once both are known
 
-group-end-requires : tie.Need-group-end-requires
-group-end-requires c κs = search needs
+abbrev at : tie.After-group-end → tie.Start
+at c = c .before .before .before .before .before .before
 
-sub-result : tie.Need-sub-result
-sub-result c = omega (arith, some (c .before .before .before .before .before .before .before .pre .0) (c .before .before .before .before .before .before .before .pre .1 .0) (c .before .before .before .before .before .before .before .pre .1 .1) (c .before .before .group-start .ensures) (c .before .group-end .ensures))
+start-is : (c : tie.After-group-end) → c .before .wide .result ≡ startOf (at c .args .library .now) (at c .args .user .now) (at c .args .c)
+start-is c = c .before .wide .ensures .0 ∙ at c .pre .0 .starts _ (at c .pre .1)
 
-part-result-start : tie.Need-part-result-start
-part-result-start c = omega (arith, some (c .before .before .before .before .before .before .before .pre .0) (c .before .before .before .before .before .before .before .pre .1 .0) (c .before .before .before .before .before .before .before .pre .1 .1) (c .before .before .group-start .ensures) (c .before .group-end .ensures))
+end-is : (c : tie.After-group-end) → c .group-end .result ≡ endOf (at c .args .library .now) (at c .args .user .now) (at c .args .c)
+end-is c = c .group-end .ensures .is _ _ (at c .pre .0) refl refl
+
+ordered : (c : tie.After-group-end) → c .before .wide .result < c .group-end .result
+ordered c = some (at c .pre .0) (at c .pre .1) (start-is c) (end-is c)
+
+-- ---- in either sheet
 
 part-result-end : tie.Need-part-result-end
-part-result-end c = library-within (c .before .before .before .before .before .before .before .pre .0) (c .before .before .before .before .before .before .before .pre .1 .0) (c .before .before .before .before .before .before .before .pre .1 .1) (c .before .before .group-start .ensures) (c .before .group-end .ensures) (omega arith)
+part-result-end c = let s = c .before .before in library-within (at s .pre .0) (at s .pre .1) (start-is s) (end-is s) (omega arith)
 
 returns : tie.Need-returns
-returns c = carries (c .before .before .before .before .before .before .before .before .pre .1 .0) (c .before .before .before .before .before .before .before .before .pre .1 .1) (library-bytes (c .before .before .before .before .before .before .before .before .pre .0) (c .before .before .before .before .before .before .before .before .pre .1 .0) (c .before .before .before .before .before .before .before .before .pre .1 .1) (c .before .before .before .group-start .ensures) (c .before .before .group-end .ensures) (omega arith))
-
-sub-result-2 : tie.Need-sub-result-2
-sub-result-2 c = omega (arith, some (c .before .before .before .before .before .before .before .before .pre .0) (c .before .before .before .before .before .before .before .before .pre .1 .0) (c .before .before .before .before .before .before .before .before .pre .1 .1) (c .before .before .before .group-start .ensures) (c .before .before .group-end .ensures))
-
-part-result-start-2 : tie.Need-part-result-start-2
-part-result-start-2 c = omega (arith, some (c .before .before .before .before .before .before .before .before .pre .0) (c .before .before .before .before .before .before .before .before .pre .1 .0) (c .before .before .before .before .before .before .before .before .pre .1 .1) (c .before .before .before .group-start .ensures) (c .before .before .group-end .ensures))
+returns c =
+    let s = c .before .before .before in
+    carries (at s .pre .0) (at s .pre .1) (library-bytes (at s .pre .0) (at s .pre .1) (start-is s) (end-is s) (omega arith))
 
 part-result-end-2 : tie.Need-part-result-end-2
-part-result-end-2 c = omega (arith, head-end (c .before .before .before .before .before .before .before .before .pre .0) (c .before .before .before .before .before .before .before .before .pre .1 .0) (c .before .before .before .before .before .before .before .before .pre .1 .1) (c .before .before .before .group-start .ensures) (c .before .before .group-end .ensures) (omega arith) (omega arith))
+part-result-end-2 c = let s = c .before .before in user-within (at s .pre .0) (at s .pre .1) (start-is s) (end-is s) (omega arith)
 
 returns-2 : tie.Need-returns-2
-returns-2 c = carries (c .before .before .before .before .before .before .before .before .before .pre .1 .0) (c .before .before .before .before .before .before .before .before .before .pre .1 .1) (head-bytes (c .before .before .before .before .before .before .before .before .before .pre .0) (c .before .before .before .before .before .before .before .before .before .pre .1 .0) (c .before .before .before .before .before .before .before .before .before .pre .1 .1) (c .before .before .before .before .group-start .ensures) (c .before .before .before .group-end .ensures) (omega arith) (omega arith))
-
-returns-3 : tie.Need-returns-3
-returns-3 c = carries (c .before .before .before .before .before .before .before .before .before .pre .1 .0) (c .before .before .before .before .before .before .before .before .before .pre .1 .1) (group-bytes (c .before .before .before .before .before .before .before .before .before .pre .0) (c .before .before .before .before .before .before .before .before .before .pre .1 .0) (c .before .before .before .before .before .before .before .before .before .pre .1 .1) (c .before .before .before .before .group-start .ensures) (c .before .before .before .group-end .ensures) (omega arith) (omega arith) (omega arith))
-
-sub-at : tie.Need-sub-at
-sub-at c = search needs
-
-add-at : tie.Need-add-at
-add-at c = omega (arith, tail-within (c .before .before .before .before .before .before .before .before .before .pre .0) (c .before .before .before .before .before .before .before .before .before .pre .1 .0) (c .before .before .before .before .before .before .before .before .before .pre .1 .1) (c .before .before .before .before .group-start .ensures) (c .before .before .before .group-end .ensures) (omega arith) (omega arith) (omega arith) refl refl)
-
-sub-after : tie.Need-sub-after
-sub-after c = omega (arith, some (c .before .before .before .before .before .before .before .before .before .pre .0) (c .before .before .before .before .before .before .before .before .before .pre .1 .0) (c .before .before .before .before .before .before .before .before .before .pre .1 .1) (c .before .before .before .before .group-start .ensures) (c .before .before .before .group-end .ensures))
-
-add-after : tie.Need-add-after
-add-after c = omega (arith, tail-within (c .before .before .before .before .before .before .before .before .before .pre .0) (c .before .before .before .before .before .before .before .before .before .pre .1 .0) (c .before .before .before .before .before .before .before .before .before .pre .1 .1) (c .before .before .before .before .group-start .ensures) (c .before .before .before .group-end .ensures) (omega arith) (omega arith) (omega arith) refl refl)
-
-sub-result-3 : tie.Need-sub-result-3
-sub-result-3 c = search needs
-
-part-result-start-3 : tie.Need-part-result-start-3
-part-result-start-3 c = search needs
-
-part-result-end-3 : tie.Need-part-result-end-3
-part-result-end-3 c = omega (arith, tail-within (c .before .before .before .before .before .before .before .before .before .pre .0) (c .before .before .before .before .before .before .before .before .before .pre .1 .0) (c .before .before .before .before .before .before .before .before .before .pre .1 .1) (c .before .before .before .before .group-start .ensures) (c .before .before .before .group-end .ensures) (omega arith) (omega arith) (omega arith) refl refl)
-
-returns-4 : tie.Need-returns-4
-returns-4 c = carries (c .before .before .before .before .before .before .before .before .before .before .pre .1 .0) (c .before .before .before .before .before .before .before .before .before .before .pre .1 .1) (tail-bytes (c .before .before .before .before .before .before .before .before .before .before .pre .0) (c .before .before .before .before .before .before .before .before .before .before .pre .1 .0) (c .before .before .before .before .before .before .before .before .before .before .pre .1 .1) (c .before .before .before .before .before .group-start .ensures) (c .before .before .before .before .group-end .ensures) (omega arith) (omega arith) (omega arith) refl refl)
+returns-2 c =
+    let s = c .before .before .before in
+    carries (at s .pre .0) (at s .pre .1) (user-bytes (at s .pre .0) (at s .pre .1) (start-is s) (end-is s) (omega arith))
 
 pub class-bytes-spec : {M : Type 1} → statement M
 class-bytes-spec =
     tie.close
     (tie.spec
-    group-start-requires
-    group-end-requires
-    sub-result
-    part-result-start
+    (λ c. search needs)
+    (λ c. search needs)
+    (λ c κs. search needs)
+    (λ c κs. search needs)
+    (λ c. omega (arith, ordered (c .before .before)))
+    (λ c. omega (arith, ordered (c .before .before)))
     part-result-end
     returns
-    sub-result-2
-    part-result-start-2
+    (λ c. omega (arith, ordered (c .before .before)))
+    (λ c. omega (arith, ordered (c .before .before)))
     part-result-end-2
-    returns-2
-    returns-3
-    sub-at
-    add-at
-    sub-after
-    add-after
-    sub-result-3
-    part-result-start-3
-    part-result-end-3
-    returns-4)
+    returns-2)

@@ -3,23 +3,18 @@
 use mathlib.Core.Path.{_∙_}
 use native.Mathlib.Omega.{arith}
 use borrow.Author.Needs.{needs}
-use Rattle.groups.proofs.Classes.{class-long}
-use Rattle.groups.proofs.Bytes.{class-within, class-word-in}
+use Rattle.records.proofs.Carried.{class-within, class-word-in}
+use Rattle.groups.proofs.Held.{class-long}
 use Rattle.groups.proofs.class_word.Statement.{statement}
 use Rattle.groups.proofs.class_word.Tie as tie
 
-class-bytes-requires : tie.Need-class-bytes-requires
-class-bytes-requires c κs = search needs
-
 word-in-requires : tie.Need-word-in-requires
-word-in-requires c κs =
-    let p = c .before .before .before .before .before .pre .1 in
-    omega (arith, class-within (c .class-bytes .ensures) (class-long (p .0) (p .1 .0)))
+word-in-requires c κs = let p = c .before .before .before .before .pre in omega (arith, class-within (c .class-bytes .ensures) (class-long (p .0) (p .1 .0)))
 
 returns : tie.Need-returns
 returns c =
-    let p = c .before .before .before .before .before .before .pre .1 in
+    let p = c .before .before .before .before .before .pre in
     c .word-in .ensures ∙ class-word-in (c .before .class-bytes .ensures) (class-long (p .0) (p .1 .0)) _ (p .1 .1)
 
 pub class-word-spec : {M : Type 1} → statement M
-class-word-spec = tie.close (tie.spec class-bytes-requires word-in-requires returns)
+class-word-spec = tie.close (tie.spec (λ c κs. search needs) word-in-requires returns)

@@ -1,7 +1,7 @@
 -- Classes below the number of library classes stand in the library.
 -- Assumes nothing.
 use mathlib.Core.Path.{sym}
-use Rattle.groups.proofs.Classes.{library-number, user-number}
+use Rattle.groups.proofs.Held.{library-number, user-number}
 use Rattle.groups.proofs.sheet_of.Statement.{statement}
 use Rattle.groups.proofs.sheet_of.Tie as tie
 

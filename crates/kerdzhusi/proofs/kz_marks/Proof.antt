@@ -9,21 +9,9 @@ use borrow.Author.Needs.{needs}
 use Rattle.kerdzhusi.proofs.kz_marks.Statement.{statement}
 use Rattle.kerdzhusi.proofs.kz_marks.Tie as tie
 
-marks-requires : tie.Need-marks-requires
-marks-requires c κs = search needs
-
-enum-known-answer : tie.Need-enum-known-answer
-enum-known-answer c = search needs
-
 refusal-requires : tie.Need-refusal-requires
 refusal-requires c κs =
     query-low _ _ _ _ _ (c .before .before .before .marks .ensures .answered) (ap markedAnswer (c .before .answer .given .1))
-
-enum-known-answer-2 : tie.Need-enum-known-answer-2
-enum-known-answer-2 c = search needs
-
-cast-t11 : tie.Need-cast-t11
-cast-t11 c = search needs
 
 returns : tie.Need-returns
 returns c =
@@ -38,10 +26,10 @@ pub kz-marks-spec : {M : Type 1} → statement M
 kz-marks-spec =
     tie.close
     (tie.spec
-    marks-requires
-    enum-known-answer
+    (λ c κs. search needs)
+    (λ c. search needs)
     refusal-requires
-    enum-known-answer-2
-    cast-t11
+    (λ c. search needs)
+    (λ c. search needs)
     returns
     returns-2)

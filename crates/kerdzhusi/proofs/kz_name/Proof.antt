@@ -16,37 +16,26 @@ use Rattle.kerdzhusi.proofs.kz_name.Lts as lts
 use Rattle.kerdzhusi.proofs.refusal.Reads as refusal-reads
 use Rattle.queries.proofs.name_place.Reads as name-place-reads
 
-name-place-requires : tie.Need-name-place-requires
-name-place-requires c κs = search needs
-
-enum-known-answer : tie.Need-enum-known-answer
-enum-known-answer c = search needs
-
 refusal-requires : tie.Need-refusal-requires
 refusal-requires c κs =
     query-low _ _ _ _ _ (c .before .before .before .name-place .ensures .answered) (ap placedAnswer (c .before .answer .given .1))
 
-enum-known-answer-2 : tie.Need-enum-known-answer-2
-enum-known-answer-2 c = search needs
-
-cast-t13 : tie.Need-cast-t13
-cast-t13 c = search needs
-
 -- the accepted answer is small
-low : (c : lts.After-known-told2 (name-place-reads.Asked, name-place-reads.Learnt, refusal-reads.Asked, refusal-reads.Learnt) reads.Pre reads.Post) → c .before .answer2 .given .0 .1 .0 + c .before .answer2 .given .0 .1 .1 .0 ≤ 32768
+low : (c : lts.After-known-told2 (name-place-reads.Asked, name-place-reads.Learnt, refusal-reads.Asked, refusal-reads.Learnt) reads.Pre reads.Post)
+    → c .before .answer2 .given .0 .1 .0 + c .before .answer2 .given .0 .1 .1 .0 ≤ 32768
 low c = small _ _ _ _ (c .before .before .before .name-place .ensures) (c .before .answer2 .given .1)
 
-mul-t15 : tie.Need-mul-t15
-mul-t15 c = omega (arith, low c)
+mul-t13 : tie.Need-mul-t13
+mul-t13 c = omega (arith, low c)
 
-add-t16 : tie.Need-add-t16
-add-t16 c = omega (arith, low c)
+add-t14 : tie.Need-add-t14
+add-t14 c = omega (arith, low c)
 
-mul-t18 : tie.Need-mul-t18
-mul-t18 c = omega (arith, low c)
+mul-t16 : tie.Need-mul-t16
+mul-t16 c = omega (arith, low c)
 
-add-t19 : tie.Need-add-t19
-add-t19 c = omega (arith, low c)
+add-t17 : tie.Need-add-t17
+add-t17 c = omega (arith, low c)
 
 returns : tie.Need-returns
 returns c =
@@ -61,14 +50,14 @@ pub kz-name-spec : {M : Type 1} → statement M
 kz-name-spec =
     tie.close
     (tie.spec
-    name-place-requires
-    enum-known-answer
+    (λ c κs. search needs)
+    (λ c. search needs)
     refusal-requires
-    enum-known-answer-2
-    cast-t13
-    mul-t15
-    add-t16
-    mul-t18
-    add-t19
+    (λ c. search needs)
+    (λ c. search needs)
+    mul-t13
+    add-t14
+    mul-t16
+    add-t17
     returns
     returns-2)

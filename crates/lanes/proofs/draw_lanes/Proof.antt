@@ -19,18 +19,6 @@ returns c = draw-past _ _ _ _ _ _ (c .if1 .taken)
 loop-holds : tie.Need-loop-holds Inv-loop μ-loop
 loop-holds c = draw-start _ _ _ _ _
 
-draw-requires : tie.Need-draw-requires Inv-loop μ-loop
-draw-requires c κs = omega arith
-
-either-requires : tie.Need-either-requires Inv-loop μ-loop
-either-requires c κs = search needs
-
-add-k : tie.Need-add-k Inv-loop μ-loop
-add-k c = omega arith
-
-loop-less : tie.Need-loop-less Inv-loop μ-loop
-loop-less c = omega arith
-
 loop-again : tie.Need-loop-again Inv-loop μ-loop
 loop-again c =
     let drawn = c .before .before .before in
@@ -51,10 +39,10 @@ draw-lanes-spec =
     μ-loop
     returns
     loop-holds
-    draw-requires
-    either-requires
-    add-k
-    loop-less
+    (λ c κs. omega arith)
+    (λ c κs. search needs)
+    (λ c. omega arith)
+    (λ c. omega arith)
     loop-again
     same-length
     returns-2)

@@ -7,12 +7,6 @@ use borrow.Author.Needs.{needs}
 use Rattle.lanes.proofs.entry.Statement.{statement}
 use Rattle.lanes.proofs.entry.Tie as tie
 
-shared-slice-read-wide : tie.Need-shared-slice-read-wide
-shared-slice-read-wide c = search needs
-
-wide-requires : tie.Need-wide-requires
-wide-requires c κs = search needs
-
 returns : tie.Need-returns
 returns c =
     let a = c .before .before .before .before .args in
@@ -22,4 +16,10 @@ returns-2 : tie.Need-returns-2
 returns-2 c = (sym (List·getD-eq-default (c .before .before .args .row .now) 255 (c .if1 .left)), search needs)
 
 pub entry-spec : {M : Type 1} → statement M
-entry-spec = tie.close (tie.spec shared-slice-read-wide wide-requires returns returns-2)
+entry-spec =
+    tie.close
+    (tie.spec
+    (λ c. search needs)
+    (λ c κs. search needs)
+    returns
+    returns-2)

@@ -10,12 +10,14 @@ returns : tie.Need-returns
 unfolding fitsRow
 returns c = rw (eq-eqb (c .before .args .y) 0 (c .if1 .taken))
 
-shared-slice-read-result : tie.Need-shared-slice-read-result
-shared-slice-read-result c = search needs
-
 returns-2 : tie.Need-returns-2
 unfolding fitsRow
 returns-2 c = rw (ne-eqb (c .before .before .args .y) 0 (c .before .if1 .left))
 
 pub fits-spec : {M : Type 1} → statement M
-fits-spec = tie.close (tie.spec returns shared-slice-read-result returns-2)
+fits-spec =
+    tie.close
+    (tie.spec
+    returns
+    (λ c. search needs)
+    returns-2)

@@ -5,12 +5,6 @@ use borrow.Author.Needs.{needs}
 use Rattle.lanes.proofs.place.Statement.{statement}
 use Rattle.lanes.proofs.place.Tie as tie
 
-sub-result : tie.Need-sub-result
-sub-result c = search needs
-
-sub-result-2 : tie.Need-sub-result-2
-sub-result-2 c = search needs
-
 returns : tie.Need-returns
 unfolding placeOf
 returns c = (rw (c .if1 .taken), search needs)
@@ -20,4 +14,10 @@ unfolding placeOf
 returns-2 c = (rw (c .if1 .left), search needs)
 
 pub place-spec : {M : Type 1} → statement M
-place-spec = tie.close (tie.spec sub-result sub-result-2 returns returns-2)
+place-spec =
+    tie.close
+    (tie.spec
+    (λ c. search needs)
+    (λ c. search needs)
+    returns
+    returns-2)

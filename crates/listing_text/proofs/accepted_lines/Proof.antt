@@ -1,56 +1,62 @@
 -- `listing_text::accepted_lines`: what `present` tells of accepted sheets.
 -- Assumes nothing.
-use mathlib.Core.Path.{refl, sym, _∙_}
+use mathlib.Core.Path.{sym, _∙_}
 use Rattle.theory.proofs.Answers.{some≢none}
-use Rattle.queries.proofs.Asking.{used-there, present-refused, indexed}
+use Rattle.queries.proofs.Asking.{used-there, used-part, present-refused, indexed}
 use borrow.Author.Needs.{needs}
 use Rattle.listing_text.proofs.accepted_lines.Statement.{statement}
 use Rattle.listing_text.proofs.accepted_lines.Tie as tie
 
-slice-aggregate-present : tie.Need-slice-aggregate-present
-slice-aggregate-present c = search needs
+-- ---- places: the start, the check of the sheets, and what it found
 
-slice-aggregate-present-2 : tie.Need-slice-aggregate-present-2
-slice-aggregate-present-2 c = search needs
+abbrev start : tie.After-present → tie.Start
+start c = c .before .before .before .before .before .before .before
 
-present-requires : tie.Need-present-requires
-present-requires c κs = search needs
+abbrev present : tie.After-known-told → tie.After-present
+present c = c .before .before .before .before .before
 
-enum-known-checked : tie.Need-enum-known-checked
-enum-known-checked c = search needs
+abbrev found : tie.After-class-lines-arg → tie.After-known-told
+found c = c .before .before .before
 
-enum-told : tie.Need-enum-told
-enum-told c = search needs
+-- ---- the needs
 
 returns : tie.Need-returns
-returns c = let a = c .before .before .before .before .before .before .before .before .before .before .before .args in absurd (some≢none _ (sym (present-refused (a .library .now) (a .user .now) (a .used) (c .before .before .before .before .present .ensures) (c .enum-told .given .1)) ∙ c .before .before .before .before .before .before .before .before .before .before .before .pre .0))
+returns c =
+    let p = c .before .before .before .before in
+    let a = start p .args in
+    absurd (some≢none _ (sym (present-refused (a .library .now) (a .user .now) (a .used) (p .present .ensures) (c .enum-told .given .1)) ∙ start p .pre .0))
 
-slice-aggregate-class-lines : tie.Need-slice-aggregate-class-lines
-slice-aggregate-class-lines c = search needs
+part-sheet-end : tie.Need-part-sheet-end
+part-sheet-end c = let s = start (present c) in used-there (s .args .library .now) (s .args .user .now) (s .args .used) (s .pre .0)
 
 class-lines-requires : tie.Need-class-lines-requires
 class-lines-requires c κs =
-    let a = c .before .before .before .before .before .before .before .before .before .before .before .before .before .before .args in
-    let p = c .before .before .before .before .before .before .before .before .before .before .before .before .before .before .pre in
-    (used-there (a .library .now) (a .user .now) (a .used) (p .0), (indexed (a .library .now) (a .user .now) (a .used) (c .before .before .before .before .before .before .before .present .ensures) (c .before .before .before .checked .given .1) refl, (p .1 .0, p .1 .1)))
-
-same-length : tie.Need-same-length
-same-length c = search needs
+    let k = found c in
+    let s = start (present k) in
+    let a = s .args in
+    let q = used-part (a .user .now) (a .used) in
+    (indexed (a .library .now) (a .user .now) (a .used) (present k .present .ensures) (k .before .checked .given .1) q, (rw q (s .pre .1 .0), s .pre .1 .1))
 
 returns-2 : tie.Need-returns-2
-returns-2 c = search needs
+returns-2 c =
+    let l = c .before .before in
+    let a = start (present (found (l .before))) .args in
+    rw (← (used-part (a .user .now) (a .used))) (l .class-lines .ensures)
 
 pub accepted-lines-spec : {M : Type 1} → statement M
 accepted-lines-spec =
     tie.close
     (tie.spec
-    slice-aggregate-present
-    slice-aggregate-present-2
-    present-requires
-    enum-known-checked
-    enum-told
+    (λ c. search needs)
+    (λ c. search needs)
+    (λ c κs. search needs)
+    (λ c. search needs)
+    (λ c. search needs)
     returns
-    slice-aggregate-class-lines
+    (λ c. search needs)
+    (λ c. search needs)
+    part-sheet-end
+    (λ c. search needs)
     class-lines-requires
-    same-length
+    (λ c. search needs)
     returns-2)

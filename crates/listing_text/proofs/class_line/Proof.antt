@@ -1,159 +1,122 @@
 -- `listing_text::class_line`: what is read of the class, and its texts one after another.
 -- Assumes nothing.
 use mathlib.Core.Path.{_∙_}
-use Prim.Native.Nat.{_+_}
+use Prim.Native.Nat.{_+_, _*_, _≤_, _<_}
 use native.Mathlib.Omega.{arith}
-use Rattle.view.proofs.Splice.{plain, plain-fits}
+use lib.ListN.{length}
 use Rattle.text.proofs.Digits.{decimal-length}
 use Rattle.listing_text.proofs.Texts.{one-byte, a-number, a-part, same-text, then}
-use Rattle.listing_text.proofs.NameBytes.{name-at}
+use Rattle.listing_text.proofs.NameBytes.{NameAt, name-at}
 use Rattle.listing_text.proofs.ClassText.{line-is, row-room}
 use borrow.Author.Needs.{needs}
 use Rattle.listing_text.proofs.class_line.Statement.{statement}
 use Rattle.listing_text.proofs.class_line.Tie as tie
 
-sub-none : tie.Need-sub-none
-sub-none c = search needs
+-- ---- places: the start, what is read, and from each text to the one before it
 
-part-none-start : tie.Need-part-none-start
-part-none-start c = search needs
+abbrev start : tie.After-struct-known → tie.Start
+start c = c .before .before .before .before .before .before
 
-part-none-end : tie.Need-part-none-end
-part-none-end c = search needs
+abbrev entry : tie.After-wide2 → tie.Start
+entry c = start (c .before .before .before .before)
 
-add-class : tie.Need-add-class
-add-class c = search needs
+abbrev sized : tie.After-put-number → tie.After-wide2
+sized c = c .before .before .before .before .before .before
 
-group-start-requires : tie.Need-group-start-requires
-group-start-requires c κs =
-    let a = c .before .before .before .before .before .before .args in
-    let p = c .before .before .before .before .before .before .pre in
-    (plain-fits _ _ (p .0), (rw (plain (a .user .now) (a .used)) (p .1 .0), p .1 .1 .1 .0))
+abbrev numbered : tie.After-put → tie.After-put-number
+numbered c = c .before .before .before .before
 
-class-word-requires : tie.Need-class-word-requires
-class-word-requires c κs =
-    let a = c .before .before .before .before .before .before .before .args in
-    let p = c .before .before .before .before .before .before .before .pre in
-    (plain-fits _ _ (p .0), (rw (plain (a .user .now) (a .used)) (p .1 .0), (p .1 .1 .1 .0, omega arith)))
+abbrev spaced : tie.After-put-part → tie.After-put
+spaced c = c .before .before .before .before
 
-wide-word-requires : tie.Need-wide-word-requires
-wide-word-requires c κs = search needs
+abbrev named : tie.After-put2 → tie.After-put-part
+named c = c .before .before .before .before
 
-add-end : tie.Need-add-end
-add-end c =
-    let a = c .before .before .before .before .before .before .before .before .before .args in
-    let p = c .before .before .before .before .before .before .before .before .before .pre in
-    let q = name-at (a .user .now) (a .used) (p .1 .0) {c = a .nlib + a .i} (omega arith) (p .1 .1 .1 .0) (p .0) (c .before .before .group-start .ensures) (c .wide-word .ensures ∙ c .before .class-word .ensures) in
-    omega (arith, q .low)
+abbrev parted : tie.After-put-verdict → tie.After-put2
+parted c = c .before .before .before .before
 
-mul-wide : tie.Need-mul-wide
-mul-wide c =
-    let a = c .before .before .before .before .before .before .before .before .before .args in
-    let p = c .before .before .before .before .before .before .before .before .before .pre in
-    omega (arith, row-room (p .1 .0) (a .i) (p .1 .1 .1 .0) (p .1 .1 .0))
+-- ---- the class
 
-shared-slice-read-wide : tie.Need-shared-slice-read-wide
-shared-slice-read-wide c =
-    let a = c .before .before .before .before .before .before .before .before .before .before .args in
-    let p = c .before .before .before .before .before .before .before .before .before .before .pre in
-    omega (arith, row-room (p .1 .0) (a .i) (p .1 .1 .1 .0) (p .1 .1 .0))
+there : (c : tie.Start) → c .args .classes .library + c .args .i < c .args .classes .all
+there c = c .pre .1 .1 .0
 
-wide-requires : tie.Need-wide-requires
-wide-requires c κs = search needs
+room : (c : tie.Start) → 2 * c .args .i + 1 < length (c .args .verdicts .now)
+room c = row-room (c .pre .0) (c .args .i) (there c) (c .pre .1 .0)
 
-mul-wide-2 : tie.Need-mul-wide-2
-mul-wide-2 c =
-    let a = c .before .before .before .before .before .before .before .before .before .before .before .args in
-    let p = c .before .before .before .before .before .before .before .before .before .before .before .pre in
-    omega (arith, row-room (p .1 .0) (a .i) (p .1 .1 .1 .0) (p .1 .1 .0))
+-- its name stands where the code looks
+name-by : (c : tie.After-wide2) → let a = entry c .args in
+    NameAt (a .library .now) (a .user .now) (a .classes .library + a .i) (c .before .before .wide .result) (c .wide2 .result)
+name-by c =
+    let e = entry c in
+    name-at (e .pre .0) (omega arith) (there e) (c .before .before .wide .ensures .0 ∙ e .pre .0 .starts _ (there e)) (c .wide2 .ensures .0 ∙ c .before .class-word .ensures)
 
-add-wide : tie.Need-add-wide
-add-wide c =
-    let a = c .before .before .before .before .before .before .before .before .before .before .before .args in
-    let p = c .before .before .before .before .before .before .before .before .before .before .before .pre in
-    omega (arith, row-room (p .1 .0) (a .i) (p .1 .1 .1 .0) (p .1 .1 .0))
+-- ---- how far each text reaches
 
-shared-slice-read-wide-2 : tie.Need-shared-slice-read-wide-2
-shared-slice-read-wide-2 c =
-    let a = c .before .before .before .before .before .before .before .before .before .before .before .before .args in
-    let p = c .before .before .before .before .before .before .before .before .before .before .before .before .pre in
-    omega (arith, row-room (p .1 .0) (a .i) (p .1 .1 .1 .0) (p .1 .1 .0))
+numbered-low : (c : tie.After-put-number) → c .put-number .result ≤ entry (sized c) .args .at + 20
+numbered-low c = let a = entry (sized c) .args in omega (arith, decimal-length (a .classes .library + a .i), c .put-number .ensures .0)
 
-wide-requires-2 : tie.Need-wide-requires-2
-wide-requires-2 c κs = search needs
+spaced-low : (c : tie.After-put) → c .put .result ≤ entry (sized (numbered c)) .args .at + 21
+spaced-low c = omega (arith, numbered-low (numbered c), c .put .ensures .0)
 
-put-number-requires : tie.Need-put-number-requires
-put-number-requires c κs = search needs
+named-low : (c : tie.After-put-part) → c .put-part .result ≤ entry (sized (numbered (spaced c))) .args .at + 121
+named-low c = omega (arith, spaced-low (spaced c), name-by (sized (numbered (spaced c))) .short, c .put-part .ensures .0)
 
-put-requires : tie.Need-put-requires
-put-requires c κs =
-    let a = c .before .before .before .before .before .before .before .before .before .before .before .before .before .before .before .before .before .before .args in
-    let p = c .before .before .before .before .before .before .before .before .before .before .before .before .before .before .before .before .before .before .pre in
-    omega (arith, decimal-length (a .nlib + a .i), c .before .before .before .put-number .ensures .0)
+parted-low : (c : tie.After-put2) → c .put2 .result ≤ entry (sized (numbered (spaced (named c)))) .args .at + 122
+parted-low c = omega (arith, named-low (named c), c .put2 .ensures .0)
 
-add-put-part : tie.Need-add-put-part
-add-put-part c =
-    let a = c .before .before .before .before .before .before .before .before .before .before .before .before .before .before .before .before .before .before .before .before .before .before .args in
-    let p = c .before .before .before .before .before .before .before .before .before .before .before .before .before .before .before .before .before .before .before .before .before .before .pre in
-    let q = name-at (a .user .now) (a .used) (p .1 .0) {c = a .nlib + a .i} (omega arith) (p .1 .1 .1 .0) (p .0) (c .before .before .before .before .before .before .before .before .before .before .before .before .before .before .before .group-start .ensures) (c .before .before .before .before .before .before .before .before .before .before .before .before .before .wide-word .ensures ∙ c .before .before .before .before .before .before .before .before .before .before .before .before .before .before .class-word .ensures) in
-    omega (arith, q .low)
+-- ---- the needs
 
 put-part-requires : tie.Need-put-part-requires
 put-part-requires c κs =
-    let a = c .before .before .before .before .before .before .before .before .before .before .before .before .before .before .before .before .before .before .before .before .before .before .args in
-    let p = c .before .before .before .before .before .before .before .before .before .before .before .before .before .before .before .before .before .before .before .before .before .before .pre in
-    let q = name-at (a .user .now) (a .used) (p .1 .0) {c = a .nlib + a .i} (omega arith) (p .1 .1 .1 .0) (p .0) (c .before .before .before .before .before .before .before .before .before .before .before .before .before .before .before .group-start .ensures) (c .before .before .before .before .before .before .before .before .before .before .before .before .before .wide-word .ensures ∙ c .before .before .before .before .before .before .before .before .before .before .before .before .before .before .class-word .ensures) in
-    (omega (arith, decimal-length (a .nlib + a .i), c .before .before .before .before .before .before .before .put-number .ensures .0, c .before .before .before .put .ensures .0), omega (arith, q .long), q .within, omega (arith, q .low))
+    let s = c .before .before .before in
+    let q = name-by (sized (numbered s)) in
+    (omega (arith, spaced-low s, entry (sized (numbered s)) .pre), omega (arith, q .long), q .within, omega (arith, q .low))
 
 put-requires-2 : tie.Need-put-requires-2
-put-requires-2 c κs =
-    let a = c .before .before .before .before .before .before .before .before .before .before .before .before .before .before .before .before .before .before .before .before .before .before .before .before .before .before .args in
-    let p = c .before .before .before .before .before .before .before .before .before .before .before .before .before .before .before .before .before .before .before .before .before .before .before .before .before .before .pre in
-    let q = name-at (a .user .now) (a .used) (p .1 .0) {c = a .nlib + a .i} (omega arith) (p .1 .1 .1 .0) (p .0) (c .before .before .before .before .before .before .before .before .before .before .before .before .before .before .before .before .before .before .before .group-start .ensures) (c .before .before .before .before .before .before .before .before .before .before .before .before .before .before .before .before .before .wide-word .ensures ∙ c .before .before .before .before .before .before .before .before .before .before .before .before .before .before .before .before .before .before .class-word .ensures) in
-    omega (arith, decimal-length (a .nlib + a .i), c .before .before .before .before .before .before .before .before .before .before .before .put-number .ensures .0, c .before .before .before .before .before .before .before .put .ensures .0, c .before .before .before .put-part .ensures .0, q .short)
+put-requires-2 c κs = let p = c .before .before .before in omega (arith, named-low p, entry (sized (numbered (spaced p))) .pre)
 
 put-verdict-requires : tie.Need-put-verdict-requires
-put-verdict-requires c κs =
-    let a = c .before .before .before .before .before .before .before .before .before .before .before .before .before .before .before .before .before .before .before .before .before .before .before .before .before .before .before .before .before .before .args in
-    let p = c .before .before .before .before .before .before .before .before .before .before .before .before .before .before .before .before .before .before .before .before .before .before .before .before .before .before .before .before .before .before .pre in
-    let q = name-at (a .user .now) (a .used) (p .1 .0) {c = a .nlib + a .i} (omega arith) (p .1 .1 .1 .0) (p .0) (c .before .before .before .before .before .before .before .before .before .before .before .before .before .before .before .before .before .before .before .before .before .before .before .group-start .ensures) (c .before .before .before .before .before .before .before .before .before .before .before .before .before .before .before .before .before .before .before .before .before .wide-word .ensures ∙ c .before .before .before .before .before .before .before .before .before .before .before .before .before .before .before .before .before .before .before .before .before .before .class-word .ensures) in
-    omega (arith, decimal-length (a .nlib + a .i), c .before .before .before .before .before .before .before .before .before .before .before .before .before .before .before .put-number .ensures .0, c .before .before .before .before .before .before .before .before .before .before .before .put .ensures .0, c .before .before .before .before .before .before .before .put-part .ensures .0, q .short, c .before .before .before .put2 .ensures .0)
-
-same-length : tie.Need-same-length
-same-length c = search needs
+put-verdict-requires c κs = let d = c .before .before .before in omega (arith, parted-low d, entry (sized (numbered (spaced (named d)))) .pre)
 
 returns : tie.Need-returns
 returns c =
-    let a = c .before .before .before .before .before .before .before .before .before .before .before .before .before .before .before .before .before .before .before .before .before .before .before .before .before .before .before .before .before .before .before .before .before .args in
-    let p = c .before .before .before .before .before .before .before .before .before .before .before .before .before .before .before .before .before .before .before .before .before .before .before .before .before .before .before .before .before .before .before .before .before .pre in
-    let q = name-at (a .user .now) (a .used) (p .1 .0) {c = a .nlib + a .i} (omega arith) (p .1 .1 .1 .0) (p .0) (c .before .before .before .before .before .before .before .before .before .before .before .before .before .before .before .before .before .before .before .before .before .before .before .before .before .before .group-start .ensures) (c .before .before .before .before .before .before .before .before .before .before .before .before .before .before .before .before .before .before .before .before .before .before .before .before .wide-word .ensures ∙ c .before .before .before .before .before .before .before .before .before .before .before .before .before .before .before .before .before .before .before .before .before .before .before .before .before .class-word .ensures) in
-    same-text (line-is (p .1 .0) (a .i) (p .1 .1 .1 .0) (p .1 .1 .0) (q .is) (c .before .before .before .before .before .before .before .before .before .before .before .before .before .before .before .before .before .before .before .before .before .before .wide .ensures) (c .before .before .before .before .before .before .before .before .before .before .before .before .before .before .before .before .before .before .before .before .wide2 .ensures))
-    (then (a-number (a .nlib + a .i) (c .before .before .before .before .before .before .before .before .before .before .before .before .before .before .before .before .before .before .put-number .ensures)) (then (one-byte (c .before .before .before .before .before .before .before .before .before .before .before .before .before .before .put .ensures)) (then (a-part (a .user .now) _ _ (omega (arith, q .long)) (q .within) (c .before .before .before .before .before .before .before .before .before .before .put-part .ensures)) (then (one-byte (c .before .before .before .before .before .before .put2 .ensures)) (c .before .before .put-verdict .ensures)))))
+    let v = c .before .before in
+    let d = parted v in
+    let p = named d in
+    let s = spaced p in
+    let n = numbered s in
+    let z = sized n in
+    let e = entry z in
+    let q = name-by z in
+    let r = n .before .before in
+    same-text (line-is (e .pre .0) (e .args .i) (there e) (e .pre .1 .0) (q .is) (r .before .before .wide-byte .ensures) (r .wide-byte2 .ensures))
+    (then (a-number (e .args .classes .library + e .args .i) (n .put-number .ensures)) (then (one-byte (s .put .ensures))
+    (then (a-part (e .args .user .now) _ _ (omega (arith, q .long)) (q .within) (p .put-part .ensures))
+    (then (one-byte (d .put2 .ensures)) (v .put-verdict .ensures)))))
 
 pub class-line-spec : {M : Type 1} → statement M
 class-line-spec =
     tie.close
     (tie.spec
-    sub-none
-    part-none-start
-    part-none-end
-    add-class
-    group-start-requires
-    class-word-requires
-    wide-word-requires
-    add-end
-    mul-wide
-    shared-slice-read-wide
-    wide-requires
-    mul-wide-2
-    add-wide
-    shared-slice-read-wide-2
-    wide-requires-2
-    put-number-requires
-    put-requires
-    add-put-part
+    (λ c. omega (arith, there (start c), start c .pre .0 .few))
+    (λ c. omega (arith, there (start c), start c .pre .0 .few))
+    (λ c. omega (arith, there (start (c .before)), start (c .before) .pre .0 .few, start (c .before) .pre .0 .long))
+    (λ c κs. search needs)
+    (λ c κs. let e = start (c .before .before) in (e .pre .0, (there e, omega arith)))
+    (λ c κs. search needs)
+    (λ c. omega (arith, name-by c .low))
+    (λ c. omega (arith, room (entry c)))
+    (λ c. omega (arith, room (entry (c .before))))
+    (λ c κs. search needs)
+    (λ c. omega (arith, room (entry (c .before .before))))
+    (λ c. omega (arith, room (entry (c .before .before))))
+    (λ c. omega (arith, room (entry (c .before .before .before))))
+    (λ c κs. search needs)
+    (λ c κs. search needs)
+    (λ c κs. omega (arith, numbered-low (c .before .before .before)))
+    (λ c. omega (arith, name-by (sized (numbered (c .before .before .before))) .low))
     put-part-requires
     put-requires-2
     put-verdict-requires
-    same-length
+    (λ c. search needs)
     returns)

@@ -1,5 +1,6 @@
 -- `listing_text::counts_line`: its five texts one after another.
 -- Assumes nothing.
+use Prim.Native.Nat.{_≤_}
 use native.Mathlib.Omega.{arith}
 use Rattle.listing_text.specs.Listing.{classesWord, faultedWord, countsText}
 use Rattle.text.proofs.Digits.{decimal-length}
@@ -8,44 +9,60 @@ use borrow.Author.Needs.{needs}
 use Rattle.listing_text.proofs.counts_line.Statement.{statement}
 use Rattle.listing_text.proofs.counts_line.Tie as tie
 
-slice-aggregate-put-word : tie.Need-slice-aggregate-put-word
-slice-aggregate-put-word c = search needs
+-- ---- places: from each text to the one before it
 
-put-word-requires : tie.Need-put-word-requires
-put-word-requires c κs = search needs
+abbrev start : tie.After-put-word → tie.Start
+start c = c .before .before .before .before
 
-put-number-requires : tie.Need-put-number-requires
-put-number-requires c κs = search needs
+abbrev opened : tie.After-put-number → tie.After-put-word
+opened c = c .before .before .before .before
 
-slice-aggregate-put-word-2 : tie.Need-slice-aggregate-put-word-2
-slice-aggregate-put-word-2 c = search needs
+abbrev first : tie.After-put-word2 → tie.After-put-number
+first c = c .before .before .before .before .before
 
-put-word-requires-2 : tie.Need-put-word-requires-2
-put-word-requires-2 c κs = (omega (arith, c .before .before .before .before .before .before .before .before .put-word .ensures .place, decimal-length (c .before .before .before .before .before .before .before .before .before .before .before .before .args .classes), c .before .before .before .before .put-number .ensures .0), omega arith)
+abbrev on : tie.After-put-number2 → tie.After-put-word2
+on c = c .before .before .before .before
 
-put-number-requires-2 : tie.Need-put-number-requires-2
-put-number-requires-2 c κs = omega (arith, c .before .before .before .before .before .before .before .before .before .before .before .before .put-word .ensures .place, decimal-length (c .before .before .before .before .before .before .before .before .before .before .before .before .before .before .before .before .args .classes), c .before .before .before .before .before .before .before .before .put-number .ensures .0, c .before .before .before .put-word2 .ensures .place)
+abbrev second : tie.After-put → tie.After-put-number2
+second c = c .before .before .before .before
 
-put-requires : tie.Need-put-requires
-put-requires c κs = omega (arith, c .before .before .before .before .before .before .before .before .before .before .before .before .before .before .before .before .put-word .ensures .place, decimal-length (c .before .before .before .before .before .before .before .before .before .before .before .before .before .before .before .before .before .before .before .before .args .classes), c .before .before .before .before .before .before .before .before .before .before .before .before .put-number .ensures .0, c .before .before .before .before .before .before .before .put-word2 .ensures .place, decimal-length (c .before .before .before .before .before .before .before .before .before .before .before .before .before .before .before .before .before .before .before .before .args .faulted), c .before .before .before .put-number2 .ensures .0)
+-- ---- how far each text reaches
 
-same-length : tie.Need-same-length
-same-length c = search needs
+opened-low : (c : tie.After-put-word) → c .put-word .result ≤ 8
+opened-low c = omega (arith, c .put-word .ensures .place)
+
+first-low : (c : tie.After-put-number) → c .put-number .result ≤ 28
+first-low c = omega (arith, opened-low (opened c), decimal-length (start (opened c) .args .classes), c .put-number .ensures .0)
+
+on-low : (c : tie.After-put-word2) → c .put-word2 .result ≤ 37
+on-low c = omega (arith, first-low (first c), c .put-word2 .ensures .place)
+
+second-low : (c : tie.After-put-number2) → c .put-number2 .result ≤ 57
+second-low c = omega (arith, on-low (on c), decimal-length (start (opened (first (on c))) .args .faulted), c .put-number2 .ensures .0)
+
+-- ---- the texts
 
 returns : tie.Need-returns
 unfolding classesWord faultedWord countsText
-returns c = then (c .before .before .before .before .before .before .before .before .before .before .before .before .before .before .before .before .before .before .before .put-word .ensures) (then (a-number (c .before .before .before .before .before .before .before .before .before .before .before .before .before .before .before .before .before .before .before .before .before .before .before .args .classes) (c .before .before .before .before .before .before .before .before .before .before .before .before .before .before .before .put-number .ensures)) (then (c .before .before .before .before .before .before .before .before .before .before .put-word2 .ensures) (then (a-number (c .before .before .before .before .before .before .before .before .before .before .before .before .before .before .before .before .before .before .before .before .before .before .before .args .faulted) (c .before .before .before .before .before .before .put-number2 .ensures)) (one-byte (c .before .before .put .ensures)))))
+returns c =
+    let f = c .before .before in
+    let e = second f in
+    let b = on e in
+    let a = first b in
+    let o = opened a in
+    then (o .put-word .ensures) (then (a-number (start o .args .classes) (a .put-number .ensures))
+    (then (b .put-word2 .ensures) (then (a-number (start o .args .faulted) (e .put-number2 .ensures)) (one-byte (f .put .ensures)))))
 
 pub counts-line-spec : {M : Type 1} → statement M
 counts-line-spec =
     tie.close
     (tie.spec
-    slice-aggregate-put-word
-    put-word-requires
-    put-number-requires
-    slice-aggregate-put-word-2
-    put-word-requires-2
-    put-number-requires-2
-    put-requires
-    same-length
+    (λ c. search needs)
+    (λ c κs. search needs)
+    (λ c κs. omega (arith, opened-low (c .before .before .before)))
+    (λ c. search needs)
+    (λ c κs. (omega (arith, first-low (c .before .before .before .before)), omega arith))
+    (λ c κs. omega (arith, on-low (c .before .before .before)))
+    (λ c κs. omega (arith, second-low (c .before .before .before)))
+    (λ c. search needs)
     returns)

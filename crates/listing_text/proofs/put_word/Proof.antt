@@ -5,14 +5,13 @@ use borrow.Author.Needs.{needs}
 use Rattle.listing_text.proofs.put_word.Statement.{statement}
 use Rattle.listing_text.proofs.put_word.Tie as tie
 
-put-part-requires : tie.Need-put-part-requires
-put-part-requires c κs = search needs
-
-same-length : tie.Need-same-length
-same-length c = search needs
-
-returns : tie.Need-returns
-returns c = whole-part (c .before .before .before .before .before .before .args .word .now) (c .before .before .put-part .ensures)
+abbrev start : tie.After-put-part → tie.Start
+start c = c .before .before .before .before
 
 pub put-word-spec : {M : Type 1} → statement M
-put-word-spec = tie.close (tie.spec put-part-requires same-length returns)
+put-word-spec =
+    tie.close
+    (tie.spec
+    (λ c κs. search needs)
+    (λ c. search needs)
+    (λ c. whole-part (start (c .before .before) .args .word .now) (c .before .before .put-part .ensures)))

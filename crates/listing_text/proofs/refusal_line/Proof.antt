@@ -1,63 +1,88 @@
 -- `listing_text::refusal_line`: its seven texts one after another.
 -- Assumes nothing.
+use mathlib.Core.Path.{ap}
+use Prim.Native.Nat.{_≤_}
 use native.Mathlib.Omega.{arith}
 use Rattle.listing_text.specs.Listing.{refusedWord, sheetWord, byteWord, refusalText}
+use Rattle.text.specs.Text.{decimal}
 use Rattle.text.proofs.Digits.{decimal-length}
-use Rattle.listing_text.proofs.Texts.{one-byte, a-number, then}
+use Rattle.listing_text.proofs.Texts.{one-byte, a-number, same-text, then}
 use borrow.Author.Needs.{needs}
 use Rattle.listing_text.proofs.refusal_line.Statement.{statement}
 use Rattle.listing_text.proofs.refusal_line.Tie as tie
 
-slice-aggregate-put-word : tie.Need-slice-aggregate-put-word
-slice-aggregate-put-word c = search needs
+-- ---- places: from each text to the one before it
 
-put-word-requires : tie.Need-put-word-requires
-put-word-requires c κs = search needs
+abbrev opened : tie.After-put-number → tie.After-put-word
+opened c = c .before .before .before .before .before
 
-put-number-requires : tie.Need-put-number-requires
-put-number-requires c κs = search needs
+abbrev first : tie.After-put-word2 → tie.After-put-number
+first c = c .before .before .before .before .before
 
-slice-aggregate-put-word-2 : tie.Need-slice-aggregate-put-word-2
-slice-aggregate-put-word-2 c = search needs
+abbrev on : tie.After-put-number2 → tie.After-put-word2
+on c = c .before .before .before .before .before
 
-put-word-requires-2 : tie.Need-put-word-requires-2
-put-word-requires-2 c κs = (omega (arith, c .before .before .before .before .before .before .before .before .put-word .ensures .place, decimal-length (c .before .before .before .before .before .before .before .before .before .before .before .before .args .number), c .before .before .before .before .put-number .ensures .0), omega arith)
+abbrev second : tie.After-put-word3 → tie.After-put-number2
+second c = c .before .before .before .before .before
 
-put-number-requires-2 : tie.Need-put-number-requires-2
-put-number-requires-2 c κs = omega (arith, c .before .before .before .before .before .before .before .before .before .before .before .before .put-word .ensures .place, decimal-length (c .before .before .before .before .before .before .before .before .before .before .before .before .before .before .before .before .args .number), c .before .before .before .before .before .before .before .before .put-number .ensures .0, c .before .before .before .put-word2 .ensures .place)
+abbrev further : tie.After-put-number3 → tie.After-put-word3
+further c = c .before .before .before .before
 
-slice-aggregate-put-word-3 : tie.Need-slice-aggregate-put-word-3
-slice-aggregate-put-word-3 c = search needs
+abbrev third : tie.After-put → tie.After-put-number3
+third c = c .before .before .before .before
 
-put-word-requires-3 : tie.Need-put-word-requires-3
-put-word-requires-3 c κs = (omega (arith, c .before .before .before .before .before .before .before .before .before .before .before .before .before .before .before .before .before .put-word .ensures .place, decimal-length (c .before .before .before .before .before .before .before .before .before .before .before .before .before .before .before .before .before .before .before .before .before .args .number), c .before .before .before .before .before .before .before .before .before .before .before .before .before .put-number .ensures .0, c .before .before .before .before .before .before .before .before .put-word2 .ensures .place, decimal-length (c .before .before .before .before .before .before .before .before .before .before .before .before .before .before .before .before .before .before .before .before .before .args .sheet), c .before .before .before .before .put-number2 .ensures .0), omega arith)
+-- ---- how far each text reaches
 
-put-number-requires-3 : tie.Need-put-number-requires-3
-put-number-requires-3 c κs = omega (arith, c .before .before .before .before .before .before .before .before .before .before .before .before .before .before .before .before .before .before .before .before .before .put-word .ensures .place, decimal-length (c .before .before .before .before .before .before .before .before .before .before .before .before .before .before .before .before .before .before .before .before .before .before .before .before .before .args .number), c .before .before .before .before .before .before .before .before .before .before .before .before .before .before .before .before .before .put-number .ensures .0, c .before .before .before .before .before .before .before .before .before .before .before .before .put-word2 .ensures .place, decimal-length (c .before .before .before .before .before .before .before .before .before .before .before .before .before .before .before .before .before .before .before .before .before .before .before .before .before .args .sheet), c .before .before .before .before .before .before .before .before .put-number2 .ensures .0, c .before .before .before .put-word3 .ensures .place)
+opened-low : (c : tie.After-put-word) → c .put-word .result ≤ 8
+opened-low c = omega (arith, c .put-word .ensures .place)
 
-put-requires : tie.Need-put-requires
-put-requires c κs = omega (arith, c .before .before .before .before .before .before .before .before .before .before .before .before .before .before .before .before .before .before .before .before .before .before .before .before .before .put-word .ensures .place, decimal-length (c .before .before .before .before .before .before .before .before .before .before .before .before .before .before .before .before .before .before .before .before .before .before .before .before .before .before .before .before .before .args .number), c .before .before .before .before .before .before .before .before .before .before .before .before .before .before .before .before .before .before .before .before .before .put-number .ensures .0, c .before .before .before .before .before .before .before .before .before .before .before .before .before .before .before .before .put-word2 .ensures .place, decimal-length (c .before .before .before .before .before .before .before .before .before .before .before .before .before .before .before .before .before .before .before .before .before .before .before .before .before .before .before .before .before .args .sheet), c .before .before .before .before .before .before .before .before .before .before .before .before .put-number2 .ensures .0, c .before .before .before .before .before .before .before .put-word3 .ensures .place, decimal-length (c .before .before .before .before .before .before .before .before .before .before .before .before .before .before .before .before .before .before .before .before .before .before .before .before .before .before .before .before .before .args .byte), c .before .before .before .put-number3 .ensures .0)
+first-low : (c : tie.After-put-number) → c .put-number .result ≤ 28
+first-low c = omega (arith, opened-low (opened c), decimal-length (c .before .wide-byte .result), c .put-number .ensures .0)
 
-same-length : tie.Need-same-length
-same-length c = search needs
+on-low : (c : tie.After-put-word2) → c .put-word2 .result ≤ 35
+on-low c = omega (arith, first-low (first c), c .put-word2 .ensures .place)
+
+second-low : (c : tie.After-put-number2) → c .put-number2 .result ≤ 55
+second-low c = omega (arith, on-low (on c), decimal-length (c .before .wide-byte2 .result), c .put-number2 .ensures .0)
+
+further-low : (c : tie.After-put-word3) → c .put-word3 .result ≤ 61
+further-low c = omega (arith, second-low (second c), c .put-word3 .ensures .place)
+
+third-low : (c : tie.After-put-number3) → c .put-number3 .result ≤ 81
+third-low c =
+    omega (arith, further-low (further c), decimal-length (opened (first (on (second (further c)))) .before .before .before .before .args .refusal .byte), c .put-number3 .ensures .0)
+
+-- ---- the texts
 
 returns : tie.Need-returns
 unfolding refusedWord sheetWord byteWord refusalText
-returns c = then (c .before .before .before .before .before .before .before .before .before .before .before .before .before .before .before .before .before .before .before .before .before .before .before .before .before .before .before .before .put-word .ensures) (then (a-number (c .before .before .before .before .before .before .before .before .before .before .before .before .before .before .before .before .before .before .before .before .before .before .before .before .before .before .before .before .before .before .before .before .args .number) (c .before .before .before .before .before .before .before .before .before .before .before .before .before .before .before .before .before .before .before .before .before .before .before .before .put-number .ensures)) (then (c .before .before .before .before .before .before .before .before .before .before .before .before .before .before .before .before .before .before .before .put-word2 .ensures) (then (a-number (c .before .before .before .before .before .before .before .before .before .before .before .before .before .before .before .before .before .before .before .before .before .before .before .before .before .before .before .before .before .before .before .before .args .sheet) (c .before .before .before .before .before .before .before .before .before .before .before .before .before .before .before .put-number2 .ensures)) (then (c .before .before .before .before .before .before .before .before .before .before .put-word3 .ensures) (then (a-number (c .before .before .before .before .before .before .before .before .before .before .before .before .before .before .before .before .before .before .before .before .before .before .before .before .before .before .before .before .before .before .before .before .args .byte) (c .before .before .before .before .before .before .put-number3 .ensures)) (one-byte (c .before .before .put .ensures)))))))
+returns c =
+    let f = c .before .before in
+    let e = third f in
+    let d = further e in
+    let r = second d in
+    let b = on r in
+    let a = first b in
+    let o = opened a in
+    then (o .put-word .ensures) (then (same-text (ap decimal (a .before .wide-byte .ensures)) (a-number _ (a .put-number .ensures)))
+    (then (b .put-word2 .ensures) (then (same-text (ap decimal (r .before .wide-byte2 .ensures)) (a-number _ (r .put-number2 .ensures)))
+    (then (d .put-word3 .ensures) (then (a-number (o .before .before .before .before .args .refusal .byte) (e .put-number3 .ensures)) (one-byte (f .put .ensures)))))))
 
 pub refusal-line-spec : {M : Type 1} → statement M
 refusal-line-spec =
     tie.close
     (tie.spec
-    slice-aggregate-put-word
-    put-word-requires
-    put-number-requires
-    slice-aggregate-put-word-2
-    put-word-requires-2
-    put-number-requires-2
-    slice-aggregate-put-word-3
-    put-word-requires-3
-    put-number-requires-3
-    put-requires
-    same-length
+    (λ c. search needs)
+    (λ c κs. search needs)
+    (λ c κs. search needs)
+    (λ c κs. omega (arith, opened-low (c .before .before .before .before)))
+    (λ c. search needs)
+    (λ c κs. (omega (arith, first-low (c .before .before .before .before)), omega arith))
+    (λ c κs. search needs)
+    (λ c κs. omega (arith, on-low (c .before .before .before .before)))
+    (λ c. search needs)
+    (λ c κs. (omega (arith, second-low (c .before .before .before .before)), omega arith))
+    (λ c κs. omega (arith, further-low (c .before .before .before)))
+    (λ c κs. omega (arith, third-low (c .before .before .before)))
+    (λ c. search needs)
     returns)

@@ -6,12 +6,13 @@ use Rattle.spec.specs.Markers.{closures, closure}
 use Rattle.markers.proofs.closure.Statement.{statement}
 use Rattle.markers.proofs.closure.Tie as tie
 
-array-read-result : tie.Need-array-read-result
-array-read-result c = search needs
-
 returns : tie.Need-returns
 unfolding closure closures
 returns c = refl
 
 pub closure-spec : {M : Type 1} → statement M
-closure-spec = tie.close (tie.spec array-read-result returns)
+closure-spec =
+    tie.close
+    (tie.spec
+    (λ c. search needs)
+    returns)

@@ -8,11 +8,10 @@ use lib.ListN.{length, set, length-set}
 use Rattle.spec.specs.Record.{u8, ownMarkers}
 use Rattle.spec.specs.Sheet.{group as groupOf}
 use Rattle.theory.proofs.Form.{group-one-class}
-use Rattle.view.specs.View.{spliced}
-use Rattle.groups.proofs.Between.{tiled-room}
-use Rattle.groups.proofs.Classes.{class-long}
-use Rattle.groups.proofs.Bytes.{class-within, class-byte-in, class-word-in}
-use Rattle.groups.proofs.Walks.{walk-on}
+use Rattle.records.proofs.Between.{tiled-room}
+use Rattle.groups.proofs.Held.{class-long}
+use Rattle.records.proofs.Carried.{class-within, class-byte-in, class-word-in}
+use Rattle.records.proofs.Walks.{walk-on}
 use Rattle.overlay.proofs.Memos.{knows-lower, set-known}
 use Rattle.overlay.proofs.Recursion.{lower-none, lower-is, raw-is}
 use Rattle.overlay.proofs.Walking.{Walking, walk-begin, asks-room, walk-asks, walk-passes, walk-end}
@@ -31,19 +30,19 @@ use Rattle.overlay.proofs.lower.Kinds as lower-kinds
 use Rattle.overlay.proofs.+gathered+interfaces+lower.Lts-lower as lower-lts
 use Rattle.groups.proofs.class_bytes.Reads as class-bytes-reads
 use Rattle.markers.proofs.union.Reads as union-reads
-use Rattle.overlay.proofs.wide.Reads as wide-reads
-use Rattle.view.proofs.word_in.Reads as word-in-reads
+use Rattle.records.proofs.wide.Reads as wide-reads
+use Rattle.records.proofs.word_in.Reads as word-in-reads
 use Rattle.overlay.proofs.+gathered+interfaces+lower.{statement}
 use Rattle.overlay.proofs.+gathered+interfaces+lower.Tie.{close}
 
 abbrev μ-gathered : Measures 3 gathered-kinds.ps ℕ
-μ-gathered κs a = 3 * a .1 .1 .1 .1 .1 .1 .1 .0 + 2
+μ-gathered κs a = 3 * a .1 .1 .1 .1 .0 + 2
 
 abbrev μ-interfaces : Measures 3 interfaces-kinds.ps ℕ
-μ-interfaces κs a = 3 * a .1 .1 .1 .1 .1 .1 .1 .0 + 1
+μ-interfaces κs a = 3 * a .1 .1 .1 .1 .0 + 1
 
 abbrev μ-lower : Measures 3 lower-kinds.ps ℕ
-μ-lower κs a = 3 * a .1 .1 .1 .1 .1 .1 .1 .0
+μ-lower κs a = 3 * a .1 .1 .1 .1 .0
 
 abbrev gathered-at : ℕ → In 3 gathered-kinds.ps
 gathered-at t = and 3 gathered-kinds.ps (is 3 gathered-kinds.ps μ-gathered t) gathered.Pre
@@ -100,59 +99,59 @@ abbrev claims-lower : ℕ → lower-lts.Claims
 claims-lower t = (gathered-below t, gathered.Post)
 
 gathered-mul-known : (t : ℕ) → gathered-lts.Need-mul-known (claims-gathered t) (gathered-at t) gathered.Post
-gathered-mul-known t c = let p = c .before .before .before .before .before .pre .1 in omega (arith, p .1 .1 .1 .0, p .1 .0 .few)
+gathered-mul-known t c = let p = c .before .before .before .before .pre .1 in omega (arith, p .1 .1 .0, p .0 .few)
 
 gathered-slice-read-known : (t : ℕ) → gathered-lts.Need-slice-read-known (claims-gathered t) (gathered-at t) gathered.Post
-gathered-slice-read-known t c = let p = c .before .before .before .before .before .before .pre .1 in omega (arith, p .1 .1 .1 .0, p .1 .0 .few, p .1 .1 .1 .1 .long)
+gathered-slice-read-known t c = let p = c .before .before .before .before .before .pre .1 in omega (arith, p .1 .1 .0, p .0 .few, p .1 .1 .1 .long)
 
 gathered-cast-result : (t : ℕ) → gathered-lts.Need-cast-result (claims-gathered t) (gathered-at t) gathered.Post
 gathered-cast-result t c = omega arith
 
 gathered-returns : (t : ℕ) → gathered-lts.Need-returns (claims-gathered t) (gathered-at t) gathered.Post
-gathered-returns t c = let p = c .before .before .before .before .before .before .before .pre .1 in let e = p .1 .1 .1 .1 .here (omega arith) in (e, sym (set-known _ _ e))
+gathered-returns t c = let p = c .before .before .before .before .before .before .pre .1 in let e = p .1 .1 .1 .here (omega arith) in (e, sym (set-known _ _ e))
 
 gathered-class-bytes-requires : (t : ℕ) → gathered-lts.Need-class-bytes-requires (claims-gathered t) (gathered-at t) gathered.Post
-gathered-class-bytes-requires t c κs = let p = c .before .before .before .before .before .before .before .pre .1 in (p .0, (p .1 .0, p .1 .1 .1 .0))
+gathered-class-bytes-requires t c κs = let p = c .before .before .before .before .before .before .pre .1 in (p .0, p .1 .1 .0)
 
 gathered-shared-slice-read-own : (t : ℕ) → gathered-lts.Need-shared-slice-read-own (claims-gathered t) (gathered-at t) gathered.Post
 gathered-shared-slice-read-own t c =
-    let p = c .before .before .before .before .before .before .before .before .before .pre .1 in
-    omega (arith, class-within (c .before .class-bytes .ensures) (class-long (p .1 .0) (p .1 .1 .1 .0)))
+    let p = c .before .before .before .before .before .before .before .before .pre .1 in
+    omega (arith, class-within (c .before .class-bytes .ensures) (class-long (p .0) (p .1 .1 .0)))
 
 gathered-word-in-requires : (t : ℕ) → gathered-lts.Need-word-in-requires (claims-gathered t) (gathered-at t) gathered.Post
 gathered-word-in-requires t c κs =
-    let p = c .before .before .before .before .before .before .before .before .before .pre .1 in
-    omega (arith, class-within (c .before .class-bytes .ensures) (class-long (p .1 .0) (p .1 .1 .1 .0)))
+    let p = c .before .before .before .before .before .before .before .before .pre .1 in
+    omega (arith, class-within (c .before .class-bytes .ensures) (class-long (p .0) (p .1 .1 .0)))
 
 gathered-wide-requires : (t : ℕ) → gathered-lts.Need-wide-requires (claims-gathered t) (gathered-at t) gathered.Post
 gathered-wide-requires t c κs = search needs
 
 gathered-lower-requires : (t : ℕ) → gathered-lts.Need-lower-requires (claims-gathered t) (gathered-at t) gathered.Post
 gathered-lower-requires t c κs =
-    let p = c .before .before .before .before .before .before .before .before .before .before .before .before .pre .1 in
-    (omega arith, (p .0, (p .1 .0, (p .1 .1 .0, (p .1 .1 .1 .0, p .1 .1 .1 .1)))))
+    let p = c .before .before .before .before .before .before .before .before .before .before .before .pre .1 in
+    (omega arith, (p .0, (p .1 .0, (p .1 .1 .0, p .1 .1 .1))))
 
 gathered-union-requires : (t : ℕ) → gathered-lts.Need-union-requires (claims-gathered t) (gathered-at t) gathered.Post
 gathered-union-requires t c κs = search needs
 
 gathered-interfaces-requires : (t : ℕ) → gathered-lts.Need-interfaces-requires (claims-gathered t) (gathered-at t) gathered.Post
 gathered-interfaces-requires t c κs =
-    let p = c .before .before .before .before .before .before .before .before .before .before .before .before .before .before .before .before .before .pre .1 in
-    (omega arith, (p .0, (p .1 .0, (p .1 .1 .0, (p .1 .1 .1 .0, rw (c .before .before .before .before .lower .ensures .1) (p .1 .1 .1 .1))))))
+    let p = c .before .before .before .before .before .before .before .before .before .before .before .before .before .before .before .before .pre .1 in
+    (omega arith, (p .0, (p .1 .0, (p .1 .1 .0, rw (c .before .before .before .before .lower .ensures .1) (p .1 .1 .1)))))
 
 gathered-cast-memo : (t : ℕ) → gathered-lts.Need-cast-memo (claims-gathered t) (gathered-at t) gathered.Post
 gathered-cast-memo t c = omega arith
 
 gathered-mul-memo : (t : ℕ) → gathered-lts.Need-mul-memo (claims-gathered t) (gathered-at t) gathered.Post
 gathered-mul-memo t c =
-    let p = c .before .before .before .before .before .before .before .before .before .before .before .before .before .before .before .before .before .before .before .before .pre .1 in
-    omega (arith, p .1 .1 .1 .0, p .1 .0 .few)
+    let p = c .before .before .before .before .before .before .before .before .before .before .before .before .before .before .before .before .before .before .before .pre .1 in
+    omega (arith, p .1 .1 .0, p .0 .few)
 
 gathered-slice-write-memo : (t : ℕ) → gathered-lts.Need-slice-write-memo (claims-gathered t) (gathered-at t) gathered.Post
 gathered-slice-write-memo t c =
-    let p = c .before .before .before .before .before .before .before .before .before .before .before .before .before .before .before .before .before .before .before .before .pre .1 in
+    let p = c .before .before .before .before .before .before .before .before .before .before .before .before .before .before .before .before .before .before .before .pre .1 in
     let kept = c .before .before .interfaces .ensures .1 ∙ c .before .before .before .before .before .before .before .lower .ensures .1 in
-    omega (arith, p .1 .1 .1 .0, p .1 .0 .few, p .1 .1 .1 .1 .long, ap length kept)
+    omega (arith, p .1 .1 .0, p .0 .few, p .1 .1 .1 .long, ap length kept)
 
 gathered-same-length : (t : ℕ) → gathered-lts.Need-same-length (claims-gathered t) (gathered-at t) gathered.Post
 gathered-same-length t c = simp length-set (ap length (c .before .before .interfaces .ensures .1 ∙ c .before .before .before .before .before .before .before .lower .ensures .1))
@@ -161,24 +160,24 @@ gathered-returns-2 : (t : ℕ) → gathered-lts.Need-returns-2 (claims-gathered 
 unfolding ownMarkers u8
 gathered-returns-2 t c =
     let l = c .before .before .before .before .before .before .before in
-    let s = l .before .before .before .before .before .before .before .before .before .before .before .before .before in
+    let s = l .before .before .before .before .before .before .before .before .before .before .before .before in
     let p = s .pre .1 in
     let bytes = l .before .before .before .before .before .class-bytes .ensures in
-    let long = class-long (p .1 .0) (p .1 .1 .1 .0) in
-    let e = raw-is _ (p .1 .1 .0) _ (omega (arith, p .1 .1 .1 .0, p .1 .0 .few)) (group-one-class _ _ _ (omega (arith, p .1 .1 .1 .0, p .1 .0 .n-is)))
+    let long = class-long (p .0) (p .1 .1 .0) in
+    let e = raw-is _ (p .1 .0) _ (omega (arith, p .1 .1 .0, p .0 .few)) (group-one-class _ _ _ (omega (arith, p .1 .1 .0, p .0 .n-is)))
     (class-byte-in bytes long 6 (omega arith))
     (l .before .before .wide .ensures .0 ∙ l .before .before .before .word-in .ensures ∙ class-word-in bytes long 8 (omega arith))
     (l .lower .ensures .0) (c .before .before .before .before .union .ensures) (c .before .before .interfaces .ensures .0) in
     (e, ap₂ (λ (m : List ℕ) (v : ℕ). set m (s .args .c) v) (c .before .before .interfaces .ensures .1 ∙ l .lower .ensures .1) e)
 
 abbrev interfaces-Inv-loop : interfaces-lts.InvT-loop
-interfaces-Inv-loop library user group cut starts nlib n c mine memo₀ bytes at₀ m₀ memo at m = Walking (groupOf library (spliced user group cut)) c mine bytes memo₀ memo at m
+interfaces-Inv-loop library user starts classes c mine memo₀ bytes at₀ m₀ memo at m = Walking (groupOf library user) c mine bytes memo₀ memo at m
 
 abbrev interfaces-μ-loop : interfaces-lts.MeasureT-loop
-interfaces-μ-loop library user group cut starts nlib n c mine memo₀ bytes at₀ m₀ memo at m = length bytes - at
+interfaces-μ-loop library user starts classes c mine memo₀ bytes at₀ m₀ memo at m = length bytes - at
 
 interfaces-class-bytes-requires : (t : ℕ) → interfaces-lts.Need-class-bytes-requires (claims-interfaces t) (interfaces-at t) interfaces.Post interfaces-Inv-loop interfaces-μ-loop
-interfaces-class-bytes-requires t c κs = let p = c .before .before .before .before .before .pre .1 in (p .0, (p .1 .0, p .1 .1 .1 .0))
+interfaces-class-bytes-requires t c κs = let p = c .before .before .before .before .pre .1 in (p .0, p .1 .1 .0)
 
 interfaces-loop-holds : (t : ℕ) → interfaces-lts.Need-loop-holds (claims-interfaces t) (interfaces-at t) interfaces.Post interfaces-Inv-loop interfaces-μ-loop
 interfaces-loop-holds t c = walk-begin _ _ _ (c .class-bytes .ensures)
@@ -207,8 +206,8 @@ interfaces-wide-requires-2 t c κs = search needs
 
 interfaces-lower-requires : (t : ℕ) → interfaces-lts.Need-lower-requires (claims-interfaces t) (interfaces-at t) interfaces.Post interfaces-Inv-loop interfaces-μ-loop
 interfaces-lower-requires t c κs =
-    let p = c .before .before .before .before .before .before .before .before .before .before .before .before .before .before .before .pre .1 in
-    (omega arith, (p .0, (p .1 .0, (p .1 .1 .0, (p .1 .1 .1 .0, rw (c .before .before .before .before .before .before .before .before .loop .inv .kept) (p .1 .1 .1 .1))))))
+    let p = c .before .before .before .before .before .before .before .before .before .before .before .before .before .before .pre .1 in
+    (omega arith, (p .0, (p .1 .0, (p .1 .1 .0, rw (c .before .before .before .before .before .before .before .before .loop .inv .kept) (p .1 .1 .1)))))
 
 interfaces-union-requires : (t : ℕ) → interfaces-lts.Need-union-requires (claims-interfaces t) (interfaces-at t) interfaces.Post interfaces-Inv-loop interfaces-μ-loop
 interfaces-union-requires t c κs = search needs
@@ -244,8 +243,8 @@ lower-returns t c = (lower-none _ _ _ (c .if1 .taken), refl)
 
 lower-gathered-requires : (t : ℕ) → lower-lts.Need-gathered-requires (claims-lower t) (lower-at t) lower.Post
 lower-gathered-requires t c κs =
-    let p = c .before .before .before .before .before .before .before .pre .1 in
-    (omega arith, (p .0, (p .1 .0, (p .1 .1 .0, (omega (arith, p .1 .1 .1 .0), knows-lower (p .1 .1 .1 .1) (omega arith))))))
+    let p = c .before .before .before .before .before .before .pre .1 in
+    (omega arith, (p .0, (p .1 .0, (omega (arith, p .1 .1 .0), knows-lower (p .1 .1 .1) (omega arith)))))
 
 lower-same-length :
     (t : ℕ) → lower-lts.Need-same-length (claims-lower t) (lower-at t) lower.Post
@@ -255,7 +254,7 @@ lower-returns-2 :
     (t : ℕ) → lower-lts.Need-returns-2 (claims-lower t) (lower-at t) lower.Post
 lower-returns-2 t c =
     let e = c .before .before .gathered .ensures in
-    (e .0 ∙ lower-is _ _ _ (omega arith), e .1 ∙ set-known _ _ (c .before .before .before .before .before .before .before .before .before .before .pre .1 .1 .1 .1 .1 .lower _ (omega arith)))
+    (e .0 ∙ lower-is _ _ _ (omega arith), e .1 ∙ set-known _ _ (c .before .before .before .before .before .before .before .before .before .pre .1 .1 .1 .1 .lower _ (omega arith)))
 
 pub +gathered+interfaces+lower-spec : {M : Type 1} → statement M
 +gathered+interfaces+lower-spec = close μ-gathered μ-interfaces μ-lower (λ t. gathered-lts.spec (claims-gathered t)

@@ -5,47 +5,46 @@ use Prim.Native.Nat.{_-_}
 use native.Mathlib.Omega.{arith}
 use lib.ListN.{length, length-set}
 use Rattle.spec.specs.Sheet.{group as groupOf}
-use Rattle.view.specs.View.{spliced}
 use Rattle.overlay.proofs.Memos.{memo-length}
 use Rattle.overlay.proofs.Turns.{classes-few, InTurn, turn-begin, turn-asks, turn-next, turn-long, turn-last, turn-end}
 use Rattle.overlay.proofs.overlay_in_turn.Statement.{statement}
 use Rattle.overlay.proofs.overlay_in_turn.Tie as tie
 
 abbrev Inv-loop : tie.InvT-loop
-Inv-loop library user group cut starts nlib n c memo₀ d₀ memo d = InTurn (groupOf library (spliced user group cut)) nlib c memo d
+Inv-loop library user starts classes c memo₀ d₀ memo d = InTurn (groupOf library user) (classes .library) c memo d
 
 abbrev μ-loop : tie.MeasureT-loop
-μ-loop library user group cut starts nlib n c memo₀ d₀ memo d = c - d
+μ-loop library user starts classes c memo₀ d₀ memo d = c - d
 
 loop-holds : tie.Need-loop-holds Inv-loop μ-loop
-loop-holds c = turn-begin (c .before .before .before .before .before .pre .1 .1 .1 .1)
+loop-holds c = turn-begin (c .before .before .before .before .pre .1 .1 .1)
 
 gathered-requires : tie.Need-gathered-requires Inv-loop μ-loop
 gathered-requires c κs =
-    let p = c .before .before .before .before .before .before .before .before .pre in
-    (p .0, (p .1 .0, (p .1 .1 .0, (omega arith, turn-asks (c .before .before .loop .inv) (omega (arith, p .1 .0 .few)) (c .before .loop-test .taken)))))
+    let p = c .before .before .before .before .before .before .before .pre in
+    (p .0, (p .1 .0, (omega arith, turn-asks (c .before .before .loop .inv) (omega (arith, p .0 .few)) (c .before .loop-test .taken))))
 
 loop-again : tie.Need-loop-again Inv-loop μ-loop
 loop-again c =
-    let few = c .before .before .before .before .before .before .before .before .before .before .before .pre .1 .0 .few in
+    let few = c .before .before .before .before .before .before .before .before .before .before .pre .0 .few in
     turn-next (c .before .before .before .before .before .loop .inv) (omega arith) (c .before .before .before .before .loop-test .taken) (c .before .before .gathered .ensures .1)
 
 overlay-requires : tie.Need-overlay-requires Inv-loop μ-loop
 overlay-requires c κs =
-    let p = c .before .before .before .before .before .before .before .before .pre in
-    let f = classes-few (p .1 .0) in
-    (p .0, (p .1 .0, (p .1 .1 .0, (p .1 .1 .1 .0, turn-last (c .before .before .loop .inv) (omega arith) (omega arith) (omega arith)))))
+    let p = c .before .before .before .before .before .before .before .pre in
+    let f = classes-few (p .0) in
+    (p .0, (p .1 .0, (p .1 .1 .0, turn-last (c .before .before .loop .inv) (omega arith) (omega arith) (omega arith))))
 
 same-length : tie.Need-same-length Inv-loop μ-loop
 same-length c =
-    let p = c .before .before .before .before .before .before .before .before .before .before .before .pre .1 in
+    let p = c .before .before .before .before .before .before .before .before .before .before .pre in
     let f = classes-few (p .0) in
     ap length (c .before .before .overlay .ensures .1)
     ∙ simp length-set (turn-long (c .before .before .before .before .before .loop .inv) (omega arith) (omega arith) ∙ sym (memo-length _ _ (p .1 .1 .1) (omega arith)))
 
 returns : tie.Need-returns Inv-loop μ-loop
 returns c =
-    let few = c .before .before .before .before .before .before .before .before .before .before .before .pre .1 .0 .few in
+    let few = c .before .before .before .before .before .before .before .before .before .before .pre .0 .few in
     let e = c .before .before .overlay .ensures in
     (e .0, turn-end (c .before .before .before .before .before .loop .inv) (omega arith) (omega arith) (e .1))
 

@@ -16,7 +16,9 @@ returns-2 c = rw (c .before .before .if1 .taken, c .if3 .taken)
 
 returns-3 : tie.Need-returns-3
 unfolding classFlagsFit
-returns-3 c = rw (c .before .before .if1 .taken, ne-eqb (c .before .before .before .args .flags) 0 (λ e. omega arith), ne-eqb (c .before .before .before .args .flags) 1 (λ e. omega arith), ne-eqb _ _ (c .if3 .left))
+returns-3 c =
+    let f = c .before .before .before .args .flags in
+    rw (c .before .before .if1 .taken, ne-eqb f 0 (λ e. omega arith), ne-eqb f 1 (λ e. omega arith), ne-eqb _ _ (c .if3 .left))
 
 returns-4 : tie.Need-returns-4
 unfolding classFlagsFit

@@ -1,72 +1,52 @@
 -- By the kind.
 -- Assumes nothing.
+use mathlib.Core.Path.{_≡_}
+use mathlib.Core.Bool.{_&&_}
+use Prim.Native.Nat.{_+_}
 use native.Mathlib.Omega.{arith}
+use lib.Dec.{eqb, ltb}
+use lib.ListN.{getD}
 use borrow.Author.Tests.{lt-ltb, le-ltb}
-use Rattle.spec.specs.Record.{u8}
+use Rattle.spec.specs.Record.{u8, tyFits, tyAt}
 use Rattle.pass.specs.Pass.{fixedAt}
 use Rattle.pass.proofs.Tables.{start-at, fixed-none}
 use borrow.Author.Needs.{needs}
 use Rattle.pass.proofs.fixed_fits.Statement.{statement}
 use Rattle.pass.proofs.fixed_fits.Tie as tie
 
-add-word-in : tie.Need-add-word-in
-add-word-in c = search needs
-
-word-in-requires : tie.Need-word-in-requires
-word-in-requires c κs = let l = start-at 1 (c .if1 .taken) in omega arith
-
-class-flags-fit-requires : tie.Need-class-flags-fit-requires
-class-flags-fit-requires c κs = search needs
-
-add-result : tie.Need-add-result
-add-result c = search needs
+-- ---- a class
 
 shared-slice-read-result : tie.Need-shared-slice-read-result
 shared-slice-read-result c = let l = start-at 1 (c .before .before .before .before .if1 .taken) in omega arith
 
-returns : tie.Need-returns
+class-is : (c : tie.After-class-flags-fit)
+    → let a = c .before .before .before .before .args in
+    fixedAt (a .sheet) (a .bytes .now) (a .at) (a .kind) ≡ (c .class-flags-fit .result && eqb (getD (a .bytes .now) (a .at + 7) 0) 0)
 unfolding fixedAt u8
-returns c = rw (c .before .before .before .before .if1 .taken, ← c .before .before .before .word-in .ensures, ← c .before .before .class-flags-fit .ensures, c .before .if2 .taken)
+class-is c = rw (c .before .before .if1 .taken, ← c .before .word-in .ensures, ← c .class-flags-fit .ensures)
 
-returns-2 : tie.Need-returns-2
-unfolding fixedAt
-returns-2 c = rw (c .before .before .before .if1 .taken, ← c .before .before .word-in .ensures, ← c .before .class-flags-fit .ensures, c .if2 .left)
-
-add-word-in-2 : tie.Need-add-word-in-2
-add-word-in-2 c = search needs
-
-word-in-requires-2 : tie.Need-word-in-requires-2
-word-in-requires-2 c κs = let l = start-at 3 (c .if3 .taken) in omega arith
-
-add-type-fits : tie.Need-add-type-fits
-add-type-fits c = search needs
+-- ---- a field
 
 type-fits-requires : tie.Need-type-fits-requires
 type-fits-requires c κs = let l = start-at 3 (c .before .before .if3 .taken) in omega arith
 
-returns-3 : tie.Need-returns-3
+field-is : (c : tie.After-word-in2)
+    → let a = c .before .before .before .before .args in
+    fixedAt (a .sheet) (a .bytes .now) (a .at) (a .kind) ≡ (ltb (c .word-in2 .result) 8 && tyFits (tyAt (a .bytes .now) (a .at + 6)))
 unfolding fixedAt
-returns-3 c = rw (c .before .before .before .if3 .taken, ← c .before .before .word-in2 .ensures, lt-ltb _ _ (c .before .if4 .taken)) (c .type-fits .ensures)
+field-is c = rw (c .before .if3 .taken, ← c .word-in2 .ensures)
+
+returns-3 : tie.Need-returns-3
+returns-3 c = rw (field-is (c .before .before), lt-ltb _ _ (c .before .if4 .taken)) (c .type-fits .ensures)
 
 returns-4 : tie.Need-returns-4
-unfolding fixedAt
-returns-4 c = rw (c .before .before .if3 .taken, ← c .before .word-in2 .ensures, le-ltb _ _ (c .if4 .left))
+returns-4 c = rw (field-is (c .before), le-ltb _ _ (c .if4 .left))
 
-add-type-fits-2 : tie.Need-add-type-fits-2
-add-type-fits-2 c = search needs
-
-type-fits-requires-2 : tie.Need-type-fits-requires-2
-type-fits-requires-2 c κs = let l = start-at 4 (c .if5 .taken) in omega arith
+-- ---- the others
 
 returns-5 : tie.Need-returns-5
 unfolding fixedAt
 returns-5 c = rw (c .before .if5 .taken) (c .type-fits2 .ensures)
-
-add-word-in-3 : tie.Need-add-word-in-3
-add-word-in-3 c = search needs
-
-word-in-requires-3 : tie.Need-word-in-requires-3
-word-in-requires-3 c κs = let l = start-at 7 (c .if6 .taken) in omega arith
 
 returns-6 : tie.Need-returns-6
 unfolding fixedAt
@@ -79,23 +59,23 @@ pub fixed-fits-spec : {M : Type 1} → statement M
 fixed-fits-spec =
     tie.close
     (tie.spec
-    add-word-in
-    word-in-requires
-    class-flags-fit-requires
-    add-result
+    (λ c. search needs)
+    (λ c κs. let l = start-at 1 (c .if1 .taken) in omega arith)
+    (λ c κs. search needs)
+    (λ c. search needs)
     shared-slice-read-result
-    returns
-    returns-2
-    add-word-in-2
-    word-in-requires-2
-    add-type-fits
+    (λ c. rw (class-is (c .before .before), c .before .if2 .taken))
+    (λ c. rw (class-is (c .before), c .if2 .left))
+    (λ c. search needs)
+    (λ c κs. let l = start-at 3 (c .if3 .taken) in omega arith)
+    (λ c. search needs)
     type-fits-requires
     returns-3
     returns-4
-    add-type-fits-2
-    type-fits-requires-2
+    (λ c. search needs)
+    (λ c κs. let l = start-at 4 (c .if5 .taken) in omega arith)
     returns-5
-    add-word-in-3
-    word-in-requires-3
+    (λ c. search needs)
+    (λ c κs. let l = start-at 7 (c .if6 .taken) in omega arith)
     returns-6
     returns-7)

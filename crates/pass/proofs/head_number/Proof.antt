@@ -6,30 +6,6 @@ use borrow.Author.Needs.{needs}
 use Rattle.pass.proofs.head_number.Statement.{statement}
 use Rattle.pass.proofs.head_number.Tie as tie
 
-kind-number-requires : tie.Need-kind-number-requires
-kind-number-requires c κs = search needs
-
-kind-number-requires-2 : tie.Need-kind-number-requires-2
-kind-number-requires-2 c κs = search needs
-
-kind-number-requires-3 : tie.Need-kind-number-requires-3
-kind-number-requires-3 c κs = search needs
-
-kind-number-requires-4 : tie.Need-kind-number-requires-4
-kind-number-requires-4 c κs = search needs
-
-kind-number-requires-5 : tie.Need-kind-number-requires-5
-kind-number-requires-5 c κs = search needs
-
-kind-number-requires-6 : tie.Need-kind-number-requires-6
-kind-number-requires-6 c κs = search needs
-
-kind-number-requires-7 : tie.Need-kind-number-requires-7
-kind-number-requires-7 c κs = search needs
-
-kind-number-requires-8 : tie.Need-kind-number-requires-8
-kind-number-requires-8 c κs = search needs
-
 returns : tie.Need-returns
 returns c = rw (c .before .match .keys1) (c .kind-number .ensures)
 
@@ -63,14 +39,14 @@ pub head-number-spec : {M : Type 1} → statement M
 head-number-spec =
     tie.close
     (tie.spec
-    kind-number-requires
-    kind-number-requires-2
-    kind-number-requires-3
-    kind-number-requires-4
-    kind-number-requires-5
-    kind-number-requires-6
-    kind-number-requires-7
-    kind-number-requires-8
+    (λ c κs. search needs)
+    (λ c κs. search needs)
+    (λ c κs. search needs)
+    (λ c κs. search needs)
+    (λ c κs. search needs)
+    (λ c κs. search needs)
+    (λ c κs. search needs)
+    (λ c κs. search needs)
     returns
     returns-2
     returns-3

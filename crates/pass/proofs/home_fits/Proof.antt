@@ -10,17 +10,18 @@ use Rattle.pass.proofs.home_fits.Tie as tie
 returns : tie.Need-returns
 returns c = rw (home-unknown _ _ (c .if1 .taken))
 
-array-read-home : tie.Need-array-read-home
-array-read-home c = search needs
-
 returns-2 : tie.Need-returns-2
 returns-2 c = rw (home-row _ _ (c .before .before .pre) (suc-le-suc (c .before .if1 .left)), eq-eqb _ _ (c .if2 .taken))
-
-add-result : tie.Need-add-result
-add-result c = search needs
 
 returns-3 : tie.Need-returns-3
 returns-3 c = rw (home-row _ _ (c .before .before .pre) (suc-le-suc (c .before .if1 .left)), ne-eqb _ _ (c .if2 .left))
 
 pub home-fits-spec : {M : Type 1} → statement M
-home-fits-spec = tie.close (tie.spec returns array-read-home returns-2 add-result returns-3)
+home-fits-spec =
+    tie.close
+    (tie.spec
+    returns
+    (λ c. search needs)
+    returns-2
+    (λ c. search needs)
+    returns-3)

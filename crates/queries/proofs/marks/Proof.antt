@@ -1,102 +1,92 @@
--- `verifier::marks`: what `present` tells of the sheets, then the class's overlay markers.
+-- What `present` tells of the sheets, then the class's overlay markers.
 -- Assumes nothing.
-use mathlib.Core.Path.{ap, _∙_}
+use mathlib.Core.Path.{_≡_, sym, ap, _∙_}
+use mathlib.Core.Option.{none, some}
+use Prim.Native.Nat.{_-_}
 use native.Mathlib.Omega.{arith}
+use borrow.Author.Needs.{needs}
+use lib.ListN.{take}
 use Rattle.spec.specs.Sheet.{group as groupOf}
 use Rattle.spec.specs.Promises.{accepted}
+use Rattle.spec.specs.Refusals.{presentRefusal, queryRefusal}
 use Rattle.spec.specs.Classes.{overlay as overlayOf}
-use Rattle.view.proofs.Splice.{plain}
-use Rattle.queries.proofs.Asking.{answer-refused, answer-fine, sheets-refused, class-unused, class-used, fits, indexed, memo-is, lower-numbers}
-use borrow.Author.Needs.{needs}
+use Rattle.groups.specs.Groups.{Indexed}
+use Rattle.form.specs.Form.{refusalOf}
+use Rattle.queries.specs.Answers.{noClass}
+use Rattle.queries.proofs.Asking.{answer-refused, answer-fine, sheets-refused, class-unused, class-used, told, used-there, used-part, indexed, memo-is, lower-numbers}
 use Rattle.queries.proofs.marks.Statement.{statement}
 use Rattle.queries.proofs.marks.Tie as tie
 
-slice-aggregate-present : tie.Need-slice-aggregate-present
-slice-aggregate-present c = search needs
+-- ---- places: the start, the check of the sheets, and what it found
 
-slice-aggregate-present-2 : tie.Need-slice-aggregate-present-2
-slice-aggregate-present-2 c = search needs
-
-present-requires : tie.Need-present-requires
-present-requires c κs = search needs
-
-enum-known-checked : tie.Need-enum-known-checked
-enum-known-checked c = search needs
-
-enum-known-checked-2 : tie.Need-enum-known-checked-2
-enum-known-checked-2 c = search needs
-
--- the start, from the place past the check of the sheets
 abbrev start : tie.After-present → tie.Start
 start c = c .before .before .before .before .before
 
-returns : tie.Need-returns
-returns c =
-    let w = c .before .before .before .before .before .before in
-    let a = start w .args in
-    record { answered = answer-refused _ (class-unused (a .library .now) (a .user .now) (a .used) (a .class) (w .present .ensures) (c .before .before .checked2 .given .1) (omega arith)) }
+abbrev present : tie.After-checked2 → tie.After-present
+present c = c .before .before .before .before
 
-sub-overlay-in-turn : tie.Need-sub-overlay-in-turn
-sub-overlay-in-turn c = search needs
+abbrev entry : tie.After-checked2 → tie.Start
+entry c = start (present c)
 
-part-overlay-in-turn-start : tie.Need-part-overlay-in-turn-start
-part-overlay-in-turn-start c = search needs
+refused-by : (c : tie.After-checked) → let a = start (c .before .before .before .before) .args in
+    queryRefusal (a .library .now) (a .user .now) (a .used) (a .class) ≡ some (refusalOf (c .checked .given .0 .0))
+refused-by c = let w = c .before .before .before .before in let a = start w .args in sheets-refused (a .library .now) (a .user .now) (a .used) (a .class) (w .present .ensures) (c .checked .given .1)
 
-part-overlay-in-turn-end : tie.Need-part-overlay-in-turn-end
-part-overlay-in-turn-end c = search needs
+none-by : (c : tie.After-struct-known) → presentRefusal (entry (c .before .before) .args .library .now) (entry (c .before .before) .args .user .now) (entry (c .before .before) .args .used) ≡ none
+none-by c = let k = c .before .before in let a = entry k .args in told (a .library .now) (a .user .now) (a .used) (present k .present .ensures) (k .checked2 .given .1) .0
 
-slice-aggregate-overlay-in-turn : tie.Need-slice-aggregate-overlay-in-turn
-slice-aggregate-overlay-in-turn c = search needs
+indexed-by : (c : tie.After-checked2) → let a = entry c .args in
+    Indexed (a .library .now) (take (a .used - 0) (a .user .now)) (c .checked2 .given .0 .0 .library) (c .checked2 .given .0 .0 .all) (present c .present .last .1 .1 .1 .0)
+indexed-by c =
+    let a = entry c .args in
+    indexed (a .library .now) (a .user .now) (a .used) (present c .present .ensures) (c .checked2 .given .1) (used-part (a .user .now) (a .used))
 
-slice-aggregate-overlay-in-turn-2 : tie.Need-slice-aggregate-overlay-in-turn-2
-slice-aggregate-overlay-in-turn-2 c = search needs
+unused : (c : tie.Then1) → let a = entry (c .before .before .before) .args in queryRefusal (a .library .now) (a .user .now) (a .used) (a .class) ≡ some noClass
+unused c =
+    let k = c .before .before .before in
+    let a = entry k .args in
+    class-unused (a .library .now) (a .user .now) (a .used) (a .class) (present k .present .ensures) (k .checked2 .given .1) (omega arith)
+
+asked : (c : tie.Else1) → let a = entry (c .before .before .before) .args in queryRefusal (a .library .now) (a .user .now) (a .used) (a .class) ≡ none
+asked c =
+    let k = c .before .before .before in
+    let a = entry k .args in
+    class-used (a .library .now) (a .user .now) (a .used) (a .class) (present k .present .ensures) (k .checked2 .given .1) (omega arith)
+
+-- ---- the needs
 
 overlay-in-turn-requires : tie.Need-overlay-in-turn-requires
 overlay-in-turn-requires c κs =
-    let w = c .before .before .before .before .before .before .before .before .before in
-    let a = start w .args in
-    let e = w .present .ensures in
-    let f = c .before .before .before .before .before .checked2 .given .1 in
-    let q = plain (a .user .now) (a .used) in (
-      fits (a .library .now) (a .user .now) (a .used) e f,
-      (
-        indexed (a .library .now) (a .user .now) (a .used) e f q,
-        (lower-numbers (a .library .now) (a .user .now) (a .used) e f q, (omega arith, memo-is (a .library .now) (a .user .now) (a .used) e f q)),
-      ),
-    )
-
-returns-2 : tie.Need-returns-2
-returns-2 c =
-    let w = c .before .before .before .before .before in
-    let a = start w .args in
-    record { answered = answer-refused _ (sheets-refused (a .library .now) (a .user .now) (a .used) (a .class) (w .present .ensures) (c .before .checked .given .1)) }
+    let k = c .before .before .before .before .before .before in
+    let a = entry k .args in
+    let e = present k .present .ensures in
+    let f = k .checked2 .given .1 in
+    let q = used-part (a .user .now) (a .used) in
+    (indexed-by k, (lower-numbers (a .library .now) (a .user .now) (a .used) e f q, (omega arith, memo-is (a .library .now) (a .user .now) (a .used) e f q)))
 
 returns-3 : tie.Need-returns-3
 returns-3 c =
-    let w = c .before .before .before .before .before .before .before .before .before .before .before in
-    let a = start w .args in
-    let f = c .before .before .before .before .before .before .before .checked2 .given .1 in
-    let q = plain (a .user .now) (a .used) in
-    record {
-      answered = ap accepted (c .before .overlay-in-turn .ensures .0 ∙ ap (λ s. overlayOf (groupOf (a .library .now) s) (a .class)) q)
-          ∙ answer-fine _ (class-used (a .library .now) (a .user .now) (a .used) (a .class) (w .present .ensures) f (omega arith));
-    }
+    let e = c .before .before .before .before .before in
+    let a = entry (e .before .before .before) .args in
+    let s = ap (λ s. overlayOf (groupOf (a .library .now) s) (a .class)) (used-part (a .user .now) (a .used)) in
+    record { answered = ap accepted (c .before .overlay-in-turn .ensures .0 ∙ s) ∙ answer-fine _ (asked e) }
 
 pub marks-spec : {M : Type 1} → statement M
 marks-spec =
     tie.close
     (tie.spec
-    slice-aggregate-present
-    slice-aggregate-present-2
-    present-requires
-    enum-known-checked
-    enum-known-checked-2
-    returns
-    sub-overlay-in-turn
-    part-overlay-in-turn-start
-    part-overlay-in-turn-end
-    slice-aggregate-overlay-in-turn
-    slice-aggregate-overlay-in-turn-2
+    (λ c. search needs)
+    (λ c. search needs)
+    (λ c κs. search needs)
+    (λ c. search needs)
+    (λ c. search needs)
+    (λ c κs. search needs)
+    (λ c. record { answered = answer-refused _ (unused (c .before) ∙ ap some (sym (c .no-class .ensures))) })
+    (λ c. search needs)
+    (λ c. search needs)
+    (λ c. used-there _ _ _ (none-by (c .before)))
+    (λ c. search needs)
+    (λ c. search needs)
     overlay-in-turn-requires
-    returns-2
+    (λ c. record { answered = answer-refused _ (refused-by (c .before)) })
     returns-3)

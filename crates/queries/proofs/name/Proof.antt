@@ -1,80 +1,73 @@
--- `verifier::name`: the bytes at the place that `name_place` gives.
+-- The bytes at the place that `name_place` gives.
 -- Assumes nothing.
+use Prim.Native.Nat.{_+_, _≤_}
 use native.Mathlib.Omega.{arith}
-use Rattle.queries.proofs.Parts.{no-name, small, library-within, user-within, library-name, user-name}
 use borrow.Author.Needs.{needs}
+use Rattle.queries.proofs.Parts.{no-name, small, library-within, user-within, library-name, user-name}
 use Rattle.queries.proofs.name.Statement.{statement}
 use Rattle.queries.proofs.name.Tie as tie
 
-name-place-requires : tie.Need-name-place-requires
-name-place-requires c κs = search needs
+-- ---- places: the start, and where the name's place is known
 
-enum-known-placed : tie.Need-enum-known-placed
-enum-known-placed c = search needs
+abbrev start : tie.After-name-place → tie.Start
+start c = c .before .before .before
 
-enum-told : tie.Need-enum-told
-enum-told c = search needs
+abbrev place : tie.After-known-told → tie.After-name-place
+place c = c .before .before .before
 
-sub-result : tie.Need-sub-result
-sub-result c = search needs
+low : (c : tie.After-known-told) → c .before .placed .given .0 .1 .0 + c .before .placed .given .0 .1 .1 .0 ≤ 32768
+low c = let w = place c in let a = start w .args in small (a .library .now) (a .user .now) (a .used) (a .class) (w .name-place .ensures) (c .before .placed .given .1)
 
-part-result-start : tie.Need-part-result-start
-part-result-start c = search needs
-
-part-result-end : tie.Need-part-result-end
-part-result-end c = search needs
+-- ---- the needs
 
 returns : tie.Need-returns
-returns c = no-name (c .before .before .before .before .before .before .args .library .now) (c .before .before .before .before .before .before .args .user .now) (c .before .before .before .before .before .before .args .used) (c .before .before .before .before .before .before .args .class) (c .before .before .before .name-place .ensures) (c .before .enum-told .given .1)
-
-add-result : tie.Need-add-result
-add-result c = omega (arith, small (c .before .before .before .before .before .before .before .args .library .now) (c .before .before .before .before .before .before .before .args .user .now) (c .before .before .before .before .before .before .before .args .used) (c .before .before .before .before .before .before .before .args .class) (c .before .before .before .before .name-place .ensures) (c .before .before .placed .given .1))
-
-sub-result-2 : tie.Need-sub-result-2
-sub-result-2 c = search needs
-
-part-result-start-2 : tie.Need-part-result-start-2
-part-result-start-2 c = search needs
+returns c =
+    let w = c .before .before .before in
+    let a = start w .args in
+    no-name (a .library .now) (a .user .now) (a .used) (a .class) (w .name-place .ensures) (c .before .enum-told .given .1)
 
 part-result-end-2 : tie.Need-part-result-end-2
-part-result-end-2 c = library-within (c .before .before .before .before .before .before .before .args .library .now) (c .before .before .before .before .before .before .before .args .user .now) (c .before .before .before .before .before .before .before .args .used) (c .before .before .before .before .before .before .before .args .class) (c .before .before .before .before .name-place .ensures) (c .before .before .placed .given .1) (c .if1 .taken)
+part-result-end-2 c =
+    let k = c .before in
+    let a = start (place k) .args in
+    library-within (a .library .now) (a .user .now) (a .used) (a .class) (place k .name-place .ensures) (k .before .placed .given .1) (c .if1 .taken)
 
 returns-2 : tie.Need-returns-2
-returns-2 c = library-name (c .before .before .before .before .before .before .before .before .args .library .now) (c .before .before .before .before .before .before .before .before .args .user .now) (c .before .before .before .before .before .before .before .before .args .used) (c .before .before .before .before .before .before .before .before .args .class) (c .before .before .before .before .before .name-place .ensures) (c .before .before .before .placed .given .1) (c .before .if1 .taken)
-
-add-result-2 : tie.Need-add-result-2
-add-result-2 c = omega (arith, small (c .before .before .before .before .before .before .before .args .library .now) (c .before .before .before .before .before .before .before .args .user .now) (c .before .before .before .before .before .before .before .args .used) (c .before .before .before .before .before .before .before .args .class) (c .before .before .before .before .name-place .ensures) (c .before .before .placed .given .1))
-
-sub-result-3 : tie.Need-sub-result-3
-sub-result-3 c = search needs
-
-part-result-start-3 : tie.Need-part-result-start-3
-part-result-start-3 c = search needs
+returns-2 c =
+    let k = c .before .before in
+    let a = start (place k) .args in
+    library-name (a .library .now) (a .user .now) (a .used) (a .class) (place k .name-place .ensures) (k .before .placed .given .1) (c .before .if1 .taken)
 
 part-result-end-3 : tie.Need-part-result-end-3
-part-result-end-3 c = user-within (c .before .before .before .before .before .before .before .args .library .now) (c .before .before .before .before .before .before .before .args .user .now) (c .before .before .before .before .before .before .before .args .used) (c .before .before .before .before .before .before .before .args .class) (c .before .before .before .before .name-place .ensures) (c .before .before .placed .given .1) (c .if1 .left)
+part-result-end-3 c =
+    let k = c .before in
+    let a = start (place k) .args in
+    user-within (a .library .now) (a .user .now) (a .used) (a .class) (place k .name-place .ensures) (k .before .placed .given .1) (c .if1 .left)
 
 returns-3 : tie.Need-returns-3
-returns-3 c = user-name (c .before .before .before .before .before .before .before .before .args .library .now) (c .before .before .before .before .before .before .before .before .args .user .now) (c .before .before .before .before .before .before .before .before .args .used) (c .before .before .before .before .before .before .before .before .args .class) (c .before .before .before .before .before .name-place .ensures) (c .before .before .before .placed .given .1) (c .before .if1 .left)
+returns-3 c =
+    let k = c .before .before in
+    let a = start (place k) .args in
+    user-name (a .library .now) (a .user .now) (a .used) (a .class) (place k .name-place .ensures) (k .before .placed .given .1) (c .before .if1 .left)
 
 pub name-spec : {M : Type 1} → statement M
 name-spec =
     tie.close
     (tie.spec
-    name-place-requires
-    enum-known-placed
-    enum-told
-    sub-result
-    part-result-start
-    part-result-end
+    (λ c κs. search needs)
+    (λ c. search needs)
+    (λ c. search needs)
+    (λ c. search needs)
+    (λ c. search needs)
+    (λ c. search needs)
     returns
-    add-result
-    sub-result-2
-    part-result-start-2
+    (λ c. omega (arith, low (c .before)))
+    (λ c. search needs)
+    (λ c. search needs)
     part-result-end-2
     returns-2
-    add-result-2
-    sub-result-3
-    part-result-start-3
+    (λ c. omega (arith, low (c .before)))
+    (λ c. search needs)
+    (λ c. search needs)
     part-result-end-3
     returns-3)

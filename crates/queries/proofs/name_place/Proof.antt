@@ -1,103 +1,105 @@
--- `verifier::name_place`: what `present` tells of the sheets, then the place that the row of starts gives.
+-- What `present` tells of the sheets, then the place that the row of starts gives.
 -- Assumes nothing.
-use mathlib.Core.Path.{ap, _∙_}
+use mathlib.Core.Path.{_≡_, sym, ap, _∙_}
+use mathlib.Core.Option.{none, some}
+use Prim.Native.Nat.{_-_, _<_}
 use native.Mathlib.Omega.{arith}
-use Rattle.spec.specs.Promises.{accepted, namePart}
-use Rattle.view.proofs.Splice.{plain}
-use Rattle.groups.proofs.Classes.{class-low, class-long, size-read}
-use Rattle.queries.proofs.Asking.{answer-refused, answer-fine, sheets-refused, class-unused, class-used, fits, indexed}
-use Rattle.queries.proofs.Parts.{part-read}
 use borrow.Author.Needs.{needs}
+use lib.ListN.{take}
+use Rattle.spec.specs.Promises.{accepted, namePart}
+use Rattle.spec.specs.Refusals.{presentRefusal, queryRefusal}
+use Rattle.groups.specs.Groups.{Indexed}
+use Rattle.groups.proofs.Held.{class-long, size-read}
+use Rattle.form.specs.Form.{refusalOf}
+use Rattle.queries.specs.Answers.{noClass}
+use Rattle.queries.proofs.Asking.{answer-refused, answer-fine, sheets-refused, class-unused, class-used, told, used-there, used-part, indexed}
+use Rattle.queries.proofs.Parts.{part-read}
 use Rattle.queries.proofs.name_place.Statement.{statement}
 use Rattle.queries.proofs.name_place.Tie as tie
 
-slice-aggregate-present : tie.Need-slice-aggregate-present
-slice-aggregate-present c = search needs
+-- ---- places: the start, the check of the sheets, and what it found
 
-slice-aggregate-present-2 : tie.Need-slice-aggregate-present-2
-slice-aggregate-present-2 c = search needs
+abbrev start : tie.After-present → tie.Start
+start c = c .before .before .before .before .before
 
-present-requires : tie.Need-present-requires
-present-requires c κs = search needs
+abbrev present : tie.After-checked2 → tie.After-present
+present c = c .before .before .before .before
 
-enum-known-checked : tie.Need-enum-known-checked
-enum-known-checked c = search needs
+abbrev entry : tie.After-checked2 → tie.Start
+entry c = start (present c)
 
-enum-known-checked-2 : tie.Need-enum-known-checked-2
-enum-known-checked-2 c = search needs
+refused-by : (c : tie.After-checked) → let a = start (c .before .before .before .before) .args in
+    queryRefusal (a .library .now) (a .user .now) (a .used) (a .class) ≡ some (refusalOf (c .checked .given .0 .0))
+refused-by c = let w = c .before .before .before .before in let a = start w .args in sheets-refused (a .library .now) (a .user .now) (a .used) (a .class) (w .present .ensures) (c .checked .given .1)
 
-returns : tie.Need-returns
-returns c = record { answered = answer-refused _ (class-unused (c .before .before .before .before .before .before .before .before .before .before .before .args .library .now) (c .before .before .before .before .before .before .before .before .before .before .before .args .user .now) (c .before .before .before .before .before .before .before .before .before .before .before .args .used) (c .before .before .before .before .before .before .before .before .before .before .before .args .class) (c .before .before .before .before .before .before .present .ensures) (c .before .before .checked2 .given .1) (omega (arith, c .if1 .taken))) }
+none-by : (c : tie.After-struct-known) → presentRefusal (entry (c .before .before) .args .library .now) (entry (c .before .before) .args .user .now) (entry (c .before .before) .args .used) ≡ none
+none-by c = let k = c .before .before in let a = entry k .args in told (a .library .now) (a .user .now) (a .used) (present k .present .ensures) (k .checked2 .given .1) .0
 
-sub-none : tie.Need-sub-none
-sub-none c = search needs
+indexed-by : (c : tie.After-checked2) → let a = entry c .args in
+    Indexed (a .library .now) (take (a .used - 0) (a .user .now)) (c .checked2 .given .0 .0 .library) (c .checked2 .given .0 .0 .all) (present c .present .last .1 .1 .1 .0)
+indexed-by c =
+    let a = entry c .args in
+    indexed (a .library .now) (a .user .now) (a .used) (present c .present .ensures) (c .checked2 .given .1) (used-part (a .user .now) (a .used))
 
-part-none-start : tie.Need-part-none-start
-part-none-start c = search needs
+unused : (c : tie.Then1) → let a = entry (c .before .before .before) .args in queryRefusal (a .library .now) (a .user .now) (a .used) (a .class) ≡ some noClass
+unused c =
+    let k = c .before .before .before in
+    let a = entry k .args in
+    class-unused (a .library .now) (a .user .now) (a .used) (a .class) (present k .present .ensures) (k .checked2 .given .1) (omega arith)
 
-part-none-end : tie.Need-part-none-end
-part-none-end c = search needs
+asked : (c : tie.Else1) → let a = entry (c .before .before .before) .args in queryRefusal (a .library .now) (a .user .now) (a .used) (a .class) ≡ none
+asked c =
+    let k = c .before .before .before in
+    let a = entry k .args in
+    class-used (a .library .now) (a .user .now) (a .used) (a .class) (present k .present .ensures) (k .checked2 .given .1) (omega arith)
 
-sheet-of-requires : tie.Need-sheet-of-requires
-sheet-of-requires c κs = search needs
+there : (c : tie.Else1) → entry (c .before .before .before) .args .class < c .before .before .before .checked2 .given .0 .0 .all
+there c = omega arith
 
-slice-aggregate-group-start : tie.Need-slice-aggregate-group-start
-slice-aggregate-group-start c = search needs
+-- ---- the needs
 
-group-start-requires : tie.Need-group-start-requires
-group-start-requires c κs = (fits (c .before .before .before .before .before .before .before .before .before .before .before .before .before .before .args .library .now) (c .before .before .before .before .before .before .before .before .before .before .before .before .before .before .args .user .now) (c .before .before .before .before .before .before .before .before .before .before .before .before .before .before .args .used) (c .before .before .before .before .before .before .before .before .before .present .ensures) (c .before .before .before .before .before .checked2 .given .1), (indexed (c .before .before .before .before .before .before .before .before .before .before .before .before .before .before .args .library .now) (c .before .before .before .before .before .before .before .before .before .before .before .before .before .before .args .user .now) (c .before .before .before .before .before .before .before .before .before .before .before .before .before .before .args .used) (c .before .before .before .before .before .before .before .before .before .present .ensures) (c .before .before .before .before .before .checked2 .given .1) (plain (c .before .before .before .before .before .before .before .before .before .before .before .before .before .before .args .user .now) (c .before .before .before .before .before .before .before .before .before .before .before .before .before .before .args .used)), omega (arith, c .before .before .before .if1 .left)))
-
-slice-aggregate-class-word : tie.Need-slice-aggregate-class-word
-slice-aggregate-class-word c = search needs
-
-class-word-requires : tie.Need-class-word-requires
-class-word-requires c κs =
-    let x = indexed (c .before .before .before .before .before .before .before .before .before .before .before .before .before .before .before .before .args .library .now) (c .before .before .before .before .before .before .before .before .before .before .before .before .before .before .before .before .args .user .now) (c .before .before .before .before .before .before .before .before .before .before .before .before .before .before .before .before .args .used) (c .before .before .before .before .before .before .before .before .before .before .before .present .ensures) (c .before .before .before .before .before .before .before .checked2 .given .1) (plain (c .before .before .before .before .before .before .before .before .before .before .before .before .before .before .before .before .args .user .now) (c .before .before .before .before .before .before .before .before .before .before .before .before .before .before .before .before .args .used)) in
-    (fits (c .before .before .before .before .before .before .before .before .before .before .before .before .before .before .before .before .args .library .now) (c .before .before .before .before .before .before .before .before .before .before .before .before .before .before .before .before .args .user .now) (c .before .before .before .before .before .before .before .before .before .before .before .before .before .before .before .before .args .used) (c .before .before .before .before .before .before .before .before .before .before .before .present .ensures) (c .before .before .before .before .before .before .before .checked2 .given .1), (x, (omega (arith, c .before .before .before .before .before .if1 .left), omega arith)))
-
-add-t25 : tie.Need-add-t25
-add-t25 c =
-    let x = indexed (c .before .before .before .before .before .before .before .before .before .before .before .before .before .before .before .before .before .args .library .now) (c .before .before .before .before .before .before .before .before .before .before .before .before .before .before .before .before .before .args .user .now) (c .before .before .before .before .before .before .before .before .before .before .before .before .before .before .before .before .before .args .used) (c .before .before .before .before .before .before .before .before .before .before .before .before .present .ensures) (c .before .before .before .before .before .before .before .before .checked2 .given .1) (plain (c .before .before .before .before .before .before .before .before .before .before .before .before .before .before .before .before .before .args .user .now) (c .before .before .before .before .before .before .before .before .before .before .before .before .before .before .before .before .before .args .used)) in
-    omega (arith, c .before .before .group-start .ensures, class-low x {c = c .before .before .before .before .before .before .before .before .before .before .before .before .before .before .before .before .before .args .class} (omega (arith, c .before .before .before .before .before .before .if1 .left)))
-
-cast-t31 : tie.Need-cast-t31
-cast-t31 c = search needs
-
-sub-t32 : tie.Need-sub-t32
-sub-t32 c =
-    let x = indexed (c .before .before .before .before .before .before .before .before .before .before .before .before .before .before .before .before .before .args .library .now) (c .before .before .before .before .before .before .before .before .before .before .before .before .before .before .before .before .before .args .user .now) (c .before .before .before .before .before .before .before .before .before .before .before .before .before .before .before .before .before .args .used) (c .before .before .before .before .before .before .before .before .before .before .before .before .present .ensures) (c .before .before .before .before .before .before .before .before .checked2 .given .1) (plain (c .before .before .before .before .before .before .before .before .before .before .before .before .before .before .before .before .before .args .user .now) (c .before .before .before .before .before .before .before .before .before .before .before .before .before .before .before .before .before .args .used)) in
-    omega (arith, size-read x {c = c .before .before .before .before .before .before .before .before .before .before .before .before .before .before .before .before .before .args .class} (omega (arith, c .before .before .before .before .before .before .if1 .left)) (c .class-word .ensures), class-long x {c = c .before .before .before .before .before .before .before .before .before .before .before .before .before .before .before .before .before .args .class} (omega (arith, c .before .before .before .before .before .before .if1 .left)))
-
-returns-2 : tie.Need-returns-2
-returns-2 c = record { answered = answer-refused _ (sheets-refused (c .before .before .before .before .before .before .before .before .before .before .args .library .now) (c .before .before .before .before .before .before .before .before .before .before .args .user .now) (c .before .before .before .before .before .before .before .before .before .before .args .used) (c .before .before .before .before .before .before .before .before .before .before .args .class) (c .before .before .before .before .before .present .ensures) (c .before .checked .given .1)) }
+sub-t30 : tie.Need-sub-t30
+sub-t30 c =
+    let e = c .before .before .before .before .before .before in
+    let x = indexed-by (e .before .before .before) in
+    omega (arith, c .wide2 .ensures .0, size-read x (there e) (c .before .class-word .ensures), class-long x (there e))
 
 returns-3 : tie.Need-returns-3
-returns-3 c = record {
-  answered = ap accepted (part-read (indexed (c .before .before .before .before .before .before .before .before .before .before .before .before .before .before .before .before .before .args .library .now) (c .before .before .before .before .before .before .before .before .before .before .before .before .before .before .before .before .before .args .user .now) (c .before .before .before .before .before .before .before .before .before .before .before .before .before .before .before .before .before .args .used) (c .before .before .before .before .before .before .before .before .before .before .before .before .present .ensures) (c .before .before .before .before .before .before .before .before .checked2 .given .1) (plain (c .before .before .before .before .before .before .before .before .before .before .before .before .before .before .before .before .before .args .user .now) (c .before .before .before .before .before .before .before .before .before .before .before .before .before .before .before .before .before .args .used))) {c = c .before .before .before .before .before .before .before .before .before .before .before .before .before .before .before .before .before .args .class} (omega (arith, c .before .before .before .before .before .before .if1 .left)) (c .before .before .before .before .sheet-of .ensures) (c .before .before .group-start .ensures) (c .class-word .ensures))
-      ∙ ap (λ s. accepted (namePart (c .before .before .before .before .before .before .before .before .before .before .before .before .before .before .before .before .before .args .library .now) s (c .before .before .before .before .before .before .before .before .before .before .before .before .before .before .before .before .before .args .class))) (plain (c .before .before .before .before .before .before .before .before .before .before .before .before .before .before .before .before .before .args .user .now) (c .before .before .before .before .before .before .before .before .before .before .before .before .before .before .before .before .before .args .used))
-      ∙ answer-fine _ (class-used (c .before .before .before .before .before .before .before .before .before .before .before .before .before .before .before .before .before .args .library .now) (c .before .before .before .before .before .before .before .before .before .before .before .before .before .before .before .before .before .args .user .now) (c .before .before .before .before .before .before .before .before .before .before .before .before .before .before .before .before .before .args .used) (c .before .before .before .before .before .before .before .before .before .before .before .before .before .before .before .before .before .args .class) (c .before .before .before .before .before .before .before .before .before .before .before .before .present .ensures) (c .before .before .before .before .before .before .before .before .checked2 .given .1) (omega (arith, c .before .before .before .before .before .before .if1 .left)));
-}
+returns-3 c =
+    let w = c .before in
+    let s = w .before .before .before .before in
+    let e = s .before in
+    let k = e .before .before .before in
+    let a = entry k .args in
+    let x = indexed-by k in
+    record {
+      answered = ap accepted (part-read x (there e) (s .sheet-of .ensures) (w .before .before .before .wide .ensures .0 ∙ x .starts _ (there e)) (c .wide2 .ensures .0 ∙ w .class-word .ensures))
+          ∙ ap (λ s. accepted (namePart (a .library .now) s (a .class))) (used-part (a .user .now) (a .used))
+          ∙ answer-fine _ (asked e);
+    }
 
 pub name-place-spec : {M : Type 1} → statement M
 name-place-spec =
     tie.close
     (tie.spec
-    slice-aggregate-present
-    slice-aggregate-present-2
-    present-requires
-    enum-known-checked
-    enum-known-checked-2
-    returns
-    sub-none
-    part-none-start
-    part-none-end
-    sheet-of-requires
-    slice-aggregate-group-start
-    group-start-requires
-    slice-aggregate-class-word
-    class-word-requires
-    add-t25
-    cast-t31
-    sub-t32
-    returns-2
+    (λ c. search needs)
+    (λ c. search needs)
+    (λ c κs. search needs)
+    (λ c. search needs)
+    (λ c. search needs)
+    (λ c κs. search needs)
+    (λ c. record { answered = answer-refused _ (unused (c .before) ∙ ap some (sym (c .no-class .ensures))) })
+    (λ c κs. search needs)
+    (λ c. let x = indexed-by (c .before .before .before .before) in omega (arith, x .few, there (c .before)))
+    (λ c. let x = indexed-by (c .before .before .before .before) in omega (arith, x .few, there (c .before)))
+    (λ c κs. search needs)
+    (λ c. search needs)
+    (λ c. search needs)
+    (λ c. used-there _ _ _ (none-by (c .before .before .before)))
+    (λ c. search needs)
+    (λ c κs. (indexed-by (c .before .before .before .before .before .before .before), (there (c .before .before .before .before), omega arith)))
+    (λ c. search needs)
+    (λ c κs. search needs)
+    sub-t30
+    (λ c. record { answered = answer-refused _ (refused-by (c .before)) })
     returns-3)

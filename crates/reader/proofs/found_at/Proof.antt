@@ -8,9 +8,6 @@ use Rattle.reader.proofs.found_at.Tie as tie
 returns : tie.Need-returns
 returns c = found-end _ _ (c .if1 .taken)
 
-whole-length-requires : tie.Need-whole-length-requires
-whole-length-requires c κs = search needs
-
 returns-2 : tie.Need-returns-2
 returns-2 c = found-broken _ _ (c .before .before .if1 .left) (c .before .whole-length .ensures .0) (c .if2 .taken)
 
@@ -18,4 +15,10 @@ returns-3 : tie.Need-returns-3
 returns-3 c = found-record _ _ (c .before .before .if1 .left) (c .before .whole-length .ensures .0) (c .if2 .left)
 
 pub found-at-spec : {M : Type 1} → statement M
-found-at-spec = tie.close (tie.spec returns whole-length-requires returns-2 returns-3)
+found-at-spec =
+    tie.close
+    (tie.spec
+    returns
+    (λ c κs. search needs)
+    returns-2
+    returns-3)

@@ -1,4 +1,5 @@
--- `moved` meets its contract: a walk of its MIR, by hand. The reader is taken apart, `after_at` is called on its slice and its number, and the slice with the number that it answers makes the reader handed back.
+-- `moved` meets its contract: a walk of its MIR, by hand. The reader is taken apart, `after_at` is called on its slice and its number, and the slice
+-- with the number that it answers makes the reader handed back.
 -- Assumes nothing.
 use mathlib.Core.Path.{_≡_, refl, ap}
 use Prim.Native.Nat.{ℕ, _<_, _^_}
@@ -62,10 +63,12 @@ module _ {M : Type 1} (𝓤 : URA M) (H : Heap 𝓤) (A : Atoms 𝓤) (W : Given
     exits r e ok =
         qed W (token A κ q ∷ ‵ (readerOwn κ d) ∷ []) ∵ move ! (1 ∷ []) $ use1 W (‵ (sliceOwn κ (d .bytes)) ⊛ ‵ (readerOwn κ d)) (slice-out 𝓤 H A W κ d) $ split ! $
         use1 W (‵ (readerOwn κ (d′ r))) (reader-in 𝓤 H A W κ (d .bytes) r ok) $ nothing ! $ move ! (2 ∷ 0 ∷ []) $ fjoin ! $ move ! (1 ∷ 2 ∷ 0 ∷ []) $
-        by ! (ends 𝓤 H A W moved.ended stayed (moved.clauses 𝓤 H A mem run) (((κ, tt), (q, tt), tt, (d, tt), (T′.lowered d ∷ [], tt)), tt) (T′.lowered (d′ r)) (d′ r) (tt, tt) (tt, tt) (factI 𝓤 _ (emp 𝓤) (refl, e)))
+        by ! (ends 𝓤 H A W moved.ended stayed (moved.clauses 𝓤 H A mem run) (((κ, tt), (q, tt), tt, (d, tt), (T′.lowered d ∷ [], tt)), tt) (T′.lowered (d′ r)) (d′ r) (tt, tt) (tt, tt)
+        (factI 𝓤 _ (emp 𝓤) (refl, e)))
 
     module _ (𝓣 : Tables 𝓤 H) (known : Triple 𝓤 (𝓣 .C #reader·after-at) AfterAt) where
-      walk : Holds (hasTy (T′.mir (named 0)) (T′.lowered d)) × WT (T′.lowered d) → ent 𝓤 (onEntry 𝓤 H A moved.signature (κ, tt) (q, tt) (d, tt) (T′.lowered d ∷ [], tt)) (WpFn 𝓤 H (𝓣 .C) (𝓣 .Λ) code.function (T′.lowered d ∷ []) Post)
+      walk : Holds (hasTy (T′.mir (named 0)) (T′.lowered d)) × WT (T′.lowered d)
+          → ent 𝓤 (onEntry 𝓤 H A moved.signature (κ, tt) (q, tt) (d, tt) (T′.lowered d ∷ [], tt)) (WpFn 𝓤 H (𝓣 .C) (𝓣 .Λ) code.function (T′.lowered d ∷ []) Post)
       walk wt =
           qed W (raw (onEntry 𝓤 H A moved.signature (κ, tt) (q, tt) (d, tt) (T′.lowered d ∷ [], tt)) ∷ []) ∵ enter ! (𝓣 .C) (𝓣 .Λ) code.function (T′.lowered d ∷ []) _ $
           alloc1 ! (λ l₀. alloc1 ! (λ l₁. alloc1 ! (λ l₂. alloc1 ! (λ l₃. alloc1 ! (λ l₄. alloc1 ! (λ l₅. alloc0 ! $ params1 ! $ pass1 ! (init ! 8 refl wt) $ pass0 ! $
@@ -79,9 +82,11 @@ module _ {M : Type 1} (𝓤 : URA M) (H : Heap 𝓤) (A : Atoms 𝓤) (W : Given
           -- [the number; the token; the reader; room for _5; …]
           land ! (from ! (stop !)) (init ! 9 refl (uint-lawful 𝓤 H A W w64 .typed r _ is .0)) $ rewrite ! 9 (λ (z : Val). ‵ (fat fullShare (tyInt w64) l₂ 0 z)) (ap only (is .0)) refl $
           assigns ! (of-opd ! (load ! (from ! (fld ! refl (stop !))) (look-in ! 11 (sub ! 0 refl (whole !))))) (from ! (stop !)) (init ! 3 refl (tt, wt .1 .0)) $
-          assigns ! (agg ! (and-then ! (load ! (from ! (stop !)) (look ! 3 refl)) (and-then ! (load ! (from ! (stop !)) (look ! 9 refl)) (no-more !)))) (from ! (stop !)) (init ! 13 refl (tt, (wt .1 .0, (record { fits = is .1 }, tt)))) $
+          assigns ! (agg ! (and-then ! (load ! (from ! (stop !)) (look ! 3 refl)) (and-then ! (load ! (from ! (stop !)) (look ! 9 refl)) (no-more !)))) (from ! (stop !))
+          (init ! 13 refl (tt, (wt .1 .0, (record { fits = is .1 }, tt)))) $
           returns ! (look ! 13 refl) $ forget ! 3 refl $ forget ! 5 refl $ forget ! 7 refl $ forget ! 9 refl $ forget ! 11 refl $ forget ! 13 refl $
-          move ! (13 ∷ 14 ∷ []) $ free1 ! $ move ! (11 ∷ 12 ∷ []) $ free1 ! $ move ! (9 ∷ 10 ∷ []) $ free1 ! $ move ! (7 ∷ 8 ∷ []) $ free1 ! $ move ! (5 ∷ 6 ∷ []) $ free1 ! $ move ! (3 ∷ 4 ∷ []) $ free1 ! $ free0 ! $
+          move ! (13 ∷ 14 ∷ []) $ free1 ! $ move ! (11 ∷ 12 ∷ []) $ free1 ! $ move ! (9 ∷ 10 ∷ []) $ free1 ! $ move ! (7 ∷ 8 ∷ []) $ free1 ! $ move ! (5 ∷ 6 ∷ []) $ free1 ! $ move ! (3 ∷ 4 ∷ []) $
+          free1 ! $ free0 ! $
           keep ! (1 ∷ 2 ∷ []) $ by ! (exits r e (is .1)))))))))
 
   moved-meets : (𝓣 : Tables 𝓤 H) → Triple 𝓤 (𝓣 .C #reader·after-at) AfterAt → Meets 𝓤 H A moved.signature (WpFn 𝓤 H (𝓣 .C) (𝓣 .Λ) code.function) (moved.spec 𝓤 H A mem run)

@@ -9,11 +9,13 @@ use Rattle.reader.proofs.moves.Tie as tie
 returns : tie.Need-returns
 returns c = moves-not _ _ _ _ (omega arith)
 
-whole-length-requires : tie.Need-whole-length-requires
-whole-length-requires c κs = search needs
-
 returns-2 : tie.Need-returns-2
 returns-2 c = moves-is _ _ _ _ (omega arith) (c .whole-length .ensures .0)
 
 pub moves-spec : {M : Type 1} → statement M
-moves-spec = tie.close (tie.spec returns whole-length-requires returns-2)
+moves-spec =
+    tie.close
+    (tie.spec
+    returns
+    (λ c κs. search needs)
+    returns-2)

@@ -54,9 +54,11 @@ module _ {M : Type 1} (𝓤 : URA M) (H : Heap 𝓤) (A : Atoms 𝓤) (W : Given
         use1 W (‵ (sliceOwn κ s) ⊛ ‵ (sliceOwn κ s)) (slice-twice 𝓤 H A W κ s) $ split ! $ use1 W (‵ (readerOwn κ made)) (reader-in 𝓤 H A W κ s 0 (lit< tt)) $
         -- [the reader; the slice; nothing; the token]
         move ! (1 ∷ 2 ∷ []) $ fjoin ! $ move ! (1 ∷ 2 ∷ 0 ∷ []) $
-        by ! (ends 𝓤 H A W new.ended stayed (new.clauses 𝓤 H A mem run) (((κ, tt), (q, tt), tt, (s, tt), (val s ∷ [], tt)), tt) (T′.lowered made) made (tt, tt) (tt, tt) (factI 𝓤 _ (emp 𝓤) (refl, refl)))
+        by ! (ends 𝓤 H A W new.ended stayed (new.clauses 𝓤 H A mem run) (((κ, tt), (q, tt), tt, (s, tt), (val s ∷ [], tt)), tt) (T′.lowered made) made (tt, tt) (tt, tt)
+        (factI 𝓤 _ (emp 𝓤) (refl, refl)))
 
-    walk : (𝓣 : Tables 𝓤 H) → Is (ShrSlice (named 0) κ u8) s (val s ∷ []) → ent 𝓤 (onEntry 𝓤 H A new.signature (κ, tt) (q, tt) (s, tt) (val s ∷ [], tt)) (WpFn 𝓤 H (𝓣 .C) (𝓣 .Λ) code.function (val s ∷ []) Post)
+    walk : (𝓣 : Tables 𝓤 H) → Is (ShrSlice (named 0) κ u8) s (val s ∷ [])
+        → ent 𝓤 (onEntry 𝓤 H A new.signature (κ, tt) (q, tt) (s, tt) (val s ∷ [], tt)) (WpFn 𝓤 H (𝓣 .C) (𝓣 .Λ) code.function (val s ∷ []) Post)
     walk 𝓣 p =
         let wt = shr-slice-lawful 𝓤 H A W (named 0) κ u8 .typed s (val s ∷ []) p .0 in
         qed W (raw (onEntry 𝓤 H A new.signature (κ, tt) (q, tt) (s, tt) (val s ∷ [], tt)) ∷ []) ∵ enter ! (𝓣 .C) (𝓣 .Λ) code.function (val s ∷ []) _ $

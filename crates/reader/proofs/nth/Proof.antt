@@ -24,7 +24,8 @@ use contract.Monad.{Fun, factI}
 use contract.Running.{givenOf, tables, tablesOf}
 use types.Kit.{Given, Item, ‵, _⊛_, ⋆, runs, anyQ, atRet, Sq, _$_, _∵_, !, qed, by, move, use1, split, rewrite, fsplit, fjoin, drop, done}
 use types.Part.{whole, sub, look-in}
-use types.Run.{look, store, init, forget, stop, fld, from, load, lit, of-opd, bin, and-then, no-more, assigns, assigns-last, land, first, skips, jumps, blocks, branches, returns, enter, alloc1, alloc0, params1, pass1, pass0, free1, free0, exec, Below, again, loops}
+use types.Run.{look, store, init, forget, stop, fld, from, load, lit, of-opd, bin, and-then, no-more, assigns, assigns-last, land}
+use types.Run.{first, skips, jumps, blocks, branches, returns, enter, alloc1, alloc0, params1, pass1, pass0, free1, free0, exec, Below, again, loops}
 use sound.WpLaws.{fmOf}
 use denote.RattleType.{owns}
 use denote.Laws.{Is, shows}
@@ -118,7 +119,8 @@ module _ {M : Type 1} (𝓤 : URA M) (H : Heap 𝓤) (A : Atoms 𝓤) (W : Given
 
     exits : (r : Found) (u : Val) → r ≡ foundAt (now s) (nthAt (now s) n) → ent 𝓤 (⋆ 𝓤 H A (‵ (F.the-row .own r (u ∷ [])) ∷ token A κ q ∷ ‵ (sliceOwn κ s) ∷ [])) (Post u)
     exits r u e =
-        qed W (‵ (F.the-row .own r (u ∷ [])) ∷ token A κ q ∷ ‵ (sliceOwn κ s) ∷ []) ∵ nothing ! $ owned ! usize (Is usize) (uint-makes 𝓤 H A W w64) n _ (refl, gn) $ fjoin ! $ move ! (3 ∷ 0 ∷ []) $ fjoin ! $ move ! (1 ∷ 2 ∷ 0 ∷ []) $
+        qed W (‵ (F.the-row .own r (u ∷ [])) ∷ token A κ q ∷ ‵ (sliceOwn κ s) ∷ []) ∵ nothing ! $ owned ! usize (Is usize) (uint-makes 𝓤 H A W w64) n _ (refl, gn) $ fjoin ! $ move ! (3 ∷ 0 ∷ []) $
+        fjoin ! $ move ! (1 ∷ 2 ∷ 0 ∷ []) $
         by ! (ends 𝓤 H A W nth.ended stayed (nth.clauses 𝓤 H A mem run) (((κ, tt), (q, tt), tt, (s, (n, tt)), at), tt) u r (tt, (tt, tt)) (tt, (tt, tt)) (factI 𝓤 _ (emp 𝓤) e))
 
     -- the loop's variant: how far i is from n
@@ -144,7 +146,8 @@ module _ {M : Type 1} (𝓤 : URA M) (H : Heap 𝓤) (A : Atoms 𝓤) (W : Given
         owned ! usize (Is usize) (uint-makes 𝓤 H A W w64) n _ (refl, gn) $ fjoin ! $ owned ! usize (Is usize) (uint-makes 𝓤 H A W w64) (i .0) _ (refl, lt-of-le-of-lt (i .1) gn) $ fjoin ! $
         owned ! usize (Is usize) (uint-makes 𝓤 H A W w64) (nthAt (now s) (i .0)) _ (refl, fits) $ fjoin ! $ move ! (1 ∷ 0 ∷ []) $ fjoin ! $ done !
 
-    module _ (𝓣 : Tables 𝓤 H) (known-moves : Triple 𝓤 (𝓣 .C #reader·moves) Moves) (known-moved : Triple 𝓤 (𝓣 .C #reader·moved) Moved) (known-read : Triple 𝓤 (𝓣 .C #reader·read) Read) (l₀ l₁ l₂ l₃ l₄ l₅ l₆ l₇ l₈ l₉ : ℕ) where
+    module _ (𝓣 : Tables 𝓤 H) (known-moves : Triple 𝓤 (𝓣 .C #reader·moves) Moves) (known-moved : Triple 𝓤 (𝓣 .C #reader·moved) Moved) (known-read : Triple 𝓤 (𝓣 .C #reader·read) Read)
+        (l₀ l₁ l₂ l₃ l₄ l₅ l₆ l₇ l₈ l₉ : ℕ) where
       abbrev C : Calls 𝓤 H
       C = 𝓣 .C
 
@@ -157,7 +160,8 @@ module _ {M : Type 1} (𝓤 : URA M) (H : Heap 𝓤) (A : Atoms 𝓤) (W : Given
       -- what is had throughout, then the locals from the last one down, with `count` for the cell of i
       abbrev Cells : ℕ → Item 𝓤 → List (Item 𝓤)
       Cells i count = token A κ q ∷ ‵ (readerOwn κ (d i)) ∷ ‵ (sliceOwn κ s)
-          ∷ ‵ (froom readerTy l₉ 0) ∷ ‵ (fdies readerTy l₉) ∷ ‵ (froom readerTy l₈ 0) ∷ ‵ (fdies readerTy l₈) ∷ ‵ (froom word l₇ 0) ∷ ‵ (fdies word l₇) ∷ ‵ (froom sliceTyᵉ l₆ 0) ∷ ‵ (fdies sliceTyᵉ l₆)
+          ∷ ‵ (froom readerTy l₉ 0) ∷ ‵ (fdies readerTy l₉) ∷ ‵ (froom readerTy l₈ 0) ∷ ‵ (fdies readerTy l₈) ∷ ‵ (froom word l₇ 0) ∷ ‵ (fdies word l₇) ∷ ‵ (froom sliceTyᵉ l₆ 0)
+          ∷ ‵ (fdies sliceTyᵉ l₆)
           ∷ ‵ (froom tyBool l₅ 0) ∷ ‵ (fdies tyBool l₅) ∷ count ∷ ‵ (fdies word l₄) ∷ ‵ (fat fullShare readerTy l₃ 0 (T′.lowered (d i))) ∷ ‵ (fdies readerTy l₃)
           ∷ ‵ (fat fullShare word l₂ 0 (vint w64 n)) ∷ ‵ (fdies word l₂) ∷ ‵ (fat fullShare sheetTy l₁ 0 (val s)) ∷ ‵ (fdies sheetTy l₁) ∷ ‵ (froom F′.mir l₀ 0) ∷ ‵ (fdies F′.mir l₀) ∷ []
 
@@ -177,7 +181,9 @@ module _ {M : Type 1} (𝓤 : URA M) (H : Heap 𝓤) (A : Atoms 𝓤) (W : Given
           move ! (2 ∷ []) $ use1 W (Asked i ⊛ ‵ (sliceOwn κ s)) (asked-of i (typed 𝓤 H A W κ (d (i .0)) _ was .1 .1 .0 .fits)) $ split ! $ move ! (0 ∷ 2 ∷ 3 ∷ 1 ∷ []) $
           asks ! (fmOf 𝓤 H (W .laws) 𝓣) moves.ended (moves.clauses 𝓤 H A mem run) known-moves (κ, tt) (q, tt) tt (s, (nthAt (now s) (i .0), (i .0, (n, tt)))) (asked i) tt (id⊢ 𝓤 _)
           (λ (b : Bool). b ≡ movesAt (now s) (nthAt (now s) (i .0)) (i .0) n) (λ b ws. id⊢ 𝓤 _)
-          (and-then ! (load ! (from ! (stop !)) (look ! 9 refl)) (and-then ! (load ! (from ! (stop !)) (look ! 7 refl)) (and-then ! (load ! (from ! (stop !)) (look ! 13 refl)) (and-then ! (load ! (from ! (stop !)) (look ! 17 refl)) (no-more !))))) (λ u b e is.
+          (and-then ! (load ! (from ! (stop !)) (look ! 9 refl))
+          (and-then ! (load ! (from ! (stop !)) (look ! 7 refl)) (and-then ! (load ! (from ! (stop !)) (look ! 13 refl)) (and-then ! (load ! (from ! (stop !)) (look ! 17 refl)) (no-more !)))))
+          (λ u b e is.
           drop ! $ land ! (from ! (stop !)) (init ! 11 refl (bool-lawful 𝓤 H A W .typed b _ is .0)) $ rewrite ! 11 (λ (w : Val). ‵ (fat fullShare tyBool l₅ 0 w)) (ap only is ∙ ap vbool e) refl $
           -- [the token; the reader; the slice; _9; …]
           first ! $ branches ! (load ! (from ! (stop !)) (look ! 11 refl))
@@ -191,7 +197,8 @@ module _ {M : Type 1} (𝓤 : URA M) (H : Heap 𝓤) (A : Atoms 𝓤) (W : Given
           -- [the reader; the token; the slice; _9; …]
           land ! (from ! (stop !)) (store ! 15 refl (typed 𝓤 H A W κ r u′ is′)) $ rewrite ! 15 (λ (w : Val). ‵ (fat fullShare readerTy l₃ 0 w)) (spells κ r u′ is′ ∙ ap T′.lowered (on r e′)) refl $
           use1 W (‵ (readerOwn κ (d (i .0 + 1)))) (known-as 𝓤 H A W κ r (d (i .0 + 1)) u′ is′ (on r e′)) $ move ! (1 ∷ 0 ∷ []) $
-          assigns-last ! (bin ! (load ! (from ! (stop !)) (look ! 13 refl)) (lit ! tt) (record { fits = fits (one-on goes) })) (from ! (stop !)) (store ! 13 refl (tt, record { fits = fits (one-on goes) })) $
+          assigns-last ! (bin ! (load ! (from ! (stop !)) (look ! 13 refl)) (lit ! tt) (record { fits = fits (one-on goes) })) (from ! (stop !))
+          (store ! 13 refl (tt, record { fits = fits (one-on goes) })) $
           forget ! 5 refl $ forget ! 7 refl $ forget ! 9 refl $ forget ! 11 refl $ again ! Nearer At i (one-on goes) (add-one-dec n (i .0) (before goes))))
           (λ ends-here. jumps ! $ exec ! C Λ En t-4 (atRet En Post) $
           assigns ! (of-opd ! (load ! (from ! (stop !)) (look ! 15 refl))) (from ! (stop !)) (init ! 3 refl (typed 𝓤 H A W κ (d (i .0)) _ was)) $
@@ -202,8 +209,10 @@ module _ {M : Type 1} (𝓤 : URA M) (H : Heap 𝓤) (A : Atoms 𝓤) (W : Given
           (and-then ! (load ! (from ! (stop !)) (look ! 2 refl)) (no-more !)) (λ u′ r e′ is′.
           -- [the result; the token; the slice; _9; …]
           land ! (from ! (stop !)) (init ! 21 refl (EL.lawful F.the-type F′.the-laws 𝓤 H A W tt .typed r _ is′ .0)) $
-          returns ! (look ! 21 refl) $ forget ! 3 refl $ forget ! 7 refl $ forget ! 9 refl $ forget ! 11 refl $ forget ! 13 refl $ forget ! 15 refl $ forget ! 17 refl $ forget ! 19 refl $ forget ! 21 refl $
-          move ! (21 ∷ 22 ∷ []) $ free1 ! $ move ! (19 ∷ 20 ∷ []) $ free1 ! $ move ! (17 ∷ 18 ∷ []) $ free1 ! $ move ! (15 ∷ 16 ∷ []) $ free1 ! $ move ! (13 ∷ 14 ∷ []) $ free1 ! $ move ! (11 ∷ 12 ∷ []) $ free1 ! $
+          returns ! (look ! 21 refl) $ forget ! 3 refl $ forget ! 7 refl $ forget ! 9 refl $ forget ! 11 refl $ forget ! 13 refl $ forget ! 15 refl $ forget ! 17 refl $ forget ! 19 refl $
+          forget ! 21 refl $
+          move ! (21 ∷ 22 ∷ []) $ free1 ! $ move ! (19 ∷ 20 ∷ []) $ free1 ! $ move ! (17 ∷ 18 ∷ []) $ free1 ! $ move ! (15 ∷ 16 ∷ []) $ free1 ! $ move ! (13 ∷ 14 ∷ []) $ free1 ! $
+          move ! (11 ∷ 12 ∷ []) $ free1 ! $
           move ! (9 ∷ 10 ∷ []) $ free1 ! $ move ! (7 ∷ 8 ∷ []) $ free1 ! $ move ! (5 ∷ 6 ∷ []) $ free1 ! $ move ! (3 ∷ 4 ∷ []) $ free1 ! $ free0 ! $
           by ! (exits r u′ (e′ ∙ ap (foundAt (now s)) (nth-end (now s) (i .0) n (i .1) ends-here)))))))
         where
@@ -225,14 +234,16 @@ module _ {M : Type 1} (𝓤 : URA M) (H : Heap 𝓤) (A : Atoms 𝓤) (W : Given
           assigns ! (of-opd ! (lit ! tt)) (from ! (stop !)) (init ! 13 refl (tt, record { fits = lit< tt })) $
           first ! $ blocks ! $ loops ! 𝓣 Nearer Nearer-wf At turns (0, zero-le)
 
-    walk : (𝓣 : Tables 𝓤 H) → Triple 𝓤 (𝓣 .C #reader·new) New → Triple 𝓤 (𝓣 .C #reader·moves) Moves → Triple 𝓤 (𝓣 .C #reader·moved) Moved → Triple 𝓤 (𝓣 .C #reader·read) Read → Is (ShrSlice (named 0) κ u8) s (val s ∷ [])
+    walk : (𝓣 : Tables 𝓤 H) → Triple 𝓤 (𝓣 .C #reader·new) New → Triple 𝓤 (𝓣 .C #reader·moves) Moves → Triple 𝓤 (𝓣 .C #reader·moved) Moved → Triple 𝓤 (𝓣 .C #reader·read) Read
+        → Is (ShrSlice (named 0) κ u8) s (val s ∷ [])
         → ent 𝓤 (onEntry 𝓤 H A nth.signature (κ, tt) (q, tt) (s, (n, tt)) at) (WpFn 𝓤 H (𝓣 .C) (𝓣 .Λ) code.function (val s ∷ vint w64 n ∷ []) Post)
     walk 𝓣 known-new known-moves known-moved known-read p =
         qed W (token A κ q ∷ ‵ (owns (ShrSlice (named 0) κ u8 ∷ usize ∷ []) (s, (n, tt)) at) ∷ []) ∵ enter ! (𝓣 .C) (𝓣 .Λ) code.function (val s ∷ vint w64 n ∷ []) _ $
         alloc1 ! (λ l₀. alloc1 ! (λ l₁. alloc1 ! (λ l₂. alloc1 ! (λ l₃. alloc1 ! (λ l₄. alloc1 ! (λ l₅. alloc1 ! (λ l₆. alloc1 ! (λ l₇. alloc1 ! (λ l₈. alloc1 ! (λ l₉. alloc0 ! $ params1 ! $
         pass1 ! (init ! 16 refl (shr-slice-lawful 𝓤 H A W (named 0) κ u8 .typed s (val s ∷ []) p .0)) $ pass1 ! (init ! 14 refl (tt, record { fits = gn })) $ pass0 ! $
         -- `new`
-        move ! (21 ∷ 20 ∷ []) $ fsplit ! $ move ! (1 ∷ []) $ drop ! $ use1 W (‵ (sliceOwn κ s) ⊛ ‵ (sliceOwn κ s)) (slice-twice 𝓤 H A W κ s) $ split ! $ nothing ! $ move ! (1 ∷ 0 ∷ []) $ fjoin ! $ move ! (0 ∷ 2 ∷ 1 ∷ []) $
+        move ! (21 ∷ 20 ∷ []) $ fsplit ! $ move ! (1 ∷ []) $ drop ! $ use1 W (‵ (sliceOwn κ s) ⊛ ‵ (sliceOwn κ s)) (slice-twice 𝓤 H A W κ s) $ split ! $ nothing ! $ move ! (1 ∷ 0 ∷ []) $ fjoin ! $
+        move ! (0 ∷ 2 ∷ 1 ∷ []) $
         asks ! (fmOf 𝓤 H (W .laws) 𝓣) new.ended (new.clauses 𝓤 H A mem run) known-new (κ, tt) (q, tt) tt (s, tt) (val s ∷ [], tt) tt (id⊢ 𝓤 _)
         (λ (r : Reader). (r .bytes ≡ s) × (r .at ≡ 0)) (λ r ws. id⊢ 𝓤 _)
         (and-then ! (load ! (from ! (stop !)) (look ! 18 refl)) (no-more !)) (λ u r e is.
@@ -247,7 +258,8 @@ module _ {M : Type 1} (𝓤 : URA M) (H : Heap 𝓤) (A : Atoms 𝓤) (W : Given
   nth-meets : (𝓣 : Tables 𝓤 H) → Triple 𝓤 (𝓣 .C #reader·new) New → Triple 𝓤 (𝓣 .C #reader·moves) Moves → Triple 𝓤 (𝓣 .C #reader·moved) Moved → Triple 𝓤 (𝓣 .C #reader·read) Read
       → Meets 𝓤 H A nth.signature (WpFn 𝓤 H (𝓣 .C) (𝓣 .Λ) code.function) (nth.spec 𝓤 H A mem run)
   nth-meets 𝓣 known-new known-moves known-moved known-read =
-      meets 𝓤 H A W nth.ended stayed (nth.clauses 𝓤 H A mem run) (goes-none-slice 𝓤 H A W 1 (0 ∷ []) tt (plain (λ _. u8)) yes, (goes-none 𝓤 H A W 1 (λ _. usize) yes (λ κs x f. refl), tt)) 𝓣 code.function
+      meets 𝓤 H A W nth.ended stayed (nth.clauses 𝓤 H A mem run)
+      (goes-none-slice 𝓤 H A W 1 (0 ∷ []) tt (plain (λ _. u8)) yes, (goes-none 𝓤 H A W 1 (λ _. usize) yes (λ κs x f. refl), tt)) 𝓣 code.function
       (λ κs. (slice-vals, (uint-vals w64, tt))) (λ κs. (shr-slice-tells (named 0) (κs .0) u8, (uint-tells w64, tt)))
       (λ κs qs bounds a g are. walk (κs .0) (qs .0) (a .0) (a .1 .0) (are .1 .0 .1) 𝓣 known-new known-moves known-moved known-read (are .0))
 

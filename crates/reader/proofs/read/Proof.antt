@@ -61,7 +61,8 @@ module _ {M : Type 1} (𝓤 : URA M) (H : Heap 𝓤) (A : Atoms 𝓤) (W : Given
         by ! (ends 𝓤 H A W read.ended stayed (read.clauses 𝓤 H A mem run) (((κ, tt), (q, tt), tt, (d, tt), (T′.lowered d ∷ [], tt)), tt) u r (tt, tt) (tt, tt) (factI 𝓤 _ (emp 𝓤) e))
 
     module _ (𝓣 : Tables 𝓤 H) (known : Triple 𝓤 (𝓣 .C #reader·found-at) FoundAt) where
-      walk : Holds (hasTy (T′.mir (named 0)) (T′.lowered d)) × WT (T′.lowered d) → ent 𝓤 (onEntry 𝓤 H A read.signature (κ, tt) (q, tt) (d, tt) (T′.lowered d ∷ [], tt)) (WpFn 𝓤 H (𝓣 .C) (𝓣 .Λ) code.function (T′.lowered d ∷ []) Post)
+      walk : Holds (hasTy (T′.mir (named 0)) (T′.lowered d)) × WT (T′.lowered d)
+          → ent 𝓤 (onEntry 𝓤 H A read.signature (κ, tt) (q, tt) (d, tt) (T′.lowered d ∷ [], tt)) (WpFn 𝓤 H (𝓣 .C) (𝓣 .Λ) code.function (T′.lowered d ∷ []) Post)
       walk wt =
           qed W (raw (onEntry 𝓤 H A read.signature (κ, tt) (q, tt) (d, tt) (T′.lowered d ∷ [], tt)) ∷ []) ∵ enter ! (𝓣 .C) (𝓣 .Λ) code.function (T′.lowered d ∷ []) _ $
           alloc1 ! (λ l₀. alloc1 ! (λ l₁. alloc1 ! (λ l₂. alloc1 ! (λ l₃. alloc0 ! $ params1 ! $ pass1 ! (init ! 4 refl wt) $ pass0 ! $

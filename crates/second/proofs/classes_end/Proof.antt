@@ -1,4 +1,4 @@
--- What `second::classes_end` answers, by the number of the sheet.
+-- By the number of the sheet.
 -- Assumes nothing.
 use borrow.Author.Tests.{ne-eqb}
 use Rattle.second.specs.Second.{classesEnd}

@@ -1,89 +1,93 @@
--- `second::others_pass`: at each record what is left of the class comes to what all its records after the CLASS record give.
+-- At each record what is left of the class comes to what all its records after the CLASS record give.
 -- Assumes nothing.
+use mathlib.Core.Path.{_≡_, refl, _∙_}
+use Prim.Native.Nat.{_+_, _-_, _≤_}
+use native.Mathlib.Omega.{arith}
 use borrow.Author.Needs.{needs}
-use mathlib.Core.Path.{refl}
-use Prim.Native.Nat.{_+_, _-_}
 use lib.ListN.{length}
 use Rattle.spec.specs.Record.{u16}
 use Rattle.spec.specs.Sheet.{group as groupOf}
+use Rattle.records.specs.Records.{recordAt, between}
 use Rattle.view.specs.View.{spliced}
-use Rattle.groups.specs.Groups.{startOf, between}
+use Rattle.groups.specs.Groups.{startOf}
+use Rattle.names.specs.Names.{Opens}
 use Rattle.names.proofs.Printing.{class-opens}
-use Rattle.second.specs.Second.{formOf}
-use Rattle.second.proofs.Deciding.{face-is}
+use Rattle.second.specs.Second.{formNumber, formOf}
 use Rattle.second.proofs.Passing.{Going, goes-start, goes-end, goes-room, goes-sized, goes-other, goes-stop, goes-on, start-low}
-use native.Mathlib.Omega.{arith}
 use Rattle.second.proofs.others_pass.Statement.{statement}
 use Rattle.second.proofs.others_pass.Tie as tie
 
 abbrev Inv-loop : tie.InvT-loop
-Inv-loop library user group cut starts nlib n counts c bytes marks face at₀ at = Going (groupOf library (spliced user group cut)) nlib n c (startOf library (spliced user group cut) c) bytes (formOf (groupOf library (spliced user group cut)) nlib n c (startOf library (spliced user group cut) c + u16 bytes 0) (between bytes (u16 bytes 0) (length bytes))) at
+Inv-loop library user group starts view heads c bytes marks at₀ at =
+    let g = groupOf library (spliced user group (view .cut)) in
+    let k = view .classes in
+    let start = startOf library (spliced user group (view .cut)) c in
+    Going g (k .library) (k .all) c start bytes (formOf g (k .library) (k .all) c (start + u16 bytes 0) (between bytes (u16 bytes 0) (length bytes))) at
 
 abbrev μ-loop : tie.MeasureT-loop
-μ-loop library user group cut starts nlib n counts c bytes marks face at₀ at = length bytes - at
+μ-loop library user group starts view heads c bytes marks at₀ at = length bytes - at
 
-slice-aggregate-mark-enclosers : tie.Need-slice-aggregate-mark-enclosers Inv-loop μ-loop
-slice-aggregate-mark-enclosers c = search needs
+-- ---- places
+
+abbrev Start : Type 0
+Start = tie.Start Inv-loop μ-loop
+
+abbrev first : tie.After-mark-enclosers Inv-loop μ-loop → Start
+first c = c .before .before .before .before .before .before .before .before
+
+abbrev entry : tie.At-loop Inv-loop μ-loop → Start
+entry c = first (c .before .before .before .before)
+
+abbrev turn : tie.After-other-number Inv-loop μ-loop → tie.In-loop Inv-loop μ-loop
+turn c = c .before .before .before
+
+opens : (s : Start) → Opens (s .args .bytes .now)
+opens s = class-opens (s .pre .0 .indexed) (s .pre .1 .1 .0) (s .pre .1 .1 .1)
+
+-- the record at hand lies in the bytes
+room : (c : tie.In-loop Inv-loop μ-loop) → let bytes = entry (c .before) .args .bytes .now in let at = c .before .loop .at in
+    (4 ≤ u16 bytes at) × (at + u16 bytes at ≤ length bytes)
+room c = goes-room (c .before .loop .inv) (c .loop-test .taken)
+
+number-is : (c : tie.After-other-number Inv-loop μ-loop) → let l = turn c .before in let a = entry l .args in
+    c .other-number .result ≡ formNumber (groupOf (a .library .now) (spliced (a .user .now) (a .group .now) (a .view .cut))) (a .view .classes .library) (a .view .classes .all) (a .c)
+    (recordAt (a .bytes .now) (l .loop .at))
+number-is c = let l = turn c .before in c .other-number .ensures _ (entry l .pre .1 .0) (l .before .before .before .before .mark-enclosers .ensures)
+
+-- ---- the needs
 
 mark-enclosers-requires : tie.Need-mark-enclosers-requires Inv-loop μ-loop
-mark-enclosers-requires c κs = let p = c .before .before .before .before .before .before .before .pre in (p .0, (p .1 .0, (p .1 .1 .1 .0, refl)))
-
-word-in-requires : tie.Need-word-in-requires Inv-loop μ-loop
-word-in-requires c κs = omega (arith, class-opens (c .before .before .before .before .before .before .before .before .before .pre .1 .0) (c .before .before .before .before .before .before .before .before .before .pre .1 .1 .1 .0) (c .before .before .before .before .before .before .before .before .before .pre .1 .1 .1 .1))
-
-word-in-requires-2 : tie.Need-word-in-requires-2 Inv-loop μ-loop
-word-in-requires-2 c κs = omega (arith, class-opens (c .before .before .before .before .before .before .before .before .before .before .pre .1 .0) (c .before .before .before .before .before .before .before .before .before .before .pre .1 .1 .1 .0) (c .before .before .before .before .before .before .before .before .before .before .pre .1 .1 .1 .1))
-
-wide-requires : tie.Need-wide-requires Inv-loop μ-loop
-wide-requires c κs = search needs
+mark-enclosers-requires c κs = let p = c .before .before .before .before .before .before .before .pre in (p .0, (p .1 .1 .0, refl))
 
 loop-holds : tie.Need-loop-holds Inv-loop μ-loop
-loop-holds c = goes-start (c .before .before .before .before .before .before .before .before .before .before .before .before .pre .1 .0) (c .before .before .before .before .before .before .before .before .before .before .before .before .pre .1 .1 .1 .0) (c .before .before .before .before .before .before .before .before .before .before .before .before .pre .1 .1 .1 .1) (c .wide .ensures .0) (c .before .word-in2 .ensures)
-
-add-word-in : tie.Need-add-word-in Inv-loop μ-loop
-add-word-in c = omega arith
-
-word-in-requires-3 : tie.Need-word-in-requires-3 Inv-loop μ-loop
-word-in-requires-3 c κs = omega (arith, goes-room (c .before .loop .inv) (c .loop-test .taken))
-
-slice-aggregate-other-number : tie.Need-slice-aggregate-other-number Inv-loop μ-loop
-slice-aggregate-other-number c = search needs
+loop-holds c = let p = first (c .before .before .before) .pre in goes-start (p .0 .indexed) (p .1 .1 .0) (p .1 .1 .1) (c .wide .ensures .0) (c .before .word-in .ensures)
 
 other-number-requires : tie.Need-other-number-requires Inv-loop μ-loop
 other-number-requires c κs =
-    let p = c .before .before .before .before .before .before .before .before .before .before .before .before .before .before .before .before .pre in
-    let inside = c .before .before .before .loop .inv in
-    let more = c .before .before .loop-test .taken in
-    let face = face-is (p .1 .0) (p .1 .1 .1 .0) (p .1 .1 .1 .1) (c .before .before .before .before .before .before .word-in .ensures) in
-    let other = goes-other inside more (c .before .word-in3 .ensures) in
-    (p .0, (p .1 .0, (p .1 .1 .0, ((p .1 .1 .1 .0, face), (goes-sized inside more, ((c .before .word-in3 .ensures, other), c .before .before .before .before .before .before .before .before .mark-enclosers .ensures))))))
+    let t = c .before .before in
+    let l = t .before in
+    let p = entry l .pre in
+    let inside = l .loop .inv in
+    let more = t .loop-test .taken in
+    ((p .1 .0 .long, l .before .before .before .before .mark-enclosers .ensures .long), (p .1 .1 .0, (goes-sized inside more, goes-other inside more refl)))
 
-group-start-requires : tie.Need-group-start-requires Inv-loop μ-loop
-group-start-requires c κs = (c .before .before .before .before .before .before .before .before .before .before .before .before .before .before .before .before .before .before .pre .0, ((c .before .before .before .before .before .before .before .before .before .before .before .before .before .before .before .before .before .before .pre .1 .0), (c .before .before .before .before .before .before .before .before .before .before .before .before .before .before .before .before .before .before .pre .1 .1 .1 .0)))
-
-add-t26 : tie.Need-add-t26 Inv-loop μ-loop
-add-t26 c = omega (arith, start-low (c .before .before .before .before .before .before .before .before .before .before .before .before .before .before .before .before .before .before .before .pre .1 .0) (c .before .before .before .before .before .before .before .before .before .before .before .before .before .before .before .before .before .before .before .pre .1 .1 .1 .0) (c .before .before .before .before .before .before .before .before .before .before .before .before .before .before .before .before .before .before .before .pre .1 .1 .1 .1), c .group-start .ensures)
+add-t25 : tie.Need-add-t25 Inv-loop μ-loop
+add-t25 c =
+    let t = turn (c .before .before .before) in
+    let p = entry (t .before) .pre in
+    omega (arith, start-low (p .0 .indexed) (p .1 .1 .0) (p .1 .1 .1), c .wide2 .ensures .0, p .0 .indexed .starts _ (p .1 .1 .0), t .loop-test .taken)
 
 returns : tie.Need-returns Inv-loop μ-loop
-returns c = goes-stop (c .before .before .before .before .before .before .loop .inv) (c .before .before .before .before .before .loop-test .taken) (c .before .before .other-number .ensures) (c .before .if1 .taken) (c .group-start .ensures)
-
-word-in-requires-4 : tie.Need-word-in-requires-4 Inv-loop μ-loop
-word-in-requires-4 c κs = omega (arith, goes-room (c .before .before .before .before .before .loop .inv) (c .before .before .before .before .loop-test .taken))
-
-wide-requires-2 : tie.Need-wide-requires-2 Inv-loop μ-loop
-wide-requires-2 c κs = search needs
-
-add-at : tie.Need-add-at Inv-loop μ-loop
-add-at c = omega arith
-
-loop-less : tie.Need-loop-less Inv-loop μ-loop
-loop-less c = omega (arith, goes-room (c .before .before .before .before .before .before .before .loop .inv) (c .before .before .before .before .before .before .loop-test .taken), c .wide2 .ensures .0, c .before .word-in4 .ensures)
+returns c =
+    let o = c .before .before .before in
+    let l = turn o .before in
+    let p = entry l .pre in
+    goes-stop (l .loop .inv) (turn o .loop-test .taken) (number-is o) (c .before .before .if1 .taken) (c .wide2 .ensures .0 ∙ p .0 .indexed .starts _ (p .1 .1 .0))
 
 loop-again : tie.Need-loop-again Inv-loop μ-loop
-loop-again c = goes-on (c .before .before .before .before .before .before .before .loop .inv) (c .before .before .before .before .before .before .loop-test .taken) (c .before .before .before .other-number .ensures) (c .before .before .if1 .left) (c .wide2 .ensures .0) (c .before .word-in4 .ensures)
-
-returns-2 : tie.Need-returns-2 Inv-loop μ-loop
-returns-2 c = goes-end (c .before .loop .inv) (c .loop-test .left)
+loop-again c =
+    let o = c .before .before .before in
+    goes-on (turn o .before .loop .inv) (turn o .loop-test .taken) (number-is o) (c .before .before .if1 .left) (c .wide3 .ensures .0) (c .before .word-in2 .ensures)
 
 pub others-pass-spec : {M : Type 1} → statement M
 others-pass-spec =
@@ -91,22 +95,21 @@ others-pass-spec =
     (tie.spec
     Inv-loop
     μ-loop
-    slice-aggregate-mark-enclosers
+    (λ c. search needs)
     mark-enclosers-requires
-    word-in-requires
-    word-in-requires-2
-    wide-requires
+    (λ c κs. omega (arith, opens (first (c .before))))
+    (λ c κs. search needs)
     loop-holds
-    add-word-in
-    word-in-requires-3
-    slice-aggregate-other-number
+    (λ c. search needs)
     other-number-requires
-    group-start-requires
-    add-t26
+    (λ c. omega arith)
+    (λ c. omega arith)
+    (λ c κs. search needs)
+    add-t25
     returns
-    word-in-requires-4
-    wide-requires-2
-    add-at
-    loop-less
+    (λ c κs. omega (arith, room (turn (c .before))))
+    (λ c κs. search needs)
+    (λ c. omega arith)
+    (λ c. omega (arith, room (turn (c .before .before .before)), c .wide3 .ensures .0, c .before .word-in2 .ensures))
     loop-again
-    returns-2)
+    (λ c. goes-end (c .before .loop .inv) (c .loop-test .left)))

@@ -3,7 +3,7 @@
 use mathlib.Core.Path.{refl, sym, ap, _∙_}
 use mathlib.Core.Bool.{not, or-false}
 use borrow.Author.Needs.{needs}
-use Rattle.survey.proofs.Sets.{met, past, covers-by}
+use Rattle.survey.proofs.Covering.{met, past, covers-by}
 use Rattle.survey.proofs.covers.Statement.{statement}
 use Rattle.survey.proofs.covers.Tie as tie
 

@@ -3,7 +3,7 @@
 use mathlib.Core.Path.{refl, sym, ap}
 use mathlib.Core.Bool.{not}
 use borrow.Author.Needs.{needs}
-use Rattle.survey.proofs.Sets.{met, past}
+use Rattle.survey.proofs.Covering.{met, past}
 use Rattle.survey.proofs.Records.{head-by}
 use Rattle.survey.proofs.head_fine.Statement.{statement}
 use Rattle.survey.proofs.head_fine.Tie as tie

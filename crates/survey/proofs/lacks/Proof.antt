@@ -1,6 +1,6 @@
 -- Both sets are asked.
 -- Assumes nothing.
-use Rattle.survey.proofs.Base.{both-asked}
+use Rattle.survey.proofs.Covering.{both-asked}
 use borrow.Author.Needs.{needs}
 use Rattle.survey.proofs.lacks.Statement.{statement}
 use Rattle.survey.proofs.lacks.Tie as tie

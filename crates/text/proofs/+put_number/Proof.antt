@@ -28,58 +28,43 @@ put-number-below t =
 abbrev claims-put-number : ℕ → put-number-lts.Claims
 claims-put-number t = (put-reads.Asked, put-reads.Learnt, put-number-below t, put-number.Post)
 
-put-number-cast-put : (t : ℕ) → put-number-lts.Need-cast-put (claims-put-number t) (put-number-at t) put-number.Post
-put-number-cast-put t c = omega arith
-
-put-number-add-put : (t : ℕ) → put-number-lts.Need-add-put (claims-put-number t) (put-number-at t) put-number.Post
-put-number-add-put t c = omega arith
-
-put-number-put-requires : (t : ℕ) → put-number-lts.Need-put-requires (claims-put-number t) (put-number-at t) put-number.Post
-put-number-put-requires t c κs = omega arith
-
 put-number-same-length : (t : ℕ) → put-number-lts.Need-same-length (claims-put-number t) (put-number-at t) put-number.Post
 put-number-same-length t c = c .before .before .put .kept .0
 
 put-number-returns : (t : ℕ) → put-number-lts.Need-returns (claims-put-number t) (put-number-at t) put-number.Post
 put-number-returns t c =
-    let start = c .before .before .before .before .before .before .args in
-    let written = c .before .before .put .ensures in
+    let p = c .before .before in
+    let start = p .before .before .before .before .args in
+    let written = p .put .ensures in
     number-one (start .out .now) (start .at) (start .x) (omega arith) (written .0) (written .1)
-
-put-number-put-number-requires : (t : ℕ) → put-number-lts.Need-put-number-requires (claims-put-number t) (put-number-at t) put-number.Post
-put-number-put-number-requires t c κs = omega arith
-
-put-number-cast-put-2 : (t : ℕ) → put-number-lts.Need-cast-put-2 (claims-put-number t) (put-number-at t) put-number.Post
-put-number-cast-put-2 t c = omega arith
-
-put-number-add-put-2 : (t : ℕ) → put-number-lts.Need-add-put-2 (claims-put-number t) (put-number-at t) put-number.Post
-put-number-add-put-2 t c = omega arith
 
 put-number-put-requires-2 : (t : ℕ) → put-number-lts.Need-put-requires-2 (claims-put-number t) (put-number-at t) put-number.Post
 put-number-put-requires-2 t c κs = omega (arith, decimal-length (c .before .before .before .before .before .before .before .args .x / 10))
 
 put-number-same-length-2 : (t : ℕ) → put-number-lts.Need-same-length-2 (claims-put-number t) (put-number-at t) put-number.Post
-put-number-same-length-2 t c = c .before .before .put2 .kept .0 ∙ c .before .before .before .before .before .before .put-number .kept .0
+put-number-same-length-2 t c = let p = c .before .before in p .put2 .kept .0 ∙ p .before .before .before .before .put-number .kept .0
 
 put-number-returns-2 : (t : ℕ) → put-number-lts.Need-returns-2 (claims-put-number t) (put-number-at t) put-number.Post
 put-number-returns-2 t c =
-    let start = c .before .before .before .before .before .before .before .before .before .before .args in
-    let others = c .before .before .before .before .before .before .put-number .ensures in
-    let written = c .before .before .put2 .ensures in
+    let p = c .before .before in
+    let n = p .before .before .before .before in
+    let start = n .before .before .before .before .args in
+    let others = n .put-number .ensures in
+    let written = p .put2 .ensures in
     number-more (start .out .now) (start .at) (start .x) (omega arith) (omega arith) (others .0) (others .1) (written .0) (written .1)
 
 pub +put-number-spec : {M : Type 1} → statement M
 +put-number-spec = close μ-put-number λ t. put-number-lts.spec (claims-put-number t)
     (put-number-at t)
     put-number.Post
-    (put-number-cast-put t)
-    (put-number-add-put t)
-    (put-number-put-requires t)
+    (λ c. omega arith)
+    (λ c. omega arith)
+    (λ c κs. omega arith)
     (put-number-same-length t)
     (put-number-returns t)
-    (put-number-put-number-requires t)
-    (put-number-cast-put-2 t)
-    (put-number-add-put-2 t)
+    (λ c κs. omega arith)
+    (λ c. omega arith)
+    (λ c. omega arith)
     (put-number-put-requires-2 t)
     (put-number-same-length-2 t)
     (put-number-returns-2 t)

@@ -9,17 +9,19 @@ use borrow.Author.Needs.{needs}
 use Rattle.text.proofs.put.Statement.{statement}
 use Rattle.text.proofs.put.Tie as tie
 
-slice-write-out : tie.Need-slice-write-out
-slice-write-out c = search needs
-
-add-result : tie.Need-add-result
-add-result c = search needs
-
 same-length : tie.Need-same-length
 same-length c = ⊎-elim (λ w. ap length (w .1) ∙ simp length-set) (λ w. ap length (w .1)) (c .if1 .came)
 
 returns : tie.Need-returns
-returns c = (refl, ⊎-elim (λ w. w .1) (λ w. w .1 ∙ sym (set-out (c .before .args .out .now) (c .before .args .at) (c .before .args .byte) (omega (arith, w .0)))) (c .if1 .came))
+returns c =
+    let a = c .before .args in
+    (refl, ⊎-elim (λ w. w .1) (λ w. w .1 ∙ sym (set-out (a .out .now) (a .at) (a .byte) (omega (arith, w .0)))) (c .if1 .came))
 
 pub put-spec : {M : Type 1} → statement M
-put-spec = tie.close (tie.spec slice-write-out add-result same-length returns)
+put-spec =
+    tie.close
+    (tie.spec
+    (λ c. search needs)
+    (λ c. search needs)
+    same-length
+    returns)

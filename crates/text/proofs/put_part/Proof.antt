@@ -12,30 +12,10 @@ Inv-loop out₀ at text from to i₀ to-at₀ out i to-at = Copied out₀ at tex
 abbrev μ-loop : tie.MeasureT-loop
 μ-loop out₀ at text from to i₀ to-at₀ out i to-at = to - i
 
-loop-holds : tie.Need-loop-holds Inv-loop μ-loop
-loop-holds c = copied-start (omega arith)
-
-shared-slice-read-put : tie.Need-shared-slice-read-put Inv-loop μ-loop
-shared-slice-read-put c = omega arith
-
-put-requires : tie.Need-put-requires Inv-loop μ-loop
-put-requires c κs = omega arith
-
-add-i : tie.Need-add-i Inv-loop μ-loop
-add-i c = omega arith
-
-loop-less : tie.Need-loop-less Inv-loop μ-loop
-loop-less c = omega arith
-
 loop-again : tie.Need-loop-again Inv-loop μ-loop
 loop-again c =
-    copied-next (c .before .before .before .before .before .before .loop .inv) (omega arith) (omega arith) (c .before .before .put .ensures .1) (c .before .before .put .ensures .0)
-
-same-length : tie.Need-same-length Inv-loop μ-loop
-same-length c = copied-length (c .before .loop .inv)
-
-returns : tie.Need-returns Inv-loop μ-loop
-returns c = copied-end (c .before .loop .inv) (omega arith)
+    let p = c .before .before in
+    copied-next (p .before .before .before .before .loop .inv) (omega arith) (omega arith) (p .put .ensures .1) (p .put .ensures .0)
 
 pub put-part-spec : {M : Type 1} → statement M
 put-part-spec =
@@ -43,11 +23,11 @@ put-part-spec =
     (tie.spec
     Inv-loop
     μ-loop
-    loop-holds
-    shared-slice-read-put
-    put-requires
-    add-i
-    loop-less
+    (λ c. copied-start (omega arith))
+    (λ c. omega arith)
+    (λ c κs. omega arith)
+    (λ c. omega arith)
+    (λ c. omega arith)
     loop-again
-    same-length
-    returns)
+    (λ c. copied-length (c .before .loop .inv))
+    (λ c. copied-end (c .before .loop .inv) (omega arith)))

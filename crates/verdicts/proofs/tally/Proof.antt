@@ -1,7 +1,7 @@
 -- One more if the verdict is faulted.
 -- Assumes nothing.
 use borrow.Author.Needs.{needs}
-use Rattle.verdicts.proofs.Filling.{tallied-clean, tallied-faulted}
+use Rattle.verdicts.proofs.Counting.{tallied-clean, tallied-faulted}
 use Rattle.verdicts.proofs.tally.Statement.{statement}
 use Rattle.verdicts.proofs.tally.Tie as tie
 

@@ -7,7 +7,8 @@ use Rattle.examples.proofs.script.lines.Statement.{statement}
 use Rattle.examples.proofs.script.lines.Tie as tie
 
 abbrev Inv-loop : tie.InvT-loop
-Inv-loop text library₀ user₀ expected₀ row₀ case₀ at₀ left₀ library user expected row case at left = (length library ≡ length library₀) × (length user ≡ length user₀) × (length expected ≡ length expected₀) × (length row ≡ length row₀)
+Inv-loop text library₀ user₀ expected₀ row₀ case₀ at₀ left₀ library user expected row case at left =
+    (length library ≡ length library₀) × (length user ≡ length user₀) × (length expected ≡ length expected₀) × (length row ≡ length row₀)
 
 abbrev μ-loop : tie.MeasureT-loop
 μ-loop text library₀ user₀ expected₀ row₀ case₀ at₀ left₀ library user expected row case at left = left
