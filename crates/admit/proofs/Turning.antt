@@ -12,7 +12,7 @@ use borrow.Author.Tests.{lt-ltb, le-ltb, not-false}
 use Rattle.spec.specs.Lists.{firstOf}
 use Rattle.spec.specs.Sheet.{classCount, total, group}
 use Rattle.spec.specs.Refusals.{Refusal as Reason, refuseIf, refusePlain, formRefusal, sheetRefusal, newRefusal, wholeGroup, groupRefusal, roomRefusal, shortRefusal}
-use Rattle.theory.proofs.Bools.{true-t, un-not, not-or-l, not-or-r}
+use Rattle.laws.proofs.Bools.{true-t, un-not, not-or-l, not-or-r}
 use Rattle.theory.proofs.Answers.{first-none, first-some, first-past, skip-none, plain-none}
 use Rattle.theory.proofs.Cut.{IsGroup}
 use Rattle.view.specs.declared.Cut.{Cut}

@@ -14,8 +14,8 @@ use Rattle.spec.specs.Lists.{any, keep}
 use Rattle.spec.specs.Record.{u16, bit, flags, references}
 use Rattle.spec.specs.Sheet.{Group, classRecord, isAllowed}
 use Rattle.spec.specs.Rules.{forbidden}
-use Rattle.theory.proofs.Bools.{decide}
-use Rattle.theory.proofs.Rows.{set-below}
+use Rattle.laws.proofs.Bools.{decide}
+use Rattle.laws.proofs.Rows.{set-below}
 use Rattle.records.specs.Records.{between, Carries}
 use Rattle.records.proofs.Carried.{class-word-in}
 use Rattle.named.specs.Named.{firstNamed, secondNamed, namedBy}

@@ -17,9 +17,9 @@ use Rattle.spec.specs.Classes.{satisfies}
 use Rattle.spec.specs.Rules.{staticMarker, memberAllowed, forbidden}
 use Rattle.spec.specs.Refusals.{oneClass, formRefusal}
 use Rattle.spec.specs.Relations.{At, here, next}
-use Rattle.theory.proofs.Bools.{and-l}
-use Rattle.theory.proofs.All.{All}
-use Rattle.theory.proofs.Accept.{Fits, form-fits}
+use Rattle.laws.proofs.Bools.{and-l}
+use Rattle.laws.proofs.All.{All}
+use Rattle.theory.proofs.Accept.{RecordFits, form-fits}
 use Rattle.theory.proofs.Form.{group-one-class}
 use Rattle.theory.proofs.References.{references-refers}
 use Rattle.records.specs.Records.{recordAt}
@@ -46,7 +46,8 @@ module _ {library user : List ℕ} {nlib n : ℕ} {starts : List ℕ} (x : Index
 
   pub standing-refers : formRefusal library user ≡ none → Refers n (group library user) (recordAt bytes at)
   standing-refers e =
-      let f : Fits (classCount library) (total library user) (group library user) t r = all-here (Fits (classCount library) (total library user) (group library user) t) (form-fits library user e t)
+      let f : RecordFits (classCount library) (total library user) (group library user) t r = all-here (RecordFits (classCount library) (total library user) (group library user) t)
+      (form-fits library user e t)
       (w .is) in
       record {
         class = λ u. let a = subst (All (λ d. d < total library user)) (references-refers r u) (f .there) in omega (arith, a .0, x .n-is);

@@ -13,8 +13,8 @@ use Rattle.spec.specs.Lists.{any, keep}
 use Rattle.spec.specs.Record.{u16, bit, kind, isKind, MEMBER, REFERS, flags, target, index, lengthFits}
 use Rattle.spec.specs.Sheet.{Group, ofKind}
 use Rattle.spec.specs.Rules.{memberAllowed}
-use Rattle.theory.proofs.Bools.{eq→eqb, true-t}
-use Rattle.theory.proofs.All.{All, all-at, all-kept}
+use Rattle.laws.proofs.Bools.{eq→eqb, true-t}
+use Rattle.laws.proofs.All.{All, all-at, all-kept}
 use Rattle.records.proofs.Nth.{Stands, nth-record}
 use Rattle.records.specs.Records.{Sized, recordAt, between, nthByte, Carries}
 use Rattle.records.proofs.Positions.{walk-sized, room, kind-is, kind-not, flags-at, target-at, index-at}

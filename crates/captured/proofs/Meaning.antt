@@ -17,17 +17,17 @@ use Rattle.spec.specs.Classes.{Slot, variableSlot, locals, localAt, satisfies, 
 use Rattle.spec.specs.Relations.{Encloser, Builds, Uses, Chain, start, step, Captures}
 use Rattle.spec.specs.Relations as relations
 use Rattle.spec.specs.Refusals.{formRefusal, encloserFits}
-use Rattle.theory.proofs.Bools.{t-same, true-t, false-t, t-false, and-l, and-r}
-use Rattle.theory.proofs.All.{at-member}
-use Rattle.theory.proofs.Members.{gather-mem, mem-gather, keep-mem, mem-keep, only-mem, mem-only, any-mem, mem-any}
+use Rattle.laws.proofs.Bools.{t-same, true-t, false-t, t-false, and-l, and-r}
+use Rattle.laws.proofs.All.{at-member}
+use Rattle.laws.proofs.Members.{gather-mem, mem-gather, keep-mem, mem-keep, only-mem, mem-only, any-mem, mem-any}
 use Rattle.theory.proofs.Groups.{builds-reference}
-use Rattle.theory.proofs.Accept.{Fits, Sound}
+use Rattle.theory.proofs.Accept.{RecordFits, Sound}
 use Rattle.theory.proofs.Form.{one-record, group-one-class, sound-falls, sound-there, sound-bound, sound-variables}
 use Rattle.theory.proofs.Capture.{captured-is}
 use Rattle.groups.proofs.Few.{indexed-sound}
 use Rattle.groups.specs.Groups.{Indexed}
 use Rattle.named.specs.Named.{namedBy}
-use Rattle.lanes.specs.Lanes.{Inside, direct, deeper, Draws, own, via, entryAt, SeedsFit, Least}
+use Rattle.lanes.specs.Lanes.{Nested, direct, deeper, Draws, own, via, entryAt, SeedsFit, Least}
 use Rattle.lanes.specs.Lanes as lanes
 use Rattle.lanes.proofs.Enclosing.{inside-lower, fits-lower}
 use Rattle.lanes.proofs.Chains.{draws-fit}
@@ -95,8 +95,8 @@ module _ {library user : List ℕ} {nlib n : ℕ} {starts : List ℕ} (x : Index
   accepted : Sound library user
   accepted = indexed-sound x ok
 
-  abbrev fit-of : {c : ℕ} {r : List ℕ} → List·Memᴰ r (g c) → Fits (classCount library) (total library user) g c r
-  fit-of {c} m = at-member (Fits (classCount library) (total library user) g c) (g c) (accepted .fits c) m
+  abbrev fit-of : {c : ℕ} {r : List ℕ} → List·Memᴰ r (g c) → RecordFits (classCount library) (total library user) g c r
+  fit-of {c} m = at-member (RecordFits (classCount library) (total library user) g c) (g c) (accepted .fits c) m
 
   only-class : {m : ℕ} → m < n → ofKind CLASS (g m) ≡ classRecord (g m) ∷ []
   only-class {m} h = one-record (g m) (group-one-class library user m (omega (arith, x .n-is)))
@@ -115,11 +115,11 @@ module _ {library user : List ℕ} {nlib n : ℕ} {starts : List ℕ} (x : Index
       record { said = record { bytes = classRecord (g m); member = k .0; ofKind = k .1; is = q }; some = λ z. omega (arith, x .few) }
 
   -- lying inside, by the numbers and by the records
-  inside-to : {d m : ℕ} → m < n → Inside (outerOf g) d m → relations.Inside g d m
+  inside-to : {d m : ℕ} → m < n → Nested (outerOf g) d m → relations.Inside g d m
   inside-to h (direct e l) = relations.direct (outer-encloser h e l)
   inside-to h (deeper e l i) = relations.deeper (outer-encloser h e l) (inside-to (omega arith) i)
 
-  inside-of : {d m : ℕ} → m < n → relations.Inside g d m → Inside (outerOf g) d m
+  inside-of : {d m : ℕ} → m < n → relations.Inside g d m → Nested (outerOf g) d m
   inside-of h (relations.direct k) = let q = encloser-outer h k in direct (q .0) (q .1)
   inside-of h (relations.deeper k i) = let q = encloser-outer h k in deeper (q .0) (q .1) (inside-of (omega (arith, q .1)) i)
 
@@ -182,7 +182,7 @@ module _ {library user : List ℕ} {nlib n : ℕ} {starts : List ℕ} (x : Index
       chain : Chain g y l last
       wanted : Wanted g (laneMarker k) last (g last) y
 
-    fit-inside : {y m : ℕ} → m < n → 1 ≤ y → lanes.Fits (outerOf g) y m → relations.Inside g y m
+    fit-inside : {y m : ℕ} → m < n → 1 ≤ y → lanes.OwnerFits (outerOf g) y m → relations.Inside g y m
     fit-inside h z (inl e) = absurd (omega arith)
     fit-inside h z (inr i) = inside-to h i
 

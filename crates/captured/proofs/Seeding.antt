@@ -17,11 +17,11 @@ use Rattle.spec.specs.Record.{u16, bit, kind, isKind, LOCAL, USES, target, inde
 use Rattle.spec.specs.Sheet.{Group, classCount, total, group, ofKind}
 use Rattle.spec.specs.Classes.{satisfies}
 use Rattle.spec.specs.Refusals.{formRefusal}
-use Rattle.theory.proofs.Bools.{eq→eqb}
-use Rattle.theory.proofs.All.{all-at, all-kept, of-members, at-member}
-use Rattle.theory.proofs.Members.{mem-keep}
+use Rattle.laws.proofs.Bools.{eq→eqb}
+use Rattle.laws.proofs.All.{all-at, all-kept, of-members, at-member}
+use Rattle.laws.proofs.Members.{mem-keep}
 use Rattle.theory.proofs.References.{references-uses}
-use Rattle.theory.proofs.Accept.{Fits, form-fits}
+use Rattle.theory.proofs.Accept.{RecordFits, form-fits}
 use Rattle.records.proofs.Whole.{kind-here}
 use Rattle.records.proofs.Between.{tiled-end}
 use Rattle.groups.specs.Groups.{Indexed}
@@ -31,7 +31,7 @@ use Rattle.overlay.specs.Types.{Known, typeMarkers, rowMarkers}
 use Rattle.overlay.proofs.Types.{row-markers, satisfies-bit}
 use Rattle.records.specs.Records.{Sized, recordAt, between, nthByte, AtRecord, Carries}
 use Rattle.records.proofs.Positions.{whole, long-enough, target-at, index-at, local-type-at, walk-sized}
-use Rattle.lanes.specs.Lanes.{Inside, Enclosers, entryAt, Other, SeedsFit, Least}
+use Rattle.lanes.specs.Lanes.{Nested, Enclosers, entryAt, Other, SeedsFit, Least}
 use Rattle.reach.specs.Reach.{stepsOf, outerOf, Emptied}
 use Rattle.reach.proofs.Scanning.{empty}
 use Rattle.reach.proofs.Library.{library-uses-none}
@@ -194,8 +194,8 @@ module _ {library user : List ℕ} {nlib n : ℕ} {starts : List ℕ} (x : Index
     owner : d ≡ target (recordAt s at)
     owner = ed ∙ ev ∙ sym (target-at z USES uses (lit≤ tt))
 
-    fits : Fits (classCount library) (total library user) g m (recordAt s at)
-    fits = at-member (Fits (classCount library) (total library user) g m) (g m) (form-fits library user ok m) e
+    fits : RecordFits (classCount library) (total library user) g m (recordAt s at)
+    fits = at-member (RecordFits (classCount library) (total library user) g m) (g m) (form-fits library user ok m) e
 
     pub owner-there : d < n
     owner-there =
@@ -243,7 +243,7 @@ module _ {library user : List ℕ} {nlib n : ℕ} {starts : List ℕ} (x : Index
               let ey : y ≡ d = sym (w .owner) ∙ ap target o ∙ sym owner in
               let ei : index (w .bytes) ≡ i = ap index o ∙ sym number in
               record {
-                marked = right .every d (subst (λ (c : ℕ). Inside (outerOf g) c m) ey (w .within));
+                marked = right .every d (subst (λ (c : ℕ). Nested (outerOf g) c m) ey (w .within));
                 lane = q .lane;
                 below = q .below;
                 of = record {

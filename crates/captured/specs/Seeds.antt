@@ -10,7 +10,7 @@ use lib.ListN.{length, getD}
 use Rattle.spec.specs.Record.{bit, isKind, LOCAL, USES, target, index, localTy}
 use Rattle.spec.specs.Sheet.{Group, ofKind}
 use Rattle.spec.specs.Classes.{satisfies}
-use Rattle.lanes.specs.Lanes.{Inside}
+use Rattle.lanes.specs.Lanes.{Nested}
 use Rattle.reach.specs.Reach.{outerOf}
 use Rattle.captured.specs.Captured.{laneMarker}
 
@@ -45,7 +45,7 @@ pub record Wanted (g : ℕ → Group) (k m : ℕ) (rs : Group) (d : ℕ) : Type 
   pub uses : T (isKind USES bytes)
   pub owner : target bytes ≡ d
   pub lacking : satisfies g k (localTy (getD (ofKind LOCAL (g d)) (index bytes) [])) ≡ false
-  pub within : Inside (outerOf g) d m
+  pub within : Nested (outerOf g) d m
 
 -- entry i is that of class m in one of three lanes, and x is an owner that its records make it want
 pub record ByRecords (g : ℕ → Group) (m : ℕ) (rs : Group) (i x : ℕ) : Type 0 where

@@ -71,7 +71,7 @@ fn variable_markers<'a>(
 }
 
 // Lane k of class m is lowered to the owner d if its marker is lacking.
-fn lower(set: u8, k: usize, m: usize, d: usize, row: &mut [u8])
+fn lower_lane(set: u8, k: usize, m: usize, d: usize, row: &mut [u8])
     requires { ⌜ (k < 3) × (m < 256) × (d < 256) × (768 ≤ length (now row)) ⌝ }
     ensures { λ r. ⌜ Lowering (InLane set k m d) (now (row .entry)) (now (row .exit)) ⌝ }
 {
@@ -94,7 +94,7 @@ fn offer(marks: &[u8], set: u8, m: usize, d: usize, row: &mut [u8])
     }
     let mut k = 0;
     while k < 3 {
-        lower(set, k, m, d, row);
+        lower_lane(set, k, m, d, row);
         k += 1;
     }
 }

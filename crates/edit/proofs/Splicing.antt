@@ -8,7 +8,7 @@ use native.Mathlib.Omega.{arith}
 use lib.ListN.{length, take, drop, replicate, length-replicate, replicate-append-replicate}
 use lib.Seq.{paste, length-take-le, take-all, take-length, take-take, take-append-le, take-at, drop-at, drop-append-add, drop-drop}
 use Rattle.spec.specs.Promises.{bufferWith}
-use Rattle.theory.proofs.Parts.{part-rest}
+use Rattle.laws.proofs.Parts.{part-rest}
 use Rattle.view.specs.declared.Cut.{Cut}
 use Rattle.view.specs.View.{Fits, spliced}
 use Rattle.view.proofs.Splice.{length-spliced}

@@ -8,7 +8,7 @@ ghost use Rattle.spec.specs.Promises.{bufferWith};
 ghost use Rattle.view.specs.View.{Fits, spliced};
 
 // Moves n bytes to a place that is not below: the last byte first, so that none is overwritten before it is read.
-fn raise(buffer: &mut [u8], from: usize, to: usize, n: usize)
+fn move_up(buffer: &mut [u8], from: usize, to: usize, n: usize)
     requires { ⌜ (from ≤ to) × (to + n ≤ length (now buffer)) ⌝ }
     ensures { λ r. ⌜ now (buffer .exit) ≡ paste (now (buffer .entry)) to (drop from (now (buffer .entry))) n ⌝ }
 {
@@ -20,7 +20,7 @@ fn raise(buffer: &mut [u8], from: usize, to: usize, n: usize)
 }
 
 // Moves n bytes to a place that is not above: the first byte first.
-fn lower(buffer: &mut [u8], from: usize, to: usize, n: usize)
+fn move_down(buffer: &mut [u8], from: usize, to: usize, n: usize)
     requires { ⌜ (to ≤ from) × (from + n ≤ length (now buffer)) ⌝ }
     ensures { λ r. ⌜ now (buffer .exit) ≡ paste (now (buffer .entry)) to (drop from (now (buffer .entry))) n ⌝ }
 {
@@ -40,9 +40,9 @@ fn shift(buffer: &mut [u8], from: usize, to: usize, n: usize)
         return;
     }
     if from < to {
-        raise(buffer, from, to, n);
+        move_up(buffer, from, to, n);
     } else {
-        lower(buffer, from, to, n);
+        move_down(buffer, from, to, n);
     }
 }
 

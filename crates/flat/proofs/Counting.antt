@@ -11,7 +11,7 @@ use lib.ListN.{length, getD}
 use borrow.Author.Tests.{eq-eqb, ne-eqb}
 use Rattle.spec.specs.Lists.{count, span}
 use Rattle.spec.specs.Verdicts.{verdictBytes, flatLines, flatAt}
-use Rattle.theory.proofs.Counts.{step, count-none, count-more}
+use Rattle.laws.proofs.Count.{step, count-none, count-more}
 use Rattle.flat.specs.Row.{faultedIn, markedIn}
 
 module _ (row : List ℕ) (n : ℕ) where

@@ -11,7 +11,7 @@ use lib.ListN.{length, getD}
 use borrow.Author.Tests.{ne-eqb, lt-ltb, le-ltb}
 use Rattle.spec.specs.Rules.{Verdict}
 use Rattle.spec.specs.Verdicts.{flatLines, flatRewritten}
-use Rattle.theory.proofs.Bools.{false-t, true-t}
+use Rattle.laws.proofs.Bools.{false-t, true-t}
 use Rattle.theory.proofs.FlatRow.{rewritten-length, rewritten-lines, rewritten-none, rewritten-same, rewritten-more}
 use Rattle.flat.specs.Row.{putAt, chosen}
 

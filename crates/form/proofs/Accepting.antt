@@ -13,7 +13,7 @@ use Rattle.spec.specs.Lists.{firstOf}
 use Rattle.spec.specs.Sheet.{classCount, total, group, groupStart, locatedIn, located}
 use Rattle.spec.specs.Refusals.{Refusal as Reason, refuseIf, refuseRecord, formTests, deemedTests, recordRefusal, tornRefusal, noClassRefusal}
 use Rattle.spec.specs.Refusals.{formRefusal, deemedRefusal, sheetRefusal, sizeRefusal, presentRefusal}
-use Rattle.theory.proofs.Bools.{nltb}
+use Rattle.laws.proofs.Bools.{nltb}
 use Rattle.theory.proofs.Answers.{some≢none, first-some, first-only, first-past, first-append, keep-head, none-if, Gives}
 use Rattle.theory.proofs.Accept.{form-fits}
 use Rattle.theory.proofs.Falls.{Falls, falls}
@@ -26,9 +26,9 @@ use Rattle.groups.proofs.Held.{in-library}
 use Rattle.overlay.specs.Memo.{memoOf}
 use Rattle.overlay.proofs.Memos.{memo-none, memo-length}
 use Rattle.overlay.proofs.Turns.{classes-few}
-use Rattle.second.specs.Second.{formIn, firstClass}
+use Rattle.second.specs.Second.{formIn, classesStart}
 use Rattle.groups.specs.declared.Classes.{Classes}
-use Rattle.form.specs.Form.{firstDeemed, passesRefusal, laterRefusal, Starts, Ready, fine, refuse, refusalOf, checkedOf}
+use Rattle.form.specs.Form.{Presents, firstDeemed, passesRefusal, laterRefusal, Starts, Ready, fine, refuse, refusalOf, checkedOf}
 use Rattle.form.specs.declared.Refusal.{Refusal}
 use Rattle.form.specs.declared.Checked.{Checked}
 use Rattle.form.specs.declared.Checked.the-variants.{Fine, Refused}
@@ -114,8 +114,8 @@ form-names library user nlib n sheet m s = along-names (formTests (group library
 
 module _ {library user : List ℕ} {nlib n : ℕ} {row : List ℕ} (x : Indexed library user nlib n row) where
   form-sheets : formRefusal library user
-      ≡ firstOf (formIn (group library user) nlib n 0 (firstClass nlib 0) library ∷ formIn (group library user) nlib n 1 (firstClass nlib 1) user ∷ [])
-  unfolding firstClass
+      ≡ firstOf (formIn (group library user) nlib n 0 (classesStart nlib 0) library ∷ formIn (group library user) nlib n 1 (classesStart nlib 1) user ∷ [])
+  unfolding classesStart
   form-sheets = rw (x .nlib-is, x .n-is) (form-parts library user)
 
   first-deemed : firstDeemed (group library user) nlib ≡ firstDeemed (group library user) (classCount library)
@@ -141,30 +141,30 @@ module _ {library user : List ℕ} {nlib n : ℕ} {row : List ℕ} (x : Indexed 
   Later r memo = (r ≡ checkedOf (laterRefusal library user) nlib n) × Ready (laterRefusal library user) library user row memo
 
   -- the second pass of the library sheet ended with p
-  module _ {p : Pass} (ep : p ≡ passOf (formIn (group library user) nlib n 0 (firstClass nlib 0) library) (firstClass nlib 0 + classCount library)) where
+  module _ {p : Pass} (ep : p ≡ passOf (formIn (group library user) nlib n 0 (classesStart nlib 0) library) (classesStart nlib 0 + classCount library)) where
     pub later-first : {number byte : ℕ} {memo : List ℕ} → p ≡ Stops number byte → memo ≡ replicate 256 65535 → Later (refuse number 0 byte) memo
     unfolding laterRefusal
     later-first f m =
-        let o = first-some _ (stops-some _ _ (form-names library user nlib n 0 (firstClass nlib 0) library) (sym f ∙ ep)) in
+        let o = first-some _ (stops-some _ _ (form-names library user nlib n 0 (classesStart nlib 0) library) (sym f ∙ ep)) in
         let e = first-some (deemedRefusal library user ∷ []) (form-sheets ∙ o) in
         (rw e, ready-fresh e (x .long, m))
 
     -- and that of the user sheet with q
-    module _ {k : ℕ} (fp : p ≡ Passes k) {q : Pass} (eq : q ≡ passOf (formIn (group library user) nlib n 1 (firstClass nlib 1) user) (firstClass nlib 1 + classCount user)) where
-      library-fits : formIn (group library user) nlib n 0 (firstClass nlib 0) library ≡ none
-      library-fits = passes-none (formIn (group library user) nlib n 0 (firstClass nlib 0) library) (sym fp ∙ ep) .0
+    module _ {k : ℕ} (fp : p ≡ Passes k) {q : Pass} (eq : q ≡ passOf (formIn (group library user) nlib n 1 (classesStart nlib 1) user) (classesStart nlib 1 + classCount user)) where
+      library-fits : formIn (group library user) nlib n 0 (classesStart nlib 0) library ≡ none
+      library-fits = passes-none (formIn (group library user) nlib n 0 (classesStart nlib 0) library) (sym fp ∙ ep) .0
 
       pub later-second : {number byte : ℕ} {memo : List ℕ} → q ≡ Stops number byte → memo ≡ replicate 256 65535 → Later (refuse number 1 byte) memo
       unfolding laterRefusal
       later-second f m =
-          let o = stops-some _ _ (form-names library user nlib n 1 (firstClass nlib 1) user) (sym f ∙ eq) in
+          let o = stops-some _ _ (form-names library user nlib n 1 (classesStart nlib 1) user) (sym f ∙ eq) in
           let e = first-some (deemedRefusal library user ∷ []) (form-sheets ∙ first-past _ _ library-fits ∙ o) in
           (rw e, ready-fresh e (x .long, m))
 
       module _ {m : ℕ} (fq : q ≡ Passes m) where
         form-none : formRefusal library user ≡ none
         form-none =
-            form-sheets ∙ first-past _ _ library-fits ∙ passes-none (formIn (group library user) nlib n 1 (firstClass nlib 1) user) (sym fq ∙ eq) .0
+            form-sheets ∙ first-past _ _ library-fits ∙ passes-none (formIn (group library user) nlib n 1 (classesStart nlib 1) user) (sym fq ∙ eq) .0
 
         later-falls : Falls (group library user)
         later-falls = form-falls library user form-none
@@ -233,21 +233,15 @@ module _ {library user row : List ℕ} {p : Checked} (e : (p ≡ checkedOf (pass
 -- ---- present: 1 to 11
 
 module _ (library user : List ℕ) (used : ℕ) where
-  -- what a call of the present sheets promises
-  abbrev pub Presents : Checked → List ℕ → List ℕ → Type 0
-  Presents p row memo =
-      (p ≡ checkedOf (presentRefusal library user used) (classCount library) (total library (take used user)))
-      × Ready (presentRefusal library user used) library (take used user) row memo
-
   size-first : {r : Reason} → sizeRefusal library user used ≡ some r → presentRefusal library user used ≡ some r
   unfolding presentRefusal
   size-first e = first-some _ e
 
   module _ {row memo : List ℕ} (rows : Fresh row memo) where
-    refused : {r : Reason} → sizeRefusal library user used ≡ some r → Presents (refuse (r .number) (r .sheet) (r .byte)) row memo
-    refused e = let o = size-first e in (rw o, ready-fresh o rows)
+    refused : {r : Reason} → sizeRefusal library user used ≡ some r → Presents library user used (refuse (r .number) (r .sheet) (r .byte)) row memo
+    refused e = let o = size-first e in record { answered = rw o; ready = ready-fresh o rows }
 
-    pub library-long : 32768 < length library → Presents (refuse 1 0 0) row memo
+    pub library-long : 32768 < length library → Presents library user used (refuse 1 0 0) row memo
     unfolding sizeRefusal refuseIf firstOf
     library-long h = refused (let o : sizeRefusal library user used ≡ some (record { number = 1; sheet = 0; byte = 0 }) = rw (lt-ltb 32768 (length library) h) in o)
 
@@ -256,12 +250,12 @@ module _ (library user : List ℕ) (used : ℕ) where
     unfolding sizeRefusal
     user-size b e = first-past _ _ (none-if (ltb 32768 (length library)) 1 0 0 (nltb 32768 (length library) (omega arith))) ∙ rw e
 
-    pub used-long : {row memo : List ℕ} → Fresh row memo → 32768 < used → Presents (refuse 1 1 0) row memo
+    pub used-long : {row memo : List ℕ} → Fresh row memo → 32768 < used → Presents library user used (refuse 1 1 0) row memo
     unfolding refuseIf
     used-long rows h = refused rows (user-size true (rw (lt-ltb 32768 used h)))
 
     module _ (u : 32768 < used → ⊥) where
-      pub used-past : {row memo : List ℕ} → Fresh row memo → length user < used → Presents (refuse 1 1 0) row memo
+      pub used-past : {row memo : List ℕ} → Fresh row memo → length user < used → Presents library user used (refuse 1 1 0) row memo
       unfolding refuseIf
       used-past rows h = refused rows (user-size true (rw (le-ltb 32768 used (omega arith), lt-ltb (length user) used h)))
 
@@ -271,7 +265,7 @@ module _ (library user : List ℕ) (used : ℕ) where
         size-none = first-past _ _ (user-size false (rw (le-ltb 32768 used (omega arith), le-ltb (length user) used (omega arith))))
 
         pub present-is : {p : Checked} {row memo : List ℕ} (s : List ℕ) → s ≡ take used user
-            → (p ≡ checkedOf (sheetRefusal library s) (classCount library) (total library s)) × Ready (sheetRefusal library s) library s row memo → Presents p row memo
+            → (p ≡ checkedOf (sheetRefusal library s) (classCount library) (total library s)) × Ready (sheetRefusal library s) library s row memo → Presents library user used p row memo
         present-is {p} {row} {memo} s e h =
             let q = subst (λ (v : List ℕ). (p ≡ checkedOf (sheetRefusal library v) (classCount library) (total library v)) × Ready (sheetRefusal library v) library v row memo) e h in
-            (q .0 ∙ rw size-none, rw size-none (q .1))
+            record { answered = q .0 ∙ rw size-none; ready = rw size-none (q .1) }

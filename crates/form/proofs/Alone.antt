@@ -16,12 +16,12 @@ use Rattle.spec.specs.Sheet.{Group, recordsOf, recordsIn, splitGroups, groupsOf
 use Rattle.spec.specs.Relations.{Says, Superclass, Encloser, Implements}
 use Rattle.spec.specs.Markers.{closure, union, unionAll}
 use Rattle.spec.specs.Classes.{supertypes, gathered, overlay}
-use Rattle.theory.proofs.All.{weaken, map-cong}
+use Rattle.laws.proofs.All.{weaken, map-cong}
 use Rattle.theory.proofs.Accept.{Clear}
-use Rattle.theory.proofs.Bools.{decide}
+use Rattle.laws.proofs.Bools.{decide}
 use Rattle.theory.proofs.Falls.{Falls}
 use Rattle.theory.proofs.Overlay.{supertypes-lower}
-use Rattle.theory.proofs.Rows.{length-values, getD-values}
+use Rattle.laws.proofs.Rows.{length-values, getD-values}
 use Rattle.groups.specs.Groups.{startOf, Indexed}
 use Rattle.groups.proofs.Few.{group-past}
 use Rattle.groups.proofs.Held.{in-library}

@@ -12,7 +12,7 @@ use Rattle.spec.specs.Lists.{concat}
 use Rattle.spec.specs.Sheet.{classCount}
 use Rattle.spec.specs.Refusals.{Refusal}
 use Rattle.theory.proofs.Cut.{IsGroup}
-use Rattle.theory.proofs.Parts.{part-rest}
+use Rattle.laws.proofs.Parts.{part-rest}
 use Rattle.theory.proofs.Answers.{some≢none, first-some, first-past}
 use Rattle.view.specs.declared.Cut.{Cut}
 use Rattle.view.specs.View.{Around, Seamed, Fits, spliced}

@@ -14,8 +14,8 @@ use borrow.Author.Tests.{eq-eqb, ne-eqb, lt-ltb, le-ltb}
 use Rattle.spec.specs.Lists.{firstOf}
 use Rattle.spec.specs.Sheet.{recordsOf, classCount, total, groupStart, Located, locatedIn}
 use Rattle.spec.specs.Refusals.{Refusal, refuseIf, refuseRecord, recordTests, recordRefusal, tornRefusal, noClassRefusal}
-use Rattle.theory.proofs.Bools.{decide}
-use Rattle.theory.proofs.All.{weaken, of-members}
+use Rattle.laws.proofs.Bools.{decide}
+use Rattle.laws.proofs.All.{weaken, of-members}
 use Rattle.theory.proofs.Answers.{some≢none, first-none, none-first, skip-none, first-some, first-append, keep-head, Gives, gives-first, gives-map}
 use Rattle.theory.proofs.Refused.{gives-if, gives-record, Among, locate-among}
 use Rattle.theory.proofs.Accept.{Clear, clear}

@@ -1,7 +1,7 @@
 // Acceptance: the deemed markers (11), and all of 1 to 11 of a library sheet and a view.
+use fingerprints::prints;
 use groups::Classes;
 use markers::clash;
-use names::prints;
 use overlay::overlay;
 use pass::Pass;
 use pass::first_pass;
@@ -13,15 +13,15 @@ use view::View;
 ghost use mathlib.Core.Path.{_≡_};
 ghost use mathlib.Core.List.{List, []};
 ghost use Prim.Native.Nat.{ℕ, _+_, _≤_, min};
-ghost use lib.ListN.{length, take, replicate};
+ghost use lib.ListN.{length, replicate};
 ghost use Rattle.spec.specs.Sheet.{Group, group as groupOf, classCount, total};
-ghost use Rattle.spec.specs.Refusals.{sheetRefusal, presentRefusal};
+ghost use Rattle.spec.specs.Refusals.{sheetRefusal};
 ghost use Rattle.theory.proofs.Falls.{Falls};
 ghost use Rattle.view.specs.View.{Fits, spliced, Views};
 ghost use Rattle.pass.specs.Pass.{passRefusal, passOf, Filled};
 ghost use Rattle.groups.specs.Groups.{Indexed};
 ghost use Rattle.overlay.specs.Memo.{memoOf};
-ghost use Rattle.form.specs.Form.{deemedBreaks, firstDeemed, passesRefusal, laterRefusal, Starts, Ready, checkedOf};
+ghost use Rattle.form.specs.Form.{deemedBreaks, firstDeemed, passesRefusal, laterRefusal, Starts, Ready, Presents, checkedOf};
 
 // Why sheets are turned away: the number, the sheet (0 library, 1 user) and the byte in it.
 pub struct Refusal {
@@ -238,10 +238,7 @@ pub fn present<'a>(
     memo: &mut [u16],
 ) -> Checked
     requires { ⌜ (length (now starts) ≡ 256) × (now memo ≡ replicate 256 65535) ⌝ }
-    ensures answer { λ r. ⌜ r ≡ checkedOf (presentRefusal (now (library .entry)) (now (user .entry)) used)
-        (classCount (now (library .entry))) (total (now (library .entry)) (take used (now (user .entry)))) ⌝ }
-    ensures rows { λ r. ⌜ Ready (presentRefusal (now (library .entry)) (now (user .entry)) used)
-        (now (library .entry)) (take used (now (user .entry))) (now (starts .exit)) (now (memo .exit)) ⌝ }
+    ensures { λ r. ⌜ Presents (now (library .entry)) (now (user .entry)) used r (now (starts .exit)) (now (memo .exit)) ⌝ }
 {
     if 32768 < library.len() {
         return Checked::Refused(Refusal {

@@ -11,8 +11,8 @@ use Rattle.spec.specs.Lists.{concat}
 use Rattle.spec.specs.Record.{lengthFits}
 use Rattle.spec.specs.Sheet.{group}
 use Rattle.theory.specs.Claims.{sheetOf}
-use Rattle.theory.proofs.All.{All}
-use Rattle.theory.proofs.Parts.{part-length}
+use Rattle.laws.proofs.All.{All}
+use Rattle.laws.proofs.Parts.{part-length}
 use Rattle.theory.proofs.Cut.{Whole, records-of-whole, join-records}
 use Rattle.records.specs.Records.{between, Tiled, Carries}
 use Rattle.records.proofs.Between.{placed}

@@ -11,8 +11,8 @@ use borrow.Author.Tests.{ne-eqb}
 use Rattle.spec.specs.Record.{kind, isClass}
 use Rattle.spec.specs.Sheet.{Group, Split, recordsOf, splitGroups, groupsOf, classCount, total, group, locate, locatedIn}
 use Rattle.spec.specs.Refusals.{formRefusal}
-use Rattle.theory.proofs.Bools.{false-t}
-use Rattle.theory.proofs.All.{All, all-append, all-get}
+use Rattle.laws.proofs.Bools.{false-t}
+use Rattle.laws.proofs.All.{All, all-append, all-get}
 use Rattle.theory.proofs.Cut.{split-class, split-other}
 use Rattle.theory.proofs.Accept.{Passed, locateIf, Sound, form-fits}
 use Rattle.groups.specs.Groups.{Indexed}

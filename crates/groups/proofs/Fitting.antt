@@ -9,7 +9,7 @@ use lib.ListN.{length, getD}
 use Rattle.spec.specs.Lists.{concat}
 use Rattle.spec.specs.Record.{kind, isKind, isClass, kindFits, LOCAL, MEMBER}
 use Rattle.spec.specs.Sheet.{Group, recordsOf, splitGroups, groupsOf, group, ofKind, locate, locatedIn}
-use Rattle.theory.proofs.All.{All, all-left, all-right, all-get, all-kept}
+use Rattle.laws.proofs.All.{All, all-left, all-right, all-get, all-kept}
 use Rattle.theory.proofs.Accept.{Passed, locateIf, Clear}
 use Rattle.theory.proofs.Cut.{split-parts}
 use Rattle.theory.proofs.References.{by-kind}

@@ -15,9 +15,9 @@ use Rattle.spec.specs.Lists.{concat}
 use Rattle.spec.specs.Record.{u16, kind, isClass, CLASS, byKind, withName, lengthFits}
 use Rattle.spec.specs.Sheet.{Group, recordsOf, splitGroups, groupsOf, classCount, groupStart, total, group, classRecord, ofKind, locatedIn, located}
 use Rattle.theory.specs.Claims.{sheetOf}
-use Rattle.theory.proofs.All.{All, all-append, all-left, all-right, all-kept, weaken}
-use Rattle.theory.proofs.Bools.{decide, and-l, eq→eqb}
-use Rattle.theory.proofs.Parts.{part-length, part-word}
+use Rattle.laws.proofs.All.{All, all-append, all-left, all-right, all-kept, weaken}
+use Rattle.laws.proofs.Bools.{decide, and-l, eq→eqb}
+use Rattle.laws.proofs.Parts.{part-length, part-word}
 use Rattle.theory.proofs.Cut.{Whole, records-of-whole, concat-append, concat-concat, split-parts, sheet-grouped}
 use Rattle.theory.proofs.Accept.{Passed, by-class, Clear}
 use Rattle.theory.proofs.Form.{one-record, group-one-class}

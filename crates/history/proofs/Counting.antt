@@ -7,7 +7,7 @@ use Prim.Native.Nat.{ℕ, zero, suc, _<_}
 use native.Mathlib.Omega.{arith}
 use lib.Dec.{T}
 use Rattle.spec.specs.Lists.{keep, count, span}
-use Rattle.theory.proofs.Counts.{step, count-more}
+use Rattle.laws.proofs.Count.{step, count-more}
 use Rattle.history.specs.Demand3.{Counted, empty, counted, skipped}
 
 module _ (p : ℕ → Bool) (P : ℕ → Type 0) where

@@ -21,15 +21,15 @@ use Rattle.spec.specs.Refusals.{Refusal, sheetLimit, scratchLength, addedSheet,
 use Rattle.spec.specs.Refusals.{presentRefusal, noUserRefusal, shortRefusal, judgeRefusal, addRefusal, replaceRefusal}
 use Rattle.spec.specs.Verdicts.{VerdictRow, flat, verdictAt, userVerdict, dependsOn}
 use Rattle.spec.specs.Promises.{Answer, accepted, Counts, countsOf, judgedRow, Judges, State}
-use Rattle.theory.proofs.Bools.{decide, and-l, not-or-l, eq→eqb}
-use Rattle.theory.proofs.All.{All, all-append, all-gather, all-set}
+use Rattle.laws.proofs.Bools.{decide, and-l, not-or-l, eq→eqb}
+use Rattle.laws.proofs.All.{All, all-append, all-gather, all-set}
 use Rattle.theory.proofs.Cut.{IsGroup, count-of-join, sheet-grouped, sheet-groups}
 use Rattle.theory.proofs.Answers.{first-none, none-first, plain-none}
 use Rattle.theory.proofs.Demand2.{demand2}
 use Rattle.theory.proofs.Local.{verdict-same, locality}
 use Rattle.theory.proofs.New.{new-sheets}
 use Rattle.theory.proofs.Form.{depends-on}
-use Rattle.theory.proofs.Accept.{Fits, Clear, Sound, sound}
+use Rattle.theory.proofs.Accept.{RecordFits, Clear, Sound, sound}
 use Rattle.history.specs.Model.{Call, add, replace, Model, sheet, used, buffer, opened, modelRefusal, newGroups, newSheet, modelValue, modelAnswer, changed}
 use Rattle.history.specs.Judged.{RightAt}
 use Rattle.history.specs.Demand3.{RowLaws, Dependent, Value, MayChange, Done, Runs, Agrees, Answers, Follows, Demand3}
@@ -37,7 +37,7 @@ use Rattle.history.proofs.Flat.{flat-laws}
 use Rattle.history.proofs.Counting.{counted-by}
 use Rattle.history.proofs.Unrefused.{Present, present-facts, facts-present, short-none, none-short, Passes, edit-passes}
 use Rattle.history.proofs.Model.{total-count, added-group, set-group, front-is}
-use Rattle.history.proofs.Steps.{is-accepted, anew, as-before, library-stays, writes, made, made-is, why, next, Modelled, Holds}
+use Rattle.history.proofs.Steps.{is-accepted, anew, as-before, library-stays, writes, made, made-is, why, next, Modelled, ModelHolds}
 use Rattle.history.proofs.Steps.{modelled, user-after, used-after, state-stays, model-stays, model-changes, row-changes}
 
 -- a user sheet that judging accepts beside the library, with a verdict for each class
@@ -63,7 +63,7 @@ new-whole m (replace c g) w u = all-set IsGroup (m .groups) (c - classCount (m .
 references-below : (library user : List ℕ) → Sound library user → (d : ℕ) → All (λ e. e < total library user) (groupReferences (group library user d))
 unfolding groupReferences
 references-below library user s d =
-    all-gather (Fits (classCount library) (total library user) (group library user) d) (λ e. e < total library user) references (λ r f. f .there) (group library user d) (s .fits d)
+    all-gather (RecordFits (classCount library) (total library user) (group library user) d) (λ e. e < total library user) references (λ r f. f .there) (group library user d) (s .fits d)
 
 -- ---- a call that is not refused
 
@@ -147,7 +147,7 @@ module _ (m : Model) (w : All IsGroup (m .groups)) (s : Sound (m .library) (shee
 
 module _ (row : VerdictRow) (laws : RowLaws row) where
   record Good (m : Model) (s : State row) : Type 0 where
-    holds : Holds row m s
+    holds : ModelHolds row m s
     library-size : length (m .library) ≤ sheetLimit
     acceptable : Acceptable (m .library) (sheet m) (m .lines)
     verdicts-are : (i : ℕ) → i < classCount (sheet m) → row .at (s .verdicts) i ≡ userVerdict (m .library) (sheet m) i

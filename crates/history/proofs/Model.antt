@@ -11,7 +11,7 @@ use lib.ListN.{length, getD, take, drop, set, length-append, List·getD-append}
 use lib.Seq.{take-append-seam, drop-append-seam, getD-set-other}
 use Rattle.spec.specs.Lists.{concat}
 use Rattle.spec.specs.Sheet.{Group, recordsOf, groupsOf, classCount, total, group}
-use Rattle.theory.proofs.All.{All, all-append, all-set}
+use Rattle.laws.proofs.All.{All, all-append, all-set}
 use Rattle.theory.proofs.Cut.{IsGroup, groups-of-join, count-of-join}
 use Rattle.history.specs.Model.{Model, sheet, used, buffer}
 

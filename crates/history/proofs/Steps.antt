@@ -13,7 +13,7 @@ use Rattle.spec.specs.Sheet.{classCount, total}
 use Rattle.spec.specs.Refusals.{Refusal, addedSheet, replacedSheet, addRefusal, replaceRefusal}
 use Rattle.spec.specs.Verdicts.{VerdictRow, userVerdict, dependsOn, dependentCount}
 use Rattle.spec.specs.Promises.{Answer, refused, accepted, answerOf, afterwards, bufferWith, State, Edit, edited, Makes, addition, replacement}
-use Rattle.theory.proofs.All.{All}
+use Rattle.laws.proofs.All.{All}
 use Rattle.theory.proofs.Cut.{IsGroup, groups-of-join, count-of-join, regroup, concat-append}
 use Rattle.history.specs.Model.{Call, add, replace, Model, sheet, used, buffer, modelRefusal, newGroups, newSheet, modelValue, newPast, changed, modelStep}
 use Rattle.history.specs.Demand3.{Done, PromisedBy, Promised}
@@ -102,13 +102,13 @@ module _ (row : VerdictRow) where
 
   -- ---- user buffer, used length and the number of verdicts are the model's
 
-  pub record Holds (m : Model) (s : State row) : Type 0 where
+  pub record ModelHolds (m : Model) (s : State row) : Type 0 where
     pub whole : All IsGroup (m .groups)
     pub user-is : s .user ≡ buffer m
     pub used-is : s .used ≡ used m
     pub lines-are : row .lines (s .verdicts) ≡ m .lines
 
-  module _ (m : Model) (s : State row) (h : Holds m s) where
+  module _ (m : Model) (s : State row) (h : ModelHolds m s) where
     sheet-is : take (s .used) (s .user) ≡ sheet m
     sheet-is = (λ j. take (h .used-is j) (h .user-is j)) ∙ front-is m
 

@@ -9,8 +9,8 @@ use lib.Dec.{ltb, nltb→le}
 use lib.ListN.{length, take}
 use Rattle.spec.specs.Sheet.{classCount}
 use Rattle.spec.specs.Refusals.{refuseIf, sheetLimit, scratchLength, wholeGroup, sizeRefusal, sheetRefusal, newRefusal, presentRefusal, shortRefusal, groupRefusal, roomRefusal}
-use Rattle.theory.proofs.Bools.{un-not, not-or, not-or-l, not-or-r, nltb}
-use Rattle.theory.proofs.All.{All}
+use Rattle.laws.proofs.Bools.{un-not, not-or, not-or-l, not-or-r, nltb}
+use Rattle.laws.proofs.All.{All}
 use Rattle.theory.proofs.Cut.{IsGroup}
 use Rattle.theory.proofs.Answers.{first-none, none-first, if-none, none-if, plain-none, none-plain}
 

@@ -16,10 +16,10 @@ use Rattle.spec.specs.Refusals.{Refusal, refusePlain, sizeRefusal, sheetRefusal
 use Rattle.spec.specs.Refusals.{replaceRefusal, queryRefusal}
 use Rattle.spec.specs.Promises.{Answer, refused, accepted, answerOf, Counts, countsOf, Judges, State, addition, replacement, Adds, Replaces}
 use Rattle.theory.specs.Claims.{sheetOf, Blames, size, torn, at, noClass, plain, BlamesEdit, present, made}
-use Rattle.theory.proofs.Bools.{not-or-l, not-or-r}
-use Rattle.theory.proofs.All.{All}
+use Rattle.laws.proofs.Bools.{not-or-l, not-or-r}
+use Rattle.laws.proofs.All.{All}
 use Rattle.theory.proofs.Cut.{concat-append, front-low}
-use Rattle.theory.proofs.Counts.{step, count-none, count-more}
+use Rattle.laws.proofs.Count.{step, count-none, count-more}
 use Rattle.theory.proofs.Answers.{first-none, first-some, first-append, skip-none, Gives, gives-first, if-none, plain-none}
 use Rattle.theory.proofs.Accept.{sound}
 use Rattle.theory.proofs.Refused.{gives-if, refusals-hold}

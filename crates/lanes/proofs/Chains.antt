@@ -2,9 +2,9 @@
 -- Assumes nothing.
 use mathlib.Core.List.{List, List·Memᴰ}
 use Prim.Native.Nat.{ℕ, _<_}
-use Rattle.lanes.specs.Lanes.{Fits, Draws, own, via, Least}
+use Rattle.lanes.specs.Lanes.{OwnerFits, Draws, own, via, Least}
 
-pub draws-fit : {step : ℕ → List ℕ} {outer : ℕ → ℕ} {n : ℕ} {seed : ℕ → ℕ} {y m : ℕ} → Draws step outer n seed y m → Fits outer y m
+pub draws-fit : {step : ℕ → List ℕ} {outer : ℕ → ℕ} {n : ℕ} {seed : ℕ → ℕ} {y m : ℕ} → Draws step outer n seed y m → OwnerFits outer y m
 draws-fit (own e f) = f
 draws-fit (via f e l d) = f
 

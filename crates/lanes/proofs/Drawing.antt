@@ -12,7 +12,7 @@ use native.Mathlib.Omega.{arith}
 use lib.Dec.{eqb, ltb}
 use lib.ListN.{length, getD, set, length-set}
 use borrow.Author.Tests.{eq-eqb, ne-eqb, eqb-true, lt-ltb, le-ltb, ltb-true, ltb-false}
-use Rattle.lanes.specs.Lanes.{Fits, entryAt, Settled, Enclosers, fitsRow, eitherOf, lowers, drawn, drew, drawnLanes, drewLanes, lanesOf}
+use Rattle.lanes.specs.Lanes.{OwnerFits, entryAt, Settled, Enclosers, fitsRow, eitherOf, lowers, drawn, drew, drawnLanes, drewLanes, lanesOf}
 use Rattle.lanes.proofs.Runs.{run-none, run-then, run-lower, Offered}
 
 -- ---- the row of marks says what fits
@@ -25,15 +25,15 @@ both-true true b e = (refl, e)
 both-true false b e = false-true refl e
 
 module _ (marks : List ℕ) (outer : ℕ → ℕ) (m y : ℕ) (right : Enclosers outer m marks) where
-  pub fits-only : fitsRow marks y ≡ true → Fits outer y m
+  pub fits-only : fitsRow marks y ≡ true → OwnerFits outer y m
   unfolding fitsRow
   fits-only h = go (ℕ-discrete y 0)
     where
-      go : Dec (y ≡ 0) → Fits outer y m
+      go : Dec (y ≡ 0) → OwnerFits outer y m
       go (yes q) = inl q
       go (no q) = inr (right .only y (eqb-true (getD marks y 0) 1 (rw (ne-eqb y 0 q) at h)))
 
-  pub fits-every : Fits outer y m → fitsRow marks y ≡ true
+  pub fits-every : OwnerFits outer y m → fitsRow marks y ≡ true
   unfolding fitsRow
   fits-every (inl q) = rw (eq-eqb y 0 q)
   fits-every (inr i) = rw (eq-eqb (getD marks y 0) 1 (right .every y i)) (or-true (eqb y 0))
@@ -126,7 +126,7 @@ module _ {marks : List ℕ} {n lanes m t : ℕ} (few : n ≤ 256) (hm : m < n) w
     unfolding Settled lowers
     stays h = record { run = λ step outer e g. run-none s (λ j q a b c. rw q (settled outer g (rw q at c))) }
       where
-        settled : (outer : ℕ → ℕ) → Enclosers outer m marks → Fits outer (entryAt s k t) m → entryAt s k m ≤ entryAt s k t
+        settled : (outer : ℕ → ℕ) → Enclosers outer m marks → OwnerFits outer (entryAt s k t) m → entryAt s k m ≤ entryAt s k t
         settled outer g c = ltb-false (entryAt s k t) (entryAt s k m) (rw (fits-every marks outer m (entryAt s k t) g c, and-true) at h)
 
     takes : lowers marks m t k s ≡ true → Offered marks n lanes m t (λ j. j ≡ k) s (set s (k * 256 + m) (entryAt s k t)) 1

@@ -10,7 +10,7 @@ use native.Mathlib.Omega.{arith}
 use lib.Dec.{ltb}
 use lib.ListN.{length, getD, set, replicate, length-set, length-replicate}
 use borrow.Author.Tests.{lt-ltb, le-ltb, ltb-true, ltb-false}
-use Rattle.lanes.specs.Lanes.{Inside, direct, Enclosers, markedUp}
+use Rattle.lanes.specs.Lanes.{Nested, direct, Enclosers, markedUp}
 use Rattle.lanes.proofs.Rows.{zeros, marked-by, marked-still}
 use Rattle.lanes.proofs.Enclosing.{inside-trans, inside-up, inside-none}
 
@@ -63,9 +63,9 @@ pub record Up (outer : ℕ → ℕ) (m : ℕ) (row₀ row : List ℕ) (c e : ℕ
   pub long : length row ≡ length row₀
   pub here : e ≡ outer c
   pub low : c ≤ m
-  pub chain : (c ≡ m) ⊎ Inside outer c m
-  pub only : (x : ℕ) → getD row x 0 ≡ 1 → Inside outer x m
-  pub every : (x : ℕ) → Inside outer x m → (getD row x 0 ≡ 1) ⊎ Inside outer x c
+  pub chain : (c ≡ m) ⊎ Nested outer c m
+  pub only : (x : ℕ) → getD row x 0 ≡ 1 → Nested outer x m
+  pub every : (x : ℕ) → Nested outer x m → (getD row x 0 ≡ 1) ⊎ Nested outer x c
 
 pub up-start : (outer : ℕ → ℕ) (m : ℕ) (row : List ℕ) (e : ℕ) → ((x : ℕ) → getD row x 0 ≡ 0) → e ≡ outer m → Up outer m row row m e
 up-start outer m row e z q =
@@ -75,14 +75,14 @@ module _ {outer : ℕ → ℕ} {m : ℕ} {row₀ row : List ℕ} {c e : ℕ} (f 
   pub up-next : {e′ : ℕ} → e < c → m ≤ length row₀ → e′ ≡ outer e → Up outer m row₀ (set row e 1) e e′
   up-next h b q =
       let l : e < length row = omega (arith, f .long, f .low) in
-      let above : Inside outer e c = direct (sym (f .here)) h in
-      let i : Inside outer e m = ⊎-elim (λ p. subst (Inside outer e) p above) (λ j. inside-trans above j) (f .chain) in
+      let above : Nested outer e c = direct (sym (f .here)) h in
+      let i : Nested outer e m = ⊎-elim (λ p. subst (Nested outer e) p above) (λ j. inside-trans above j) (f .chain) in
       record {
         long = length-set row e 1 ∙ f .long;
         here = q;
         low = omega (arith, f .low);
         chain = inr i;
-        only = λ x y. ⊎-elim (λ p. subst (λ (z : ℕ). Inside outer z m) (sym p) i) (λ o. f .only x o) (marked-by row e x y);
+        only = λ x y. ⊎-elim (λ p. subst (λ (z : ℕ). Nested outer z m) (sym p) i) (λ o. f .only x o) (marked-by row e x y);
         every = λ x y.
             ⊎-elim (λ o. inl (marked-still row e x l (inr o)))
             (λ j. ⊎-elim (λ p. inl (marked-still row e x l (inl p))) (λ o. inr o) (inside-up (f .here) j))

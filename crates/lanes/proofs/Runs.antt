@@ -9,7 +9,7 @@ use native.Mathlib.Omega.{arith}
 use borrow.Author.Tests.{eq-eqb, ne-eqb}
 use lib.ListN.{length, getD, set}
 use lib.Seq.{getD-set-same, getD-set-other}
-use Rattle.lanes.specs.Lanes.{Enclosers, Fits, Draws, via, entryAt, Sound, Other, Settled, Run, eitherOf}
+use Rattle.lanes.specs.Lanes.{Enclosers, OwnerFits, Draws, via, entryAt, Sound, Other, Settled, Run, eitherOf}
 use Rattle.lanes.proofs.Rows.{sum-set}
 use Rattle.lanes.proofs.Enclosing.{fits-owner}
 
@@ -64,7 +64,7 @@ module _ {step : ℕ → List ℕ} {outer : ℕ → ℕ} {n lanes : ℕ} where
 
 -- The entry of m in lane k becomes that of t.
 module _ (step : ℕ → List ℕ) (outer : ℕ → ℕ) (n lanes : ℕ) (s : List ℕ) (k m t : ℕ) (few : n ≤ 256) (hk : k < lanes) (hm : m < n) (ht : t < n) (long : lanes * 256 ≤ length s) where
-  lower-sound : entryAt s k t < 255 → Fits outer (entryAt s k t) m → List·Memᴰ t (step m) → (g : List ℕ) → Sound step outer n lanes g s
+  lower-sound : entryAt s k t < 255 → OwnerFits outer (entryAt s k t) m → List·Memᴰ t (step m) → (g : List ℕ) → Sound step outer n lanes g s
       → Sound step outer n lanes g (set s (k * 256 + m) (entryAt s k t))
   unfolding Sound
   lower-sound b f e g h k′ m′ hk′ hm′ v = go (ℕ-discrete (k′ * 256 + m′) (k * 256 + m))
@@ -80,7 +80,7 @@ module _ (step : ℕ → List ℕ) (outer : ℕ → ℕ) (n lanes : ℕ) (s : Li
           getD-set-other s (k * 256 + m) (k′ * 256 + m′) (entryAt s k t) 255 q in
           rw ev (h k′ m′ hk′ hm′ (rw ev at v))
 
-  pub run-lower : (P : List ℕ → Type 0) → entryAt s k t < entryAt s k m → Fits outer (entryAt s k t) m → List·Memᴰ t (step m)
+  pub run-lower : (P : List ℕ → Type 0) → entryAt s k t < entryAt s k m → OwnerFits outer (entryAt s k t) m → List·Memᴰ t (step m)
       → Run step outer n lanes P s (set s (k * 256 + m) (entryAt s k t)) 1
   unfolding Other
   run-lower P lt f e =

@@ -14,14 +14,14 @@ use lib.ListN.{getD, set}
 -- ---- enclosers
 
 -- class m lies strictly inside class x; a number that is not below m encloses nothing
-pub data Inside (outer : ℕ → ℕ) (x : ℕ) : ℕ → Type 0 where
-  direct : {m : ℕ} → outer m ≡ x → x < m → Inside outer x m
-  deeper : {m e : ℕ} → outer m ≡ e → e < m → Inside outer x e → Inside outer x m
+pub data Nested (outer : ℕ → ℕ) (x : ℕ) : ℕ → Type 0 where
+  direct : {m : ℕ} → outer m ≡ x → x < m → Nested outer x m
+  deeper : {m e : ℕ} → outer m ≡ e → e < m → Nested outer x e → Nested outer x m
 
 -- the row of marks holds 1 for the enclosers of m and for nothing else
 pub record Enclosers (outer : ℕ → ℕ) (m : ℕ) (marks : List ℕ) : Type 0 where
-  pub only : (x : ℕ) → getD marks x 0 ≡ 1 → Inside outer x m
-  pub every : (x : ℕ) → Inside outer x m → getD marks x 0 ≡ 1
+  pub only : (x : ℕ) → getD marks x 0 ≡ 1 → Nested outer x m
+  pub every : (x : ℕ) → Nested outer x m → getD marks x 0 ≡ 1
 
 -- the row with 1 written at each class that a walk up from class c comes to, in at most `left` steps
 unfoldable pub markedUp : (ℕ → ℕ) → ℕ → ℕ → List ℕ → List ℕ
@@ -29,8 +29,8 @@ markedUp outer zero c row = row
 markedUp outer (suc left) c row = elim (ltb (outer c) c) [ true ↦ markedUp outer left (outer c) (set row (outer c) 1) | false ↦ row ]
 
 -- m may have the owner y: an encloser of m, or 0, which any class may have: it is the mark in a search for dependents
-abbrev pub Fits : (ℕ → ℕ) → ℕ → ℕ → Type 0
-Fits outer y m = (y ≡ 0) ⊎ Inside outer y m
+abbrev pub OwnerFits : (ℕ → ℕ) → ℕ → ℕ → Type 0
+OwnerFits outer y m = (y ≡ 0) ⊎ Nested outer y m
 
 -- the same, asked of a row of marks
 unfoldable pub fitsRow : List ℕ → ℕ → Bool
@@ -44,12 +44,12 @@ entryAt s k m = getD s (k * 256 + m) 255
 
 -- a chain of steps leads from m to a class whose seed is y, and y fits each class on it
 pub data Draws (step : ℕ → List ℕ) (outer : ℕ → ℕ) (n : ℕ) (seed : ℕ → ℕ) (y : ℕ) : ℕ → Type 0 where
-  own : {m : ℕ} → seed m ≡ y → Fits outer y m → Draws step outer n seed y m
-  via : {m t : ℕ} → Fits outer y m → List·Memᴰ t (step m) → t < n → Draws step outer n seed y t → Draws step outer n seed y m
+  own : {m : ℕ} → seed m ≡ y → OwnerFits outer y m → Draws step outer n seed y m
+  via : {m t : ℕ} → OwnerFits outer y m → List·Memᴰ t (step m) → t < n → Draws step outer n seed y t → Draws step outer n seed y m
 
 -- each seed in the row g fits its class
 unfoldable pub SeedsFit : (ℕ → ℕ) → ℕ → ℕ → List ℕ → Type 0
-SeedsFit outer n lanes g = (k m : ℕ) → k < lanes → m < n → entryAt g k m < 255 → Fits outer (entryAt g k m) m
+SeedsFit outer n lanes g = (k m : ℕ) → k < lanes → m < n → entryAt g k m < 255 → OwnerFits outer (entryAt g k m) m
 
 -- each owner in the row s is drawn from the seeds in the row g
 unfoldable pub Sound : (ℕ → List ℕ) → (ℕ → ℕ) → ℕ → ℕ → List ℕ → List ℕ → Type 0
@@ -70,7 +70,7 @@ pub record Least (step : ℕ → List ℕ) (outer : ℕ → ℕ) (n lanes : ℕ)
 
 -- m has taken what t has for it in lane k
 unfoldable pub Settled : (ℕ → ℕ) → ℕ → ℕ → ℕ → List ℕ → ℕ → Type 0
-Settled outer n k m s t = t < n → entryAt s k t < 255 → Fits outer (entryAt s k t) m → entryAt s k m ≤ entryAt s k t
+Settled outer n k m s t = t < n → entryAt s k t < 255 → OwnerFits outer (entryAt s k t) m → entryAt s k m ≤ entryAt s k t
 
 -- m has taken what any class that it draws from has for it
 unfoldable pub SettledAt : (ℕ → List ℕ) → (ℕ → ℕ) → ℕ → ℕ → ℕ → List ℕ → Type 0
@@ -124,6 +124,6 @@ unfoldable pub lanesOf : ℕ → ℕ → ℕ → ℕ
 lanesOf n lanes t = elim (ltb t n) [ true ↦ lanes | false ↦ 0 ]
 
 -- the i-th class of a sweep upwards or downwards
-unfoldable pub placeOf : Bool → ℕ → ℕ → ℕ
-placeOf true n i = i
-placeOf false n i = n - 1 - i
+unfoldable pub sweptOf : Bool → ℕ → ℕ → ℕ
+sweptOf true n i = i
+sweptOf false n i = n - 1 - i

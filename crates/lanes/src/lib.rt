@@ -3,7 +3,7 @@ ghost use mathlib.Core.Path.{_≡_};
 ghost use Prim.Native.Nat.{_*_, _≤_, _<_};
 ghost use mathlib.Core.List.{_++_};
 ghost use lib.ListN.{length, getD, drop, replicate};
-ghost use Rattle.lanes.specs.Lanes.{eitherOf, fitsRow, drawn, drew, drawnLanes, drewLanes, lanesOf, placeOf};
+ghost use Rattle.lanes.specs.Lanes.{eitherOf, fitsRow, drawn, drew, drawnLanes, drewLanes, lanesOf, sweptOf};
 
 fn wide(x: u8) -> usize
     ensures { λ r. ⌜ (r ≡ x) × (r < 256) ⌝ }
@@ -86,9 +86,9 @@ pub fn draw_lanes(marks: &[u8], n: usize, lanes: usize, m: usize, t: usize, row:
 }
 
 // The i-th class of a sweep. A sweep upwards follows a whole chain of steps to lower classes but one step to a higher class, so sweeps go up and down by turns.
-pub fn place(up: bool, n: usize, i: usize) -> usize
+pub fn swept(up: bool, n: usize, i: usize) -> usize
     requires { ⌜ i < n ⌝ }
-    ensures { λ r. ⌜ (r ≡ placeOf up n i) × (r < n) ⌝ }
+    ensures { λ r. ⌜ (r ≡ sweptOf up n i) × (r < n) ⌝ }
 {
     if up { i } else { n - 1 - i }
 }

@@ -23,7 +23,7 @@ use Rattle.verifier.specs.declared.Judged.{Judged}
 use Rattle.verifier.specs.declared.Judged.the-variants.{Fine, Refused}
 use Rattle.queries.proofs.Asking.{told-fine, told-refused, some-row}
 use Rattle.listing_text.specs.Listing.{classesWord, faultedWord, countsText, refusalText, lineText, listedLines, listingText}
-use Rattle.listing_text.specs.Written.{Written, Holds}
+use Rattle.listing_text.specs.Written.{Written, RowHolds}
 use Rattle.listing_text.proofs.Texts.{then, same-text, from-start}
 
 -- the line of the counts is short
@@ -81,7 +81,7 @@ module _ (library user : List ℕ) (used : ℕ) (verdicts scratch : List ℕ) (r
         (lt→ltb i (classCount (take used user)) h) (2 * i + k) (omega arith)
         ∙ ap (λ (m : ℕ). getD (bytesOf (userVerdict library (take used user) i)) m 0) q
 
-    pub row-holds : Holds library (take used user) verdicts′
+    pub row-holds : RowHolds library (take used user) verdicts′
     unfolding flatAt bytesOf
     row-holds = record {
       long = ap length row-is ∙ rewritten-length _ _ verdicts ∙ room;

@@ -14,7 +14,7 @@ use Rattle.groups.specs.Groups.{Indexed}
 use Rattle.text.specs.Text.{decimal}
 use Rattle.text.proofs.Digits.{decimal-length}
 use Rattle.listing_text.specs.Listing.{lineText, space, newline}
-use Rattle.listing_text.specs.Written.{Written, Holds}
+use Rattle.listing_text.specs.Written.{Written, RowHolds}
 use Rattle.listing_text.proofs.Texts.{then, no-text, same-text}
 use Rattle.listing_text.proofs.NameBytes.{class-short}
 
@@ -34,11 +34,11 @@ module _ {library sheet : List ℕ} {nlib n : ℕ} {row : List ℕ} (x : Indexed
   user-class = omega (arith, x .nlib-is, x .n-is)
 
   -- the row has its verdict
-  pub row-room : {verdicts : List ℕ} → Holds library sheet verdicts → 2 * i + 1 < length verdicts
+  pub row-room : {verdicts : List ℕ} → RowHolds library sheet verdicts → 2 * i + 1 < length verdicts
   row-room w = omega (arith, w .long, x .few)
 
   -- the line by what the code reads
-  pub line-is : {verdicts : List ℕ} → Holds library sheet verdicts → {name : List ℕ} → name ≡ className (classRecord (group library sheet (nlib + i))) → {rule place : ℕ}
+  pub line-is : {verdicts : List ℕ} → RowHolds library sheet verdicts → {name : List ℕ} → name ≡ className (classRecord (group library sheet (nlib + i))) → {rule place : ℕ}
       → rule ≡ getD verdicts (2 * i) 0 → place ≡ getD verdicts (2 * i + 1) 0
       → decimal (nlib + i) ++ (space ++ (name ++ (space ++ (decimal rule ++ (space ++ (decimal place ++ newline)))))) ≡ lineText library sheet i
   unfolding lineText flatAt

@@ -9,10 +9,10 @@ use lib.ListN.{length, take, drop}
 use Rattle.spec.specs.Record.{u16, kind, isClass, CLASS, byKind, withName, lengthFits, className}
 use Rattle.spec.specs.Sheet.{group, classRecord, ofKind}
 use Rattle.theory.specs.Claims.{sheetOf}
-use Rattle.theory.proofs.All.{All, all-kept}
-use Rattle.theory.proofs.Bools.{and-r}
+use Rattle.laws.proofs.All.{All, all-kept}
+use Rattle.laws.proofs.Bools.{and-r}
 use Rattle.theory.proofs.Form.{one-record, group-one-class}
-use Rattle.theory.proofs.Parts.{part-rest}
+use Rattle.laws.proofs.Parts.{part-rest}
 use Rattle.groups.specs.Groups.{Indexed, sheetNumber, startOf}
 use Rattle.groups.proofs.Held.{group-lengths, user-number, user-sheet, class-record, class-size, size-read, class-long, class-room, group-tiled, end-small}
 

@@ -9,7 +9,7 @@ use lib.ListN.{length, set, take, drop, length-append}
 use lib.Seq.{take-length}
 use Rattle.text.specs.Text.{decimal, putAll, overlaid}
 use Rattle.text.proofs.Buffer.{put-length, put-append, put-nothing, put-text}
-use Rattle.theory.proofs.Parts.{part-length}
+use Rattle.laws.proofs.Parts.{part-length}
 use Rattle.listing_text.specs.Written.{Written}
 
 module _ {out : List ℕ} {at : ℕ} {out′ : List ℕ} {after : ℕ} where

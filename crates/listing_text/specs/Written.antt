@@ -14,6 +14,6 @@ pub record Written (out : List ℕ) (at : ℕ) (text : List ℕ) (out′ : List 
   pub bytes : out′ ≡ putAll out at text
 
 -- the row holds the verdict of each class of the user sheet
-pub record Holds (library user : List ℕ) (row : List ℕ) : Type 0 where
+pub record RowHolds (library user : List ℕ) (row : List ℕ) : Type 0 where
   pub long : length row ≡ 512
   pub verdicts : (i : ℕ) → i < classCount user → flatAt row i ≡ userVerdict library user i

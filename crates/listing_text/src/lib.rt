@@ -25,7 +25,7 @@ ghost use Rattle.groups.specs.Groups.{Indexed};
 ghost use Rattle.form.specs.Form.{refusalOf};
 ghost use Rattle.text.specs.Text.{decimal, overlaid};
 ghost use Rattle.listing_text.specs.Listing.{countsText, refusalText, lineText, listedLines, listingText, space, newline};
-ghost use Rattle.listing_text.specs.Written.{Written, Holds};
+ghost use Rattle.listing_text.specs.Written.{Written, RowHolds};
 
 // A byte as a number of the machine.
 fn wide_byte(x: u8) -> usize
@@ -89,7 +89,7 @@ fn class_line<'a>(
     at: usize,
 ) -> usize
     requires { ⌜ Indexed (now library) (now user) (classes .library) (classes .all) (now starts) ⌝ }
-    requires { ⌜ Holds (now library) (now user) (now verdicts) ⌝ }
+    requires { ⌜ RowHolds (now library) (now user) (now verdicts) ⌝ }
     requires { ⌜ (classes .library + i < classes .all) × (at < 700000) ⌝ }
     ensures { λ r. ⌜ Written (now (out .entry)) at (lineText (now (library .entry)) (now (user .entry)) i) (now (out .exit)) r ⌝ }
 {
@@ -117,7 +117,7 @@ fn class_lines<'a>(
     at: usize,
 ) -> usize
     requires { ⌜ Indexed (now library) (now user) (classes .library) (classes .all) (now starts) ⌝ }
-    requires { ⌜ Holds (now library) (now user) (now verdicts) ⌝ }
+    requires { ⌜ RowHolds (now library) (now user) (now verdicts) ⌝ }
     requires { ⌜ at < 1000 ⌝ }
     ensures { λ r. ⌜ Written (now (out .entry)) at
         (gather (lineText (now (library .entry)) (now (user .entry))) (span 0 (classCount (now (user .entry))))) (now (out .exit)) r ⌝ }
@@ -142,7 +142,7 @@ fn accepted_lines<'a>(
     at: usize,
 ) -> usize
     requires { ⌜ presentRefusal (now library) (now user) used ≡ none ⌝ }
-    requires { ⌜ Holds (now library) (take used (now user)) (now verdicts) ⌝ }
+    requires { ⌜ RowHolds (now library) (take used (now user)) (now verdicts) ⌝ }
     requires { ⌜ at < 1000 ⌝ }
     ensures { λ r. ⌜ Written (now (out .entry)) at
         (gather (lineText (now (library .entry)) (take used (now (user .entry)))) (span 0 (classCount (take used (now (user .entry))))))

@@ -8,7 +8,7 @@ use lib.Dec.{eqb, eqb→eq}
 use borrow.Author.Tests.{eq-eqb, ne-eqb}
 use Rattle.spec.specs.Record.{bit}
 use Rattle.spec.specs.Markers.{clash}
-use Rattle.theory.proofs.Bools.{t-same, t-and, and-l, and-r, eq→eqb}
+use Rattle.laws.proofs.Bools.{t-same, t-and, and-l, and-r, eq→eqb}
 
 both-set : (a b : ℕ) → a < 2 → b < 2 → eqb (a + b) 2 ≡ (eqb a 1 && eqb b 1)
 both-set a b ha hb =

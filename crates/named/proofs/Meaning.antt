@@ -12,8 +12,8 @@ use borrow.Author.Tests.{eq-eqb, ne-eqb, eqb-true, le-ltb}
 use Rattle.spec.specs.Lists.{keep, onlyIf}
 use Rattle.spec.specs.Record.{none16, kind, byKind, isKind, isClass, CLASS, IMPLEMENTS, FIELD, LOCAL, USES, BUILDS, MEMBER, REFERS}
 use Rattle.spec.specs.Record.{superclass, encloser, target, Ty, fieldTy, localTy, unlessNone, tyReferences, references}
-use Rattle.theory.proofs.Bools.{eq→eqb}
-use Rattle.theory.proofs.All.{keep-no}
+use Rattle.laws.proofs.Bools.{eq→eqb}
+use Rattle.laws.proofs.All.{keep-no}
 use Rattle.theory.proofs.References.{by-kind, references-class, references-implements, references-field, references-local, references-uses, references-builds, references-member, references-refers}
 use Rattle.named.specs.Named.{typeNamed, firstOfAll, firstNamed, secondNamed, namedBy}
 

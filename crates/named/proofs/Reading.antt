@@ -9,7 +9,7 @@ use native.Mathlib.Omega.{arith}
 use lib.ListN.{getD}
 use borrow.Author.Tests.{eq-eqb, ne-eqb}
 use Rattle.spec.specs.Record.{u8, u16, kind, none16, CLASS, IMPLEMENTS, FIELD, LOCAL, USES, BUILDS, MEMBER, REFERS, target, tyAt}
-use Rattle.theory.proofs.Bools.{eq→eqb}
+use Rattle.laws.proofs.Bools.{eq→eqb}
 use Rattle.theory.proofs.References.{by-kind}
 use Rattle.records.proofs.Sizes.{shortest}
 use Rattle.records.specs.Records.{Sized, recordAt}

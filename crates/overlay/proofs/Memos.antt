@@ -11,8 +11,8 @@ use lib.ListN.{length, getD, set, replicate, length-set, length-append, length-r
 use lib.Seq.{set-getD, getD-set-other, getD-append-add, ext-getD}
 use Rattle.spec.specs.Lists.{span}
 use Rattle.spec.specs.Sheet.{Group}
-use Rattle.theory.proofs.Bools.{decide}
-use Rattle.theory.proofs.Rows.{length-values, getD-values, set-below}
+use Rattle.laws.proofs.Bools.{decide}
+use Rattle.laws.proofs.Rows.{length-values, getD-values, set-below}
 use Rattle.overlay.specs.Memo.{raw, memoOf, Knows}
 
 -- ---- a memo that class c may be asked over

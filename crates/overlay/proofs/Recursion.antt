@@ -14,7 +14,7 @@ use Rattle.spec.specs.Sheet.{Group, classRecord}
 use Rattle.spec.specs.Markers.{union, unionAll}
 use Rattle.spec.specs.Classes.{superclasses, targets, supertypes, gathered}
 use Rattle.spec.specs.Refusals.{oneClass}
-use Rattle.theory.proofs.All.{map-cong}
+use Rattle.laws.proofs.All.{map-cong}
 use Rattle.theory.proofs.Falls.{Falls}
 use Rattle.theory.proofs.Overlay.{gathered-enough, supertypes-lower}
 use Rattle.theory.proofs.Form.{one-record}

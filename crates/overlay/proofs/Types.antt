@@ -16,10 +16,10 @@ use Rattle.spec.specs.Record.{u8, u16, bit, ownMarkers, Ty, tyAt, tyReferences}
 use Rattle.spec.specs.Sheet.{Group, group, total, classRecord, ofKind}
 use Rattle.spec.specs.Markers.{union, unionAll, closures, closure}
 use Rattle.spec.specs.Classes.{superclasses, targets, supertypes, gathered, overlay, hasMarker, satisfies}
-use Rattle.theory.proofs.Bools.{decide, t-true, t-false}
-use Rattle.theory.proofs.All.{all-span}
+use Rattle.laws.proofs.Bools.{decide, t-true, t-false}
+use Rattle.laws.proofs.All.{all-span}
 use Rattle.theory.proofs.Closure.{bit-zero}
-use Rattle.theory.proofs.Rows.{set-below}
+use Rattle.laws.proofs.Rows.{set-below}
 use Rattle.groups.specs.Groups.{Indexed}
 use Rattle.groups.proofs.Few.{group-past}
 use Rattle.overlay.specs.Memo.{memoOf}

@@ -13,9 +13,9 @@ use Rattle.spec.specs.Record.{u16, kind, isKind, IMPLEMENTS, target, lengthFits
 use Rattle.spec.specs.Sheet.{Group, ofKind}
 use Rattle.spec.specs.Markers.{union, unionAll}
 use Rattle.spec.specs.Classes.{targets}
-use Rattle.theory.proofs.Bools.{true-t}
-use Rattle.theory.proofs.All.{keep-yes, keep-no}
-use Rattle.theory.proofs.Parts.{part-length, part-word, part-kind}
+use Rattle.laws.proofs.Bools.{true-t}
+use Rattle.laws.proofs.All.{keep-yes, keep-no}
+use Rattle.laws.proofs.Parts.{part-length, part-word, part-kind}
 use Rattle.theory.proofs.References.{by-kind}
 use Rattle.records.specs.Records.{between, AtRecord, Carries}
 use Rattle.records.proofs.Between.{tiled-end}

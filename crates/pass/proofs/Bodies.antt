@@ -8,8 +8,8 @@ use native.Mathlib.Omega.{arith}
 use lib.ListN.{take, drop}
 use Rattle.spec.specs.Record.{u8, kind, byKind, flags, zeroByte, className, fieldTy, localTy, kindFits, nameFits, bodyFits}
 use Rattle.spec.specs.Lists.{all}
-use Rattle.theory.proofs.Bools.{true-t}
-use Rattle.theory.proofs.Parts.{part-byte, part-word, part-type, part-rest}
+use Rattle.laws.proofs.Bools.{true-t}
+use Rattle.laws.proofs.Parts.{part-byte, part-word, part-type, part-rest}
 use Rattle.pass.specs.Pass.{homeFits, nameAt, nameStart, fixedAt}
 use Rattle.records.specs.Records.{sizeFits}
 use Rattle.records.proofs.Sizes.{each, size-known, at-least}

@@ -15,8 +15,8 @@ use Rattle.spec.specs.Lists.{all, concat}
 use Rattle.spec.specs.Record.{u16, kind, isClass}
 use Rattle.spec.specs.Sheet.{wholeFirst, recordsOf, wholeEnd, Split, splitGroups, groupsOf, classCount, Located, locatedIn}
 use Rattle.spec.specs.Refusals.{refuseIf, recordTests, recordRefusal, tornRefusal}
-use Rattle.theory.proofs.Bools.{not-or-l, not-or-r}
-use Rattle.theory.proofs.All.{All}
+use Rattle.laws.proofs.Bools.{not-or-l, not-or-r}
+use Rattle.laws.proofs.All.{All}
 use Rattle.theory.proofs.Cut.{split-class, split-other, records-stop}
 use Rattle.theory.proofs.Answers.{some≢none, first-past, first-some, Fails, record-none}
 use Rattle.pass.specs.Pass.{numberOf, place, recordNumber, passRefusal, shifted, passOf, fill, filled, Filled}

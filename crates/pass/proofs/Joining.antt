@@ -14,7 +14,7 @@ use Rattle.spec.specs.Lists.{concat, firstOf}
 use Rattle.spec.specs.Record.{kind, isClass}
 use Rattle.spec.specs.Sheet.{recordsIn, recordsOf, wholeEnd, Split, splitGroups, groupsOf, classCount, Located, locate, locatedIn}
 use Rattle.spec.specs.Refusals.{Refusal, refuseIf, refuseRecord, recordTests, recordRefusal, tornRefusal, oneClass}
-use Rattle.theory.proofs.All.{All, all-append, all-map}
+use Rattle.laws.proofs.All.{All, all-append, all-map}
 use Rattle.theory.proofs.Cut.{concat-append, split-class, split-other, split-join, IsGroup, group-one, records-of-groups, count-of-join, whole-join}
 use Rattle.theory.proofs.Answers.{first-append, first-only, keep-head}
 use Rattle.pass.specs.Pass.{place, passRefusal, shifted, fill, filled}

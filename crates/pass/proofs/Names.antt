@@ -13,8 +13,8 @@ use lib.Seq.{drop-cons, getD-take, getD-drop, length-take-le}
 use borrow.Author.Tests.{leb-true, leb-false}
 use Rattle.spec.specs.Lists.{all}
 use Rattle.spec.specs.Record.{nameFits}
-use Rattle.theory.proofs.Bools.{t-same, t-true, true-t}
-use Rattle.theory.proofs.All.{All, all-at, all-append, all-left, all-right}
+use Rattle.laws.proofs.Bools.{t-same, t-true, true-t}
+use Rattle.laws.proofs.All.{All, all-at, all-append, all-left, all-right}
 use Rattle.pass.proofs.Words.{Fit, fit-all, all-fit}
 
 part-cons : (s : List ℕ) (to i : ℕ) → i < to → to ≤ length s → take (to - i) (drop i s) ≡ getD s i 0 ∷ take (to - (i + 1)) (drop (i + 1) s)

@@ -13,7 +13,7 @@ use Rattle.spec.specs.Lists.{all, firstOf}
 use Rattle.spec.specs.Record.{kind, isClass}
 use Rattle.spec.specs.Sheet.{Located, locate}
 use Rattle.spec.specs.Refusals.{Refusal, refuseIf, refuseRecord}
-use Rattle.theory.proofs.Bools.{and-l, and-r}
+use Rattle.laws.proofs.Bools.{and-l, and-r}
 use Rattle.pass.specs.Pass.{numberOf, place}
 
 module _ (sheet at n k b : ℕ) (r : List ℕ) where

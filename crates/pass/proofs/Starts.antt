@@ -55,11 +55,11 @@ unfolding startFrom concat
 loose-start at i r t = omega (arith, length-append r (concat (t .loose)))
 
 -- the row says where each group begins
-abbrev Right : List ℕ → ℕ → ℕ → List (List ℕ) → Type 0
-Right row n at rs =
+abbrev Started : List ℕ → ℕ → ℕ → List (List ℕ) → Type 0
+Started row n at rs =
     (i : ℕ) → n + length (splitGroups rs .groups) ≤ length row → i < length (splitGroups rs .groups) → getD (fill row n at rs) (n + i) 0 ≡ startFrom at (splitGroups rs) i
 
-right-class : (row : List ℕ) (n at : ℕ) (r : List ℕ) (rs : List (List ℕ)) → isClass r ≡ true → Right (set row n at) (suc n) (at + length r) rs → Right row n at (r ∷ rs)
+right-class : (row : List ℕ) (n at : ℕ) (r : List ℕ) (rs : List (List ℕ)) → isClass r ≡ true → Started (set row n at) (suc n) (at + length r) rs → Started row n at (r ∷ rs)
 right-class row n at r rs e f zero l h =
     let q = ap (λ (t : Split). length (t .groups)) (split-class r rs e) in
     rw (fill-class row n at r rs e, split-class r rs e, first-start, add-zero) (below (set row n at) (suc n) (at + length r) rs n (omega arith) ∙ getD-set-same row n at 0 (omega arith))
@@ -67,16 +67,16 @@ right-class row n at r rs e f (suc i) l h =
     let q = ap (λ (t : Split). length (t .groups)) (split-class r rs e) in
     rw (fill-class row n at r rs e, split-class r rs e, next-start, add-suc, ← (suc-add n i)) (f i (omega (arith, length-set row n at)) (omega arith))
 
-right-other : (row : List ℕ) (n at : ℕ) (r : List ℕ) (rs : List (List ℕ)) → isClass r ≡ false → Right row n (at + length r) rs → Right row n at (r ∷ rs)
+right-other : (row : List ℕ) (n at : ℕ) (r : List ℕ) (rs : List (List ℕ)) → isClass r ≡ false → Started row n (at + length r) rs → Started row n at (r ∷ rs)
 right-other row n at r rs e f i l h =
     let q = ap (λ (t : Split). length (t .groups)) (split-other r rs e) in
     rw (fill-other row n at r rs e, split-other r rs e, loose-start) (f i (omega arith) (omega arith))
 
-right : (row : List ℕ) (n at : ℕ) (rs : List (List ℕ)) → Right row n at rs
+right : (row : List ℕ) (n at : ℕ) (rs : List (List ℕ)) → Started row n at rs
 right row n at [] = λ i l h. let z : i < 0 = (unfold splitGroups in h) in absurd (not-suc-le-zero z)
 right row n at (r ∷ rs) = go (isClass r) refl (right (set row n at) (suc n) (at + length r) rs) (right row n (at + length r) rs)
   where
-    go : (b : Bool) → isClass r ≡ b → Right (set row n at) (suc n) (at + length r) rs → Right row n (at + length r) rs → Right row n at (r ∷ rs)
+    go : (b : Bool) → isClass r ≡ b → Started (set row n at) (suc n) (at + length r) rs → Started row n (at + length r) rs → Started row n at (r ∷ rs)
     go true e f g = right-class row n at r rs e f
     go false e f g = right-other row n at r rs e g
 

@@ -11,8 +11,8 @@ use lib.Seq.{drop-cons}
 use borrow.Author.Tests.{leb-true, leb-false}
 use lib.Bits.{bitAnd, and-block, and-shifted, and-comm, and-zero-r}
 use Rattle.spec.specs.Record.{nameFits}
-use Rattle.theory.proofs.Bools.{true-t, t-true, t-and, and-l, and-r}
-use Rattle.theory.proofs.All.{All, all-map, weaken, all-true, true-all}
+use Rattle.laws.proofs.Bools.{true-t, t-true, t-and, and-l, and-r}
+use Rattle.laws.proofs.All.{All, all-map, weaken, all-true, true-all}
 use Rattle.theory.proofs.Answers.{of-map}
 use Rattle.pass.specs.Pass.{joined}
 

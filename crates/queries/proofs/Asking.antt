@@ -15,8 +15,8 @@ use Rattle.spec.specs.Lists.{span}
 use Rattle.spec.specs.Sheet.{classCount, total, group}
 use Rattle.spec.specs.Refusals.{Refusal as Reason, refuseIf, refusePlain, sizeRefusal, formRefusal, sheetRefusal, presentRefusal, unusedRefusal, queryRefusal}
 use Rattle.spec.specs.Promises.{refused, accepted, answerOf}
-use Rattle.theory.proofs.Bools.{not-or-l, not-or-r}
-use Rattle.theory.proofs.Rows.{length-values, getD-values}
+use Rattle.laws.proofs.Bools.{not-or-l, not-or-r}
+use Rattle.laws.proofs.Rows.{length-values, getD-values}
 use Rattle.theory.proofs.Answers.{first-none, first-past, first-some, if-none}
 use Rattle.theory.proofs.Accept.{sound}
 use Rattle.theory.proofs.Falls.{Falls, falls}
@@ -25,11 +25,11 @@ use Rattle.view.proofs.Splice.{plain-fits}
 use Rattle.groups.specs.declared.Classes.{Classes}
 use Rattle.groups.specs.Groups.{Indexed, startOf}
 use Rattle.overlay.specs.Memo.{memoOf}
-use Rattle.form.specs.Form.{refusalOf}
+use Rattle.form.specs.Form.{refusalOf, Presents}
 use Rattle.form.specs.declared.Refusal.{Refusal}
 use Rattle.form.specs.declared.Checked.{Checked}
 use Rattle.form.specs.declared.Checked.the-variants.{Fine, Refused}
-use Rattle.form.proofs.Accepting.{ready-memo, Presents, fine-none, refused-is}
+use Rattle.form.proofs.Accepting.{ready-memo, fine-none, refused-is}
 
 -- ---- answers
 
@@ -104,21 +104,21 @@ module _ (library user : List ℕ) (used : ℕ) (e : presentRefusal library user
 
 module _ (library user : List ℕ) (used : ℕ) {p : Checked} {row memo : List ℕ} (a : Presents library user used p row memo) where
   pub present-refused : {r : Refusal} → p ≡ Refused r → presentRefusal library user used ≡ some (refusalOf r)
-  present-refused f = refused-is (presentRefusal library user used) _ _ (sym f ∙ a .0)
+  present-refused f = refused-is (presentRefusal library user used) _ _ (sym f ∙ a .answered)
 
   module _ {k : Classes} (f : p ≡ Fine k) where
     pub told : (presentRefusal library user used ≡ none) × ((k .library ≡ classCount library) × (k .all ≡ total library (take used user)))
-    told = fine-none (presentRefusal library user used) (sym f ∙ a .0)
+    told = fine-none (presentRefusal library user used) (sym f ∙ a .answered)
 
     pub fits : Fits (record { from = used; to = used; used = used }) user []
     fits = plain-fits user used (used-there library user used (told .0))
 
     module _ {s : List ℕ} (q : s ≡ take used user) where
       pub indexed : Indexed library s (k .library) (k .all) row
-      indexed = rw (q, told .1 .0, told .1 .1) (a .1 .indexed (told .0))
+      indexed = rw (q, told .1 .0, told .1 .1) (a .ready .indexed (told .0))
 
       pub memo-is : memo ≡ memoOf (group library s) (k .library)
-      memo-is = rw (q, told .1 .0) (ready-memo (a .1) (told .0))
+      memo-is = rw (q, told .1 .0) (ready-memo (a .ready) (told .0))
 
       pub form-fine : formRefusal library s ≡ none
       unfolding sheetRefusal

@@ -14,7 +14,7 @@ use Rattle.spec.specs.Sheet.{classCount, total, group, classRecord, groupStart}
 use Rattle.spec.specs.Refusals.{refusePlain, presentRefusal, unusedRefusal, queryRefusal}
 use Rattle.spec.specs.Promises.{Part, namePart, bytesAt, noPart, afterwards, Places, Names}
 use Rattle.theory.specs.Claims.{sheetOf}
-use Rattle.theory.proofs.Bools.{t-false}
+use Rattle.laws.proofs.Bools.{t-false}
 use Rattle.theory.proofs.Answers.{first-none, if-none}
 use Rattle.groups.specs.Groups.{Indexed, sheetNumber, startOf}
 use Rattle.groups.proofs.Held.{library-sheet, user-sheet, size-read, class-room, class-long, end-small, group-tiled}

@@ -18,11 +18,11 @@ use Rattle.spec.specs.Sheet.{Group, total, group, groupReferences}
 use Rattle.spec.specs.Rules.{dependencies}
 use Rattle.spec.specs.Verdicts.{dependsOn}
 use Rattle.spec.specs.Refusals.{formRefusal}
-use Rattle.theory.proofs.Bools.{true-t}
-use Rattle.theory.proofs.All.{at-member, of-members}
-use Rattle.theory.proofs.Members.{gather-mem, mem-gather, keep-mem, mem-keep}
+use Rattle.laws.proofs.Bools.{true-t}
+use Rattle.laws.proofs.All.{at-member, of-members}
+use Rattle.laws.proofs.Members.{gather-mem, mem-gather, keep-mem, mem-keep}
 use Rattle.theory.proofs.Accept.{form-fits}
-use Rattle.theory.proofs.Rows.{length-values, getD-values}
+use Rattle.laws.proofs.Rows.{length-values, getD-values}
 use Rattle.theory.proofs.Reach.{Steps, here, onward}
 use Rattle.theory.proofs.Complete.{reach-sound, reach-complete}
 use Rattle.groups.specs.Groups.{Indexed}

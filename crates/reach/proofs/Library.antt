@@ -8,7 +8,7 @@ use lib.Dec.{T}
 use lib.ListN.{length, List·getD-append}
 use Rattle.spec.specs.Record.{isKind, kindFits, USES, BUILDS}
 use Rattle.spec.specs.Sheet.{Group, Located, recordsIn, recordsOf, groupsOf, classCount, group, ofKind, locate, locatedIn, located}
-use Rattle.theory.proofs.All.{All, all-append, all-kept, of-members, at-member}
+use Rattle.laws.proofs.All.{All, all-append, all-kept, of-members, at-member}
 use Rattle.theory.proofs.Accept.{Passed, by-class}
 use Rattle.theory.proofs.Refused.{Among, locate-among}
 use Rattle.theory.proofs.References.{by-kind}

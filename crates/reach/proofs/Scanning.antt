@@ -10,7 +10,7 @@ use lib.ListN.{length, getD}
 use Rattle.spec.specs.Lists.{gather}
 use Rattle.spec.specs.Record.{u16, isKind, BUILDS, encloser, target}
 use Rattle.spec.specs.Sheet.{Group, classRecord, ofKind}
-use Rattle.theory.proofs.Members.{gather-mem, mem-keep, only-mem}
+use Rattle.laws.proofs.Members.{gather-mem, mem-keep, only-mem}
 use Rattle.records.specs.Records.{recordAt, between, nthByte, AtRecord, Carries}
 use Rattle.records.proofs.Between.{tiled-end}
 use Rattle.records.proofs.Walks.{walk-here, walk-next}
@@ -64,8 +64,8 @@ unfolding namedIn gather
 named-nil builds = refl
 
 -- the steps of m are those that the records name, and the marks are its enclosers
-abbrev Right : List ℕ → List ℕ → Bool → ℕ → (ℕ → List ℕ) → (ℕ → ℕ) → Type 0
-Right bytes marks builds m step outer = (step m ≡ namedIn builds (between bytes 0 (length bytes))) × Enclosers outer m marks
+abbrev Scans : List ℕ → List ℕ → Bool → ℕ → (ℕ → List ℕ) → (ℕ → ℕ) → Type 0
+Scans bytes marks builds m step outer = (step m ≡ namedIn builds (between bytes 0 (length bytes))) × Enclosers outer m marks
 
 pub record ScanAt (bytes marks : List ℕ) (builds : Bool) (n lanes m : ℕ) (row₀ row : List ℕ) (a at : ℕ) : Type 0 where
   pub place : AtRecord bytes (length bytes) at
@@ -73,7 +73,7 @@ pub record ScanAt (bytes marks : List ℕ) (builds : Bool) (n lanes m : ℕ) (ro
   pub there : m < n
   pub room : lanes * 256 ≤ length row₀
   pub long : length row ≡ length row₀
-  pub visit : (step : ℕ → List ℕ) (outer : ℕ → ℕ) → Right bytes marks builds m step outer → VisitAt step outer n lanes m marks row₀ row (namedIn builds (between bytes at (length bytes))) a
+  pub visit : (step : ℕ → List ℕ) (outer : ℕ → ℕ) → Scans bytes marks builds m step outer → VisitAt step outer n lanes m marks row₀ row (namedIn builds (between bytes at (length bytes))) a
 
 pub scan-start : {bytes marks : List ℕ} (builds : Bool) (n lanes m : ℕ) (row : List ℕ) → AtRecord bytes (length bytes) 0
     → (n ≤ 256) × (lanes ≤ 256) × (lanes * 256 ≤ length row) × (length marks ≡ 256) × (m < n) → ScanAt bytes marks builds n lanes m row row 0 0

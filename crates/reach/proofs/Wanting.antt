@@ -11,7 +11,7 @@ use lib.ListN.{length, getD}
 use borrow.Author.Tests.{not-true}
 use Rattle.spec.specs.Record.{u16}
 use Rattle.spec.specs.Sheet.{Group}
-use Rattle.theory.proofs.Bools.{true-t}
+use Rattle.laws.proofs.Bools.{true-t}
 use Rattle.records.specs.Records.{recordAt, between, AtRecord, Carries}
 use Rattle.records.proofs.Between.{tiled-end}
 use Rattle.records.proofs.Walks.{walk-here, walk-next}

@@ -5,7 +5,7 @@ use groups::class_word;
 use lanes::draw_lanes;
 use lanes::either;
 use lanes::fill;
-use lanes::place;
+use lanes::swept;
 use named::first_named;
 use named::second_named;
 use records::BUILDS;
@@ -85,7 +85,7 @@ fn scan(
 }
 
 // Whether class t has in some lane a lower owner than m. A class that is not there has none.
-fn lower(row: &[u8], n: usize, lanes: usize, m: usize, t: usize) -> bool
+fn has_lower(row: &[u8], n: usize, lanes: usize, m: usize, t: usize) -> bool
     requires { ⌜ (n ≤ 256) × (lanes ≤ 256) × (lanes * 256 ≤ length (now row)) × (m < n) ⌝ }
     ensures { λ r. ⌜ Content (now (row .entry)) n lanes m (t ∷ []) r ⌝ }
 {
@@ -110,10 +110,10 @@ fn wants(bytes: &[u8], n: usize, builds: bool, lanes: usize, m: usize, row: &[u8
 {
     let mut at = 0;
     while at < bytes.len() {
-        if lower(row, n, lanes, m, first_named(bytes, at, builds)) {
+        if has_lower(row, n, lanes, m, first_named(bytes, at, builds)) {
             return true;
         }
-        if lower(row, n, lanes, m, second_named(bytes, at, builds)) {
+        if has_lower(row, n, lanes, m, second_named(bytes, at, builds)) {
             return true;
         }
         at += wide(word_in(bytes, at));
@@ -185,7 +185,7 @@ fn sweep<'a>(
     let mut added = 0;
     let mut i = 0;
     while i < classes.all {
-        let m = place(up, classes.all, i);
+        let m = swept(up, classes.all, i);
         let got = visit(library, user, starts, classes, builds, lanes, m, row);
         added = either(added, got);
         i += 1;

@@ -14,8 +14,8 @@ use lib.Seq.{take-suc, drop-cons, take-length, drop-length}
 use borrow.Author.Tests.{le-ltb, lt-ltb, le-leb, lt-leb, eq-eqb, ne-eqb}
 use Rattle.spec.specs.Lists.{concat}
 use Rattle.spec.specs.Sheet.{recordsOf, wholeEnd}
-use Rattle.theory.proofs.Bools.{and-l, un-not, not-and-r}
-use Rattle.theory.proofs.Parts.{part-length}
+use Rattle.laws.proofs.Bools.{and-l, un-not, not-and-r}
+use Rattle.laws.proofs.Parts.{part-length}
 use Rattle.theory.proofs.Cut.{concat-append, records-stop}
 use Rattle.records.specs.Lengths.{wholeLength}
 use Rattle.records.proofs.Lengths.{Stands, length-some, length-zero, records-here}

@@ -11,8 +11,8 @@ use lib.Seq.{length-take-le, take-append-seam, drop-at}
 use Rattle.spec.specs.Lists.{keep, concat}
 use Rattle.spec.specs.Record.{u16, isKind}
 use Rattle.spec.specs.Sheet.{recordsIn, recordsOf, wholeEnd, ofKind}
-use Rattle.theory.proofs.All.{All, keep-yes, keep-no}
-use Rattle.theory.proofs.Parts.{part-length, part-word, part-kind}
+use Rattle.laws.proofs.All.{All, keep-yes, keep-no}
+use Rattle.laws.proofs.Parts.{part-length, part-word, part-kind}
 use Rattle.theory.proofs.Cut.{Whole, records-of-join, records-of-whole, join-records}
 use Rattle.records.specs.Records.{between, Tiled}
 

@@ -9,7 +9,7 @@ use native.Mathlib.Omega.{arith}
 use lib.ListN.{length, getD, take, drop}
 use Rattle.spec.specs.Record.{u16}
 use Rattle.spec.specs.Sheet.{Group, ofKind, classRecord}
-use Rattle.theory.proofs.Parts.{part-length, part-byte, part-word}
+use Rattle.laws.proofs.Parts.{part-length, part-byte, part-word}
 use Rattle.records.specs.Records.{between, Carries}
 use Rattle.records.proofs.Between.{tiled-end}
 use Rattle.records.proofs.Walks.{walk-on, walk-here}

@@ -9,8 +9,8 @@ use lib.ListN.{length, take, drop, length-drop}
 use lib.Seq.{drop-drop}
 use Rattle.spec.specs.Record.{u16}
 use Rattle.spec.specs.Sheet.{wholeFirst, recordsOf}
-use Rattle.theory.proofs.Bools.{true-t}
-use Rattle.theory.proofs.Parts.{u16-here}
+use Rattle.laws.proofs.Bools.{true-t}
+use Rattle.laws.proofs.Parts.{u16-here}
 use Rattle.theory.proofs.Cut.{first-is, is-first, records-step}
 use Rattle.records.specs.Lengths.{wholeLength}
 

@@ -12,9 +12,9 @@ use borrow.Author.Tests.{eq-eqb, ne-eqb}
 use Rattle.spec.specs.Lists.{keep}
 use Rattle.spec.specs.Record.{u16, isKind}
 use Rattle.spec.specs.Sheet.{Group, ofKind}
-use Rattle.theory.proofs.Bools.{decide}
-use Rattle.theory.proofs.All.{keep-yes, keep-no}
-use Rattle.theory.proofs.Parts.{part-length, part-kind}
+use Rattle.laws.proofs.Bools.{decide}
+use Rattle.laws.proofs.All.{keep-yes, keep-no}
+use Rattle.laws.proofs.Parts.{part-length, part-kind}
 use Rattle.records.specs.Records.{between, nthByte, AtRecord, Carries}
 use Rattle.records.proofs.Between.{tiled-end}
 use Rattle.records.proofs.Walks.{walk-on, walk-here, walk-next}

@@ -9,8 +9,8 @@ use lib.ListN.{length, getD}
 use borrow.Author.Tests.{ne-eqb}
 use Rattle.spec.specs.Record.{u8, u16, bit, kind, isKind, CLASS, IMPLEMENTS, FIELD, LOCAL, USES, BUILDS, MEMBER, REFERS}
 use Rattle.spec.specs.Record.{flags, ownMarkers, superclass, encloser, target, index, tyAt, fieldTy, localTy, isStatic}
-use Rattle.theory.proofs.Bools.{t-true, true-t}
-use Rattle.theory.proofs.Parts.{part-byte, part-word, part-type}
+use Rattle.laws.proofs.Bools.{t-true, true-t}
+use Rattle.laws.proofs.Parts.{part-byte, part-word, part-type}
 use Rattle.records.proofs.Sizes.{each, shortest, size-known, at-least, length-fits}
 use Rattle.records.proofs.Whole.{Whole, whole-at, at-whole, length-here, kind-here}
 use Rattle.records.proofs.Walks.{walk-on, size-here}

@@ -10,7 +10,7 @@ use lib.Dec.{eqb, leb, eqb→eq, leb→le, le→leb}
 use lib.ListN.{length, getD, List·getD-eq-default}
 use borrow.Author.Tests.{leb-true, leb-false, le-leb, lt-leb}
 use Rattle.spec.specs.Record.{kind, byKind, withName, lengthFits}
-use Rattle.theory.proofs.Bools.{t-same, t-and, and-l, and-r, true-t, eq→eqb}
+use Rattle.laws.proofs.Bools.{t-same, t-and, and-l, and-r, true-t, eq→eqb}
 use Rattle.records.specs.Records.{sizeFits}
 
 -- ---- numbers below a bound, one by one

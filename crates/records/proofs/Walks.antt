@@ -6,7 +6,7 @@ use Prim.Native.Nat.{ℕ, _+_, _≤_, _<_}
 use lib.Dec.{T}
 use lib.ListN.{take, drop}
 use Rattle.spec.specs.Record.{u16, lengthFits}
-use Rattle.theory.proofs.All.{All}
+use Rattle.laws.proofs.All.{All}
 use Rattle.records.specs.Records.{between, AtRecord}
 use Rattle.records.proofs.Between.{tiled-step}
 

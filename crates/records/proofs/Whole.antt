@@ -10,8 +10,8 @@ use lib.Seq.{drop-drop}
 use borrow.Author.Tests.{eq-eqb, ne-eqb}
 use Rattle.spec.specs.Record.{u16, kind, isClass}
 use Rattle.spec.specs.Sheet.{wholeFirst, recordsOf}
-use Rattle.theory.proofs.Bools.{true-t}
-use Rattle.theory.proofs.Parts.{u16-here, part-length, part-kind}
+use Rattle.laws.proofs.Bools.{true-t}
+use Rattle.laws.proofs.Parts.{u16-here, part-length, part-kind}
 use Rattle.theory.proofs.Cut.{first-is, is-first, records-step}
 use Rattle.records.specs.Records.{recordAt}
 

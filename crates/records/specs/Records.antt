@@ -8,7 +8,7 @@ use lib.Dec.{T, eqb, leb}
 use lib.ListN.{length, getD, take, drop}
 use Rattle.spec.specs.Record.{u16, isKind, lengthFits}
 use Rattle.spec.specs.Sheet.{Group, recordsOf, wholeFirst, wholeEnd}
-use Rattle.theory.proofs.All.{All}
+use Rattle.laws.proofs.All.{All}
 
 -- ---- one record
 

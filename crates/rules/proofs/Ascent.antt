@@ -14,7 +14,7 @@ use Rattle.spec.specs.Record.{superclass}
 use Rattle.spec.specs.Sheet.{Group, classRecord, isInterface}
 use Rattle.spec.specs.Classes.{superclasses, hasMarker, lineage, root}
 use Rattle.spec.specs.Rules.{judgedFor}
-use Rattle.theory.proofs.Bools.{decide, true-t, and-l}
+use Rattle.laws.proofs.Bools.{decide, true-t, and-l}
 use Rattle.theory.proofs.Falls.{Falls}
 use Rattle.theory.proofs.Lines.{lineage-library, root-library}
 use Rattle.theory.proofs.Form.{Super, lineage-up, root-up}

@@ -15,8 +15,8 @@ use Rattle.spec.specs.Sheet.{Group, classRecord}
 use Rattle.spec.specs.Rules.{Fault, faultIf, faultsAt, rule1, rule2, rule3, rule4, rule5, rule6, placeIn}
 use Rattle.spec.specs.Relations.{At, here}
 use Rattle.spec.specs.Refusals.{oneClass}
-use Rattle.theory.proofs.Bools.{and-l}
-use Rattle.theory.proofs.Members.{gather-mem, mem-gather, keep-mem, mem-keep, numbered-at, at-numbered}
+use Rattle.laws.proofs.Bools.{and-l}
+use Rattle.laws.proofs.Members.{gather-mem, mem-gather, keep-mem, mem-keep, numbered-at, at-numbered}
 use Rattle.theory.proofs.Slots.{place-own}
 use Rattle.theory.proofs.Faults.{Stands, stands-if, stands-at}
 use Rattle.breaks.specs.Breaking.{firstRules, breaksAt}

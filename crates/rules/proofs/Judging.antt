@@ -16,8 +16,8 @@ use Rattle.spec.specs.Record.{u16}
 use Rattle.spec.specs.Sheet.{Group, group, isInterface}
 use Rattle.spec.specs.Rules.{Fault, clean, placeIn, verdictOf}
 use Rattle.spec.specs.Relations.{At, here, next}
-use Rattle.theory.proofs.All.{keep-yes, keep-no}
-use Rattle.theory.proofs.Members.{keep-mem, numbered-at}
+use Rattle.laws.proofs.All.{keep-yes, keep-no}
+use Rattle.laws.proofs.Members.{keep-mem, numbered-at}
 use Rattle.theory.proofs.Slots.{place-own, place-other}
 use Rattle.theory.proofs.Faults.{Stands}
 use Rattle.records.proofs.Between.{tiled-end}

@@ -18,7 +18,7 @@ use Rattle.spec.specs.Sheet.{Group, classRecord, isInterface, isInstanceField}
 use Rattle.spec.specs.Classes.{fieldSlot, hasMarker, lineage, root}
 use Rattle.spec.specs.Rules.{Fault, judgedFor}
 use Rattle.spec.specs.Refusals.{oneClass}
-use Rattle.theory.proofs.Bools.{decide, true-t, and-l, and-r}
+use Rattle.laws.proofs.Bools.{decide, true-t, and-l, and-r}
 use Rattle.theory.proofs.Somewhere.{some, some-append, some-map, some-keep}
 use Rattle.theory.proofs.Lines.{lineage-library, root-library}
 use Rattle.theory.proofs.Form.{lineage-up, root-up}

@@ -10,8 +10,8 @@ use lib.ListN.{length, take, drop}
 use Rattle.spec.specs.Lists.{concat}
 use Rattle.spec.specs.Record.{u16, lengthFits}
 use Rattle.spec.specs.Sheet.{Group, wholeEnd}
-use Rattle.theory.proofs.All.{All, all-left}
-use Rattle.theory.proofs.Parts.{part-length}
+use Rattle.laws.proofs.All.{All, all-left}
+use Rattle.laws.proofs.Parts.{part-length}
 use Rattle.theory.proofs.Cut.{Whole, concat-append, records-of-whole}
 use Rattle.records.specs.Records.{between, AtRecord, Carries}
 use Rattle.records.proofs.Between.{placed, tiled-parts}

@@ -20,8 +20,8 @@ use Rattle.spec.specs.Classes.{slots}
 use Rattle.spec.specs.Rules.{Fault, slotFault, judgedFor, slotFaults, placeIn}
 use Rattle.spec.specs.Relations.{At, Lineage, self, up}
 use Rattle.spec.specs.Refusals.{oneClass}
-use Rattle.theory.proofs.Bools.{t-and, and-l, and-r, or-cases, or-l, or-r, eq→eqb}
-use Rattle.theory.proofs.Members.{Among, gather-mem, mem-gather, keep-mem, mem-keep, only-mem, mem-only, numbered-at, at-numbered, any-mem, mem-any}
+use Rattle.laws.proofs.Bools.{t-and, and-l, and-r, or-cases, or-l, or-r, eq→eqb}
+use Rattle.laws.proofs.Members.{Among, gather-mem, mem-gather, keep-mem, mem-keep, only-mem, mem-only, numbered-at, at-numbered, any-mem, mem-any}
 use Rattle.theory.proofs.Falls.{Falls}
 use Rattle.theory.proofs.Lines.{lineage-is, root-is, lineage-user}
 use Rattle.theory.proofs.Slots.{place-other, place-zero}

@@ -13,7 +13,7 @@ use Rattle.spec.specs.Record.{u16, bit, flags, superclass}
 use Rattle.spec.specs.Sheet.{Group, classRecord, isInterface}
 use Rattle.spec.specs.Classes.{hasMarker}
 use Rattle.spec.specs.Rules.{judgedFor, placeIn}
-use Rattle.theory.proofs.Bools.{t-true, or-l, or-r, eq→eqb}
+use Rattle.laws.proofs.Bools.{t-true, or-l, or-r, eq→eqb}
 use Rattle.theory.proofs.Slots.{place-own, place-other}
 use Rattle.records.specs.Records.{Carries}
 use Rattle.overlay.specs.Types.{Known}

@@ -17,8 +17,8 @@ use Rattle.spec.specs.Markers.{Immutable, Powerless, DeepSelfless}
 use Rattle.spec.specs.Classes.{superclasses, captured, root}
 use Rattle.spec.specs.Rules.{Fault, Verdict, clean, rootFits, rootFaults, baseFits, baseFaults, rule7, rule8, rule9, rule10, rules, placeIn, verdictOf}
 use Rattle.spec.specs.Refusals.{oneClass, formRefusal}
-use Rattle.theory.proofs.Bools.{decide}
-use Rattle.theory.proofs.Members.{any-mem, mem-any}
+use Rattle.laws.proofs.Bools.{decide}
+use Rattle.laws.proofs.Members.{any-mem, mem-any}
 use Rattle.theory.proofs.Falls.{Falls}
 use Rattle.theory.proofs.Faults.{Stands, stands-is, stands-gather}
 use Rattle.theory.proofs.Lowest.{Outcome, unbroken, broken, outcome}

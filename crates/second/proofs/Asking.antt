@@ -11,8 +11,8 @@ use borrow.Author.Tests.{lt-ltb, le-ltb}
 use Rattle.spec.specs.Lists.{keep}
 use Rattle.spec.specs.Record.{u16, isKind, flags, LOCAL, MEMBER}
 use Rattle.spec.specs.Sheet.{Group, group, classRecord, ofKind, isInterface}
-use Rattle.theory.proofs.All.{keep-yes, keep-no}
-use Rattle.theory.proofs.Rows.{Filling}
+use Rattle.laws.proofs.All.{keep-yes, keep-no}
+use Rattle.laws.proofs.Rows.{Filling}
 use Rattle.groups.specs.declared.Classes.{Classes}
 use Rattle.groups.specs.Groups.{Indexed}
 use Rattle.groups.proofs.Few.{group-few}

@@ -13,7 +13,7 @@ use Rattle.spec.specs.Record.{Ty, fieldTy, localTy, isStatic, unlessNone, tyRef
 use Rattle.spec.specs.Sheet.{Group, ofKind, isInterface, isInstanceField}
 use Rattle.spec.specs.Classes.{enclosers}
 use Rattle.spec.specs.Refusals.{noSuchClass, noSuchIndex, superclassFits, encloserFits, implementsFits, usesFits, nameMet, formTests}
-use Rattle.theory.proofs.Bools.{t-same, eq→eqb}
+use Rattle.laws.proofs.Bools.{t-same, eq→eqb}
 use Rattle.theory.proofs.References.{references-class, references-implements, references-field, references-local, references-uses, references-builds, references-member, references-refers}
 use Rattle.pass.specs.Pass.{numberOf}
 use Rattle.second.specs.Second.{formNumber, nineUnless, eightUnless, thereOrNone, typeThere, classNumber, implementsNumber, fieldNumber, usesNumber, refersNumber}

@@ -9,9 +9,9 @@ use lib.Dec.{eqb}
 use Rattle.spec.specs.Record.{u16, bit, flags, superclass, encloser}
 use Rattle.spec.specs.Sheet.{Group}
 use Rattle.spec.specs.Refusals.{superclassFits, encloserFits}
-use Rattle.theory.proofs.Parts.{u16-take}
+use Rattle.laws.proofs.Parts.{u16-take}
 use Rattle.pass.specs.Pass.{numberOf}
-use Rattle.names.specs.Names.{Opens}
+use Rattle.fingerprints.specs.Fingerprints.{Opens}
 use Rattle.second.specs.Second.{nineUnless, eightUnless, thereOrNone, superclassOk, encloserOk, classNumber}
 use Rattle.records.specs.Records.{recordAt}
 

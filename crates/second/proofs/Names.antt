@@ -15,12 +15,12 @@ use Rattle.spec.specs.Lists.{any, elem, sameList, span}
 use Rattle.spec.specs.Record.{u16, className}
 use Rattle.spec.specs.Sheet.{Group, group, classRecord}
 use Rattle.spec.specs.Refusals.{nameMet}
-use Rattle.theory.proofs.Bools.{t-false, not-mono}
+use Rattle.laws.proofs.Bools.{t-false, not-mono}
 use Rattle.records.specs.Records.{recordAt, Carries}
 use Rattle.groups.specs.Groups.{Indexed}
-use Rattle.names.specs.Names.{printOf, Opens, Printed}
-use Rattle.names.proofs.Printing.{first-length, first-byte, class-first}
-use Rattle.names.proofs.Telling.{same-list, all-told}
+use Rattle.fingerprints.specs.Fingerprints.{printOf, Opens, Printed}
+use Rattle.fingerprints.proofs.Printing.{first-length, first-byte, class-first}
+use Rattle.fingerprints.proofs.Telling.{same-list, all-told}
 
 -- ---- two lists
 

@@ -13,8 +13,8 @@ use Rattle.spec.specs.Lists.{any}
 use Rattle.spec.specs.Record.{u16, kind, isClass, CLASS}
 use Rattle.spec.specs.Sheet.{Group, group, classRecord}
 use Rattle.spec.specs.Refusals.{oneClass, nameMet}
-use Rattle.theory.proofs.Bools.{t-false, true-t, and-l, and-r, not-or-l, not-or-r}
-use Rattle.theory.proofs.All.{All}
+use Rattle.laws.proofs.Bools.{t-false, true-t, and-l, and-r, not-or-l, not-or-r}
+use Rattle.laws.proofs.All.{All}
 use Rattle.theory.proofs.Form.{group-one-class}
 use Rattle.records.proofs.Whole.{length-here, kind-here}
 use Rattle.pass.specs.declared.Pass.{Pass}
@@ -23,7 +23,7 @@ use Rattle.records.proofs.Between.{tiled-end}
 use Rattle.groups.specs.Groups.{startOf, Indexed}
 use Rattle.records.proofs.Walks.{walk-on, walk-here, walk-next}
 use Rattle.groups.proofs.Held.{class-low}
-use Rattle.names.proofs.Printing.{first-length, class-first, class-opens}
+use Rattle.fingerprints.proofs.Printing.{first-length, class-first, class-opens}
 use Rattle.records.specs.Records.{Sized, recordAt, between, AtRecord, Carries}
 use Rattle.second.specs.Second.{classNumber, formNumber, formOf}
 use Rattle.records.proofs.Positions.{walk-sized, whole}

@@ -18,8 +18,8 @@ use Rattle.spec.specs.Record.{kind, isClass}
 use Rattle.spec.specs.Sheet.{Group, recordsOf, groupsOf, classCount, groupStart, total, group, Located, locate, locatedIn}
 use Rattle.spec.specs.Refusals.{Refusal, refuseIf, formTests, oneClass}
 use Rattle.theory.specs.Claims.{sheetOf}
-use Rattle.theory.proofs.Bools.{t-true, and-l, and-r}
-use Rattle.theory.proofs.All.{All, all-at, all-drop}
+use Rattle.laws.proofs.Bools.{t-true, and-l, and-r}
+use Rattle.laws.proofs.All.{All, all-at, all-drop}
 use Rattle.theory.proofs.Answers.{skip-none, first-some}
 use Rattle.theory.proofs.Cut.{split-parts, split-join}
 use Rattle.theory.proofs.Accept.{Clear}
@@ -30,7 +30,7 @@ use Rattle.pass.proofs.Places.{answer, classPlace, otherPlace, locate-class, lo
 use Rattle.pass.proofs.Joining.{Opens, open-anywhere}
 use Rattle.groups.specs.Groups.{startOf, Indexed}
 use Rattle.groups.proofs.Held.{in-library, in-user, library-sheet, user-sheet, group-next}
-use Rattle.second.specs.Second.{formNumber, formOf, formIn, firstClass, classesEnd}
+use Rattle.second.specs.Second.{formNumber, formOf, formIn, classesStart, classesEnd}
 use Rattle.second.proofs.Passing.{form-stop, form-on, others}
 
 module _ (g : ℕ → Group) (nlib n sheet : ℕ) where
@@ -107,13 +107,13 @@ record Among (library user : List ℕ) (nlib n sheet base : ℕ) (s : List ℕ) 
   its : (i : ℕ) → i < classCount s → group library user (base + i) ≡ getD (groupsOf s) i []
   start : (i : ℕ) → i < classCount s → startOf library user (base + i) ≡ groupStart s i
 
-among : {library user row : List ℕ} {nlib n : ℕ} → Indexed library user nlib n row → {sheet : ℕ} → sheet < 2 → Among library user nlib n sheet (firstClass nlib sheet) (sheetOf library user sheet)
+among : {library user row : List ℕ} {nlib n : ℕ} → Indexed library user nlib n row → {sheet : ℕ} → sheet < 2 → Among library user nlib n sheet (classesStart nlib sheet) (sheetOf library user sheet)
 unfolding total
 among {library} {user} {row} {nlib} {n} x {sheet} h = go (ℕ-discrete sheet 0)
   where
-    go : Dec (sheet ≡ 0) → Among library user nlib n sheet (firstClass nlib sheet) (sheetOf library user sheet)
+    go : Dec (sheet ≡ 0) → Among library user nlib n sheet (classesStart nlib sheet) (sheetOf library user sheet)
     go (yes e) =
-        let f : firstClass nlib sheet ≡ 0 = (unfold firstClass in rw (eq-eqb sheet 0 e, firstClass)) in
+        let f : classesStart nlib sheet ≡ 0 = (unfold classesStart in rw (eq-eqb sheet 0 e, classesStart)) in
         let l : classesEnd nlib n sheet ≡ nlib = (unfold classesEnd in rw (eq-eqb sheet 0 e, classesEnd)) in
         rw (library-sheet library user sheet e, f) (record {
           clear = rw e (x .library-clear);
@@ -124,7 +124,7 @@ among {library} {user} {row} {nlib} {n} x {sheet} h = go (ℕ-discrete sheet 0)
         })
     go (no ne) =
         let one : sheet ≡ 1 = omega arith in
-        let f : firstClass nlib sheet ≡ nlib = (unfold firstClass in rw (ne-eqb sheet 0 ne, firstClass)) in
+        let f : classesStart nlib sheet ≡ nlib = (unfold classesStart in rw (ne-eqb sheet 0 ne, classesStart)) in
         let l : classesEnd nlib n sheet ≡ n = (unfold classesEnd in rw (ne-eqb sheet 0 ne, classesEnd)) in
         rw (user-sheet library user sheet ne, f) (record {
           clear = rw (one, x .nlib-is) (x .user-clear);
@@ -140,24 +140,24 @@ among {library} {user} {row} {nlib} {n} x {sheet} h = go (ℕ-discrete sheet 0)
 
 -- the pass stands at class c; what is left comes to the refusals of the whole sheet
 pub record Passing (library user : List ℕ) (nlib n sheet c : ℕ) : Type 0 where
-  among : Among library user nlib n sheet (firstClass nlib sheet) (sheetOf library user sheet)
+  among : Among library user nlib n sheet (classesStart nlib sheet) (sheetOf library user sheet)
   place : ℕ  -- its number in the sheet
-  is : c ≡ firstClass nlib sheet + place
+  is : c ≡ classesStart nlib sheet + place
   within : place ≤ classCount (sheetOf library user sheet)
   rest : along (group library user) nlib n sheet (locate sheet (groupStart (sheetOf library user sheet) place) c 0 0 (concat (drop place (groupsOf (sheetOf library user sheet)))))
-      ≡ formIn (group library user) nlib n sheet (firstClass nlib sheet) (sheetOf library user sheet)
+      ≡ formIn (group library user) nlib n sheet (classesStart nlib sheet) (sheetOf library user sheet)
 
-pub passes-start : {library user row : List ℕ} {nlib n : ℕ} → Indexed library user nlib n row → {sheet : ℕ} → sheet < 2 → {c : ℕ} → c ≡ firstClass nlib sheet → Passing library user nlib n sheet c
+pub passes-start : {library user row : List ℕ} {nlib n : ℕ} → Indexed library user nlib n row → {sheet : ℕ} → sheet < 2 → {c : ℕ} → c ≡ classesStart nlib sheet → Passing library user nlib n sheet c
 unfolding along answer formIn locatedIn groupStart concat
 passes-start {library} {user} {nlib = nlib} {n} x {sheet} h ec =
     let s : List ℕ = sheetOf library user sheet in
-    let a : Among library user nlib n sheet (firstClass nlib sheet) s = among x h in
+    let a : Among library user nlib n sheet (classesStart nlib sheet) s = among x h in
     let t = split-parts (recordsOf s) in
     let e : concat (groupsOf s) ≡ recordsOf s = (unfold groupsOf in sym (t .joined ∙ rw (a .clear .loose))) in
     record {
       among = a;
       place = 0;
-      is = ec ∙ sym (add-zero (firstClass nlib sheet));
+      is = ec ∙ sym (add-zero (classesStart nlib sheet));
       within = omega arith;
       rest = rw (ec, e);
     }
@@ -167,7 +167,7 @@ module _ {library user : List ℕ} {nlib n sheet c : ℕ} (w : Passing library u
   g = group library user
 
   abbrev base : ℕ
-  base = firstClass nlib sheet
+  base = classesStart nlib sheet
 
   abbrev s : List ℕ
   s = sheetOf library user sheet

@@ -67,8 +67,8 @@ unfoldable pub encloserOk : ℕ → ℕ → ℕ → ℕ → Bool
 encloserOk nlib c f outer = elim (eqb outer none16) [ true ↦ not (bit 1 f) | false ↦ leb nlib c && leb nlib outer && ltb outer c ]
 
 -- how many classes stand before a sheet, and the class after its last one
-unfoldable pub firstClass : ℕ → ℕ → ℕ
-firstClass nlib sheet = elim (eqb sheet 0) [ true ↦ 0 | false ↦ nlib ]
+unfoldable pub classesStart : ℕ → ℕ → ℕ
+classesStart nlib sheet = elim (eqb sheet 0) [ true ↦ 0 | false ↦ nlib ]
 
 unfoldable pub classesEnd : ℕ → ℕ → ℕ → ℕ
 classesEnd nlib n sheet = elim (eqb sheet 0) [ true ↦ nlib | false ↦ n ]

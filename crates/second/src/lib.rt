@@ -21,9 +21,9 @@ ghost use Rattle.theory.specs.Claims.{sheetOf};
 ghost use Rattle.view.specs.View.{spliced, Views};
 ghost use Rattle.pass.specs.Pass.{passOf};
 ghost use Rattle.groups.specs.Groups.{startOf};
-ghost use Rattle.names.specs.Names.{Printed};
+ghost use Rattle.fingerprints.specs.Fingerprints.{Printed};
 ghost use Rattle.records.specs.Records.{between, Carries};
-ghost use Rattle.second.specs.Second.{Heads, Enclosing, countedKind, headOf, formOf, formIn, firstClass, classesEnd};
+ghost use Rattle.second.specs.Second.{Heads, Enclosing, countedKind, headOf, formOf, formIn, classesStart, classesEnd};
 
 // The kind of the records of class c that others name by an index: MEMBER in the library, LOCAL in the user sheet.
 fn counted_kind(nlib: usize, c: usize) -> u16
@@ -178,8 +178,8 @@ fn class_pass<'a>(
 }
 
 // How many classes stand before a sheet.
-fn first_class(nlib: usize, sheet: u8) -> usize
-    ensures { λ r. ⌜ r ≡ firstClass nlib sheet ⌝ }
+fn classes_start(nlib: usize, sheet: u8) -> usize
+    ensures { λ r. ⌜ r ≡ classesStart nlib sheet ⌝ }
 {
     if sheet == 0 {
         return 0;
@@ -214,14 +214,14 @@ pub fn second_pass<'a>(
     requires { λ g. ⌜ Printed g (view .classes .all) (now prints) ⌝ }
     requires { λ g. ⌜ Heads g (view .classes) (now heads) ⌝ }
     requires { λ g. ⌜ sheet < 2 ⌝ }
-    ensures { λ g r. ⌜ r ≡ passOf (formIn g (view .classes .library) (view .classes .all) sheet (firstClass (view .classes .library) sheet)
+    ensures { λ g r. ⌜ r ≡ passOf (formIn g (view .classes .library) (view .classes .all) sheet (classesStart (view .classes .library) sheet)
         (sheetOf (now (library .entry)) (spliced (now (user .entry)) (now (group .entry)) (view .cut)) sheet))
-        (firstClass (view .classes .library) sheet
+        (classesStart (view .classes .library) sheet
         + classCount (sheetOf (now (library .entry)) (spliced (now (user .entry)) (now (group .entry)) (view .cut)) sheet)) ⌝ }
 {
     let classes = view.classes;
     let end = classes_end(classes.library, classes.all, sheet);
-    let mut c = first_class(classes.library, sheet);
+    let mut c = classes_start(classes.library, sheet);
     while c < end {
         let passed = class_pass(library, user, group, starts, view, prints, heads, c);
         if let Pass::Refused(number, byte) = passed {

@@ -1,5 +1,5 @@
 // Whether a name is new.
-use names::met;
+use fingerprints::met;
 use records::wide;
 use records::word_in;
 use view::View;
@@ -11,7 +11,7 @@ ghost use Rattle.spec.specs.Record.{className};
 ghost use Rattle.spec.specs.Sheet.{Group, group as groupOf, classRecord};
 ghost use Rattle.spec.specs.Refusals.{nameMet};
 ghost use Rattle.view.specs.View.{spliced, Views};
-ghost use Rattle.names.specs.Names.{Opens, Printed};
+ghost use Rattle.fingerprints.specs.Fingerprints.{Opens, Printed};
 ghost use Rattle.records.specs.Records.{recordAt, Carries};
 
 // Whether the CLASS records that come first in the bytes of two classes have one name.

@@ -10,7 +10,7 @@ ghost use lib.ListN.{length};
 ghost use Rattle.spec.specs.Record.{u16, bit, tyAt, LOCAL, MEMBER};
 ghost use Rattle.spec.specs.Sheet.{Group, ofKind};
 ghost use Rattle.groups.specs.declared.Classes.{Classes};
-ghost use Rattle.names.specs.Names.{Opens};
+ghost use Rattle.fingerprints.specs.Fingerprints.{Opens};
 ghost use Rattle.records.specs.Records.{Sized, recordAt};
 ghost use Rattle.second.specs.Second.{Heads, Enclosing, typeThere, classNumber, implementsNumber, fieldNumber, usesNumber, refersNumber};
 ghost use Rattle.second.specs.Second.{formNumber, thereOrNone, superclassOk, encloserOk};

@@ -12,9 +12,9 @@ use Rattle.spec.specs.Record.{u16, bit, isClass, CLASS, none16, flags, encloser
 use Rattle.spec.specs.Sheet.{Group, total, group, classCount, classRecord, ofKind, isInner}
 use Rattle.spec.specs.Classes.{Slot, encloserSlot, variableSlot, classTy, enclosing, localAt, captured, hasMarker, satisfies, encloserSlots, capturedSlots}
 use Rattle.spec.specs.Refusals.{formRefusal, encloserFits}
-use Rattle.theory.proofs.All.{All, all-append, all-if, all-kept, any-cong}
+use Rattle.laws.proofs.All.{All, all-append, all-if, all-kept, any-cong}
 use Rattle.theory.proofs.Somewhere.{any-append, any-never}
-use Rattle.theory.proofs.Accept.{Fits, form-fits}
+use Rattle.theory.proofs.Accept.{RecordFits, form-fits}
 use Rattle.theory.proofs.Form.{one-record, group-one-class}
 use Rattle.groups.specs.Groups.{Indexed}
 use Rattle.lanes.specs.Lanes.{entryAt}
@@ -115,10 +115,10 @@ module _ {library user : List ℕ} {nlib n : ℕ} {starts : List ℕ} (x : Index
   one : ofKind CLASS (g t) ≡ classRecord (g t) ∷ []
   one = one-record (g t) (group-one-class library user t (omega (arith, x .n-is)))
 
-  class-fits : Fits (classCount library) (total library user) g t (classRecord (g t)) × T (isClass (classRecord (g t)))
+  class-fits : RecordFits (classCount library) (total library user) g t (classRecord (g t)) × T (isClass (classRecord (g t)))
   class-fits =
-      let a : All (λ r. Fits (classCount library) (total library user) g t r × T (isClass r)) (ofKind CLASS (g t)) =
-      (unfold ofKind in all-kept (Fits (classCount library) (total library user) g t) isClass (g t) (form-fits library user form t)) in
+      let a : All (λ r. RecordFits (classCount library) (total library user) g t r × T (isClass r)) (ofKind CLASS (g t)) =
+      (unfold ofKind in all-kept (RecordFits (classCount library) (total library user) g t) isClass (g t) (form-fits library user form t)) in
       let b = rw one at a in b .0
 
   pub inner-encloser : {f : ℕ} → f ≡ u16 (classRecord (g t)) 4 → (f / 2 % 2 ≡ 0 → ⊥) → {y w : ℕ} → y ≡ w → w ≡ u16 (classRecord (g t)) 10 → enclosing (g t) ≡ y ∷ []

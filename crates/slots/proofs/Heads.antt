@@ -15,7 +15,7 @@ use Rattle.spec.specs.Record.{u16, bit}
 use Rattle.spec.specs.Sheet.{Group, group, classRecord}
 use Rattle.spec.specs.Classes.{hasMarker}
 use Rattle.spec.specs.Refusals.{formRefusal}
-use Rattle.theory.proofs.Bools.{decide}
+use Rattle.laws.proofs.Bools.{decide}
 use Rattle.records.specs.Records.{Carries}
 use Rattle.records.proofs.Carried.{class-word-in}
 use Rattle.groups.specs.Groups.{Indexed}

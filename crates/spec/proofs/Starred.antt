@@ -6,5 +6,28 @@ use Rattle.spec.specs.Examples.{AllHold, starred, rowFor, answerOver, ro
 
 pub starred-hold : AllHold starred
 unfolding starred rowFor answerOver rowOver evaluation
-starred-hold =
-    ((refl, refl), ((refl, refl), ((refl, refl), ((refl, refl), ((refl, refl), ((refl, refl), ((refl, refl), ((refl, refl), (refl, (refl, (refl, (refl, ((refl, refl), ((refl, refl), (refl, tt)))))))))))))))
+starred-hold = (
+  (refl, refl),
+  (
+    (refl, refl),
+    (
+      (refl, refl),
+      (
+        (refl, refl),
+        (
+          (refl, refl),
+          (
+            (refl, refl),
+            (
+              (refl, refl),
+              (
+                (refl, refl),
+                (refl, (refl, (refl, (refl, ((refl, refl), ((refl, refl), (refl, tt))))))),
+              ),
+            ),
+          ),
+        ),
+      ),
+    ),
+  ),
+)

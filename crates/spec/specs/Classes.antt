@@ -7,7 +7,8 @@ use Prim.Native.Nat.{ℕ, zero, suc}
 use lib.Dec.{eqb, ltb}
 use lib.ListN.{length, take, drop}
 use Rattle.spec.specs.Lists.{all, keep, gather, numbered, onlyIf, elem, ascending, reach}
-use Rattle.spec.specs.Record.{bit, isKind, CLASS, IMPLEMENTS, LOCAL, USES, BUILDS, ownMarkers, superclass, encloser, target, index, Ty, fieldTy, localTy, isFinal, isTransient, unlessNone, tyReferences}
+use Rattle.spec.specs.Record.{bit, isKind, CLASS, IMPLEMENTS, LOCAL, USES, BUILDS, ownMarkers, superclass, encloser, target, index, Ty, fieldTy, localTy, isFinal, isTransient, unlessNone}
+use Rattle.spec.specs.Record.{tyReferences}
 use Rattle.spec.specs.Sheet.{Group, classRecord, ofKind, isInner, isInstanceField}
 use Rattle.spec.specs.Markers.{closure, union, unionAll}
 

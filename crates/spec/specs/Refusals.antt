@@ -8,7 +8,8 @@ use Prim.Native.Nat.{ℕ, _-_}
 use lib.Dec.{eqb, leb, ltb}
 use lib.ListN.{length, take, set}
 use Rattle.spec.specs.Lists.{any, concat, firstOf, elem, sameList, span}
-use Rattle.spec.specs.Record.{Bytes, bit, none16, isKind, isClass, IMPLEMENTS, LOCAL, USES, MEMBER, REFERS, flags, superclass, encloser, className, target, index, references, kindFits, lengthFits, bodyFits}
+use Rattle.spec.specs.Record.{Bytes, bit, none16, isKind, isClass, IMPLEMENTS, LOCAL, USES, MEMBER, REFERS, flags, superclass, encloser, className, target, index, references, kindFits}
+use Rattle.spec.specs.Record.{lengthFits, bodyFits}
 use Rattle.spec.specs.Sheet.{Group, recordsOf, wholeEnd, groupsOf, classCount, total, group, classRecord, ofKind, isInterface, isInstanceField, Located, locatedIn, located}
 use Rattle.spec.specs.Markers.{clash}
 use Rattle.spec.specs.Classes.{overlay, enclosers}

@@ -15,8 +15,8 @@ use Rattle.spec.specs.Lists.{any}
 use Rattle.spec.specs.Record.{u16, bit, flags, superclass}
 use Rattle.spec.specs.Sheet.{Group, group, classRecord, isInterface}
 use Rattle.spec.specs.Refusals.{formRefusal}
-use Rattle.theory.proofs.Bools.{false-t, t-false}
-use Rattle.theory.proofs.Rows.{set-below}
+use Rattle.laws.proofs.Bools.{false-t, t-false}
+use Rattle.laws.proofs.Rows.{set-below}
 use Rattle.theory.proofs.Falls.{Falls}
 use Rattle.theory.proofs.Form.{Super, sound-falls, sound-super}
 use Rattle.groups.specs.Groups.{Indexed}
@@ -29,7 +29,7 @@ use Rattle.slots.specs.Slots.{fixedBreaks, fieldBreaks, slotsBreak, Passes, Fie
 use Rattle.breaks.specs.Breaking.{lineBreaks, Bans, Facts}
 use Rattle.breaks.proofs.Lines.{line-library, line-up}
 use Rattle.slots.proofs.Heads.{fixed-is}
-use Rattle.theory.proofs.Parts.{part-length, part-rest}
+use Rattle.laws.proofs.Parts.{part-length, part-rest}
 use Rattle.slots.proofs.Bits.{bit-zero}
 use Rattle.survey.specs.Survey.{ClassSet, Passing, setsIn, KeepsFacts}
 use Rattle.records.proofs.Carried.{class-within, class-word-in}

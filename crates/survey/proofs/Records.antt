@@ -14,8 +14,8 @@ use Rattle.spec.specs.Markers.{clash}
 use Rattle.spec.specs.Classes.{satisfies}
 use Rattle.spec.specs.Rules.{staticMarker, memberAllowed, forbidden}
 use Rattle.spec.specs.Refusals.{formRefusal}
-use Rattle.theory.proofs.All.{All, weaken}
-use Rattle.theory.proofs.Accept.{Fits, form-fits}
+use Rattle.laws.proofs.All.{All, weaken}
+use Rattle.theory.proofs.Accept.{RecordFits, form-fits}
 use Rattle.theory.proofs.References.{references-refers}
 use Rattle.records.specs.Records.{recordAt, between, AtRecord, Carries}
 use Rattle.groups.specs.Groups.{Indexed}
@@ -63,7 +63,7 @@ module _ {nlib n : ℕ} {g : ℕ → Group} {bytes : List ℕ} {at : ℕ} (w : L
 all-refer : {library user : List ℕ} {nlib n : ℕ} {row : List ℕ} → Indexed library user nlib n row → formRefusal library user ≡ none → (c : ℕ)
     → All (Refers n (group library user)) (group library user c)
 all-refer {library} {user} {n = n} x ok c =
-    weaken (Fits (classCount library) (total library user) (group library user) c) (Refers n (group library user))
+    weaken (RecordFits (classCount library) (total library user) (group library user) c) (Refers n (group library user))
     (λ r f. record { class = λ u. let a = subst (All (λ d. d < total library user)) (references-refers r u) (f .there) in omega (arith, a .0, x .n-is); member = f .member })
     (group library user c) (form-fits library user ok c)
 

@@ -15,7 +15,7 @@ use Rattle.spec.specs.Markers.{Immutable, Powerless, Selfless, DeepSelfless}
 use Rattle.spec.specs.Classes.{Slot, fieldSlot, encloserSlots, fieldSlots, capturedSlots, ownSlots, superclasses, overlay, hasMarker, satisfies, lineage, root, slots}
 use Rattle.spec.specs.Rules.{Fault, Verdict, clean, staticMarker, slotFault, faultIf, faultsAt, memberAllowed, judgedFor, rootFits, baseFits, baseFaults, forbidden, slotFaults, rootFaults, rule1}
 use Rattle.spec.specs.Rules.{rule2, rule3, rule4, rule5, rule6, rule7, rule8, rule9, rule10, rules, placeIn, firstBroken, verdictOf}
-use Rattle.theory.proofs.Bools.{true-t, and-l, and-r}
+use Rattle.laws.proofs.Bools.{true-t, and-l, and-r}
 use Rattle.theory.proofs.Somewhere.{any-append, any-map, any-gather, any-keep, any-numbered, any-same, any-either, any-never, some, some-append, some-map, some-only, some-keep, some-gather}
 use Rattle.breaks.specs.Breaking.{lineBreaks}
 use Rattle.survey.specs.Survey.{isClean, headBreaks, anyLate, recordBreaks, lateBreaks, classBreaks}

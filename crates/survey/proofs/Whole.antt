@@ -15,7 +15,7 @@ use Rattle.spec.specs.Sheet.{Group, group, classRecord, isInterface}
 use Rattle.spec.specs.Classes.{overlay}
 use Rattle.spec.specs.Rules.{verdictOf}
 use Rattle.spec.specs.Refusals.{formRefusal}
-use Rattle.theory.proofs.Bools.{false-t}
+use Rattle.laws.proofs.Bools.{false-t}
 use Rattle.groups.specs.Groups.{Indexed}
 use Rattle.groups.proofs.Held.{class-long}
 use Rattle.records.specs.Records.{between, Carries}

@@ -33,7 +33,7 @@ ghost use Rattle.spec.specs.Lists.{any};
 ghost use Rattle.spec.specs.Record.{u16, bit};
 ghost use Rattle.spec.specs.Sheet.{Group, group as groupOf};
 ghost use Rattle.spec.specs.Rules.{verdictOf};
-ghost use Rattle.theory.proofs.All.{All};
+ghost use Rattle.laws.proofs.All.{All};
 ghost use Rattle.groups.specs.Groups.{Indexed};
 ghost use Rattle.overlay.specs.Types.{Known};
 ghost use Rattle.records.specs.Records.{between, AtRecord};

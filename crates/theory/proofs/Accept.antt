@@ -14,8 +14,8 @@ use Rattle.spec.specs.Record.{kind, isKind, isClass, bit, flags, index, target,
 use Rattle.spec.specs.Sheet.{Group, Located, locate, locatedIn, located, Split, splitGroups, recordsOf, wholeEnd, groupsOf, classCount, total, group, ofKind, isInterface, isInstanceField}
 use Rattle.spec.specs.Refusals.{refuseRecord, recordTests, recordRefusal, tornRefusal, noClassRefusal, noSuchClass, noSuchIndex, superclassFits}
 use Rattle.spec.specs.Refusals.{encloserFits, implementsFits, usesFits, nameMet, formTests, formRefusal, sheetRefusal}
-use Rattle.theory.proofs.Bools.{not-or-l, not-or-r, un-not, imply, not-and-r}
-use Rattle.theory.proofs.All.{All, all-left, all-right, weaken}
+use Rattle.laws.proofs.Bools.{not-or-l, not-or-r, un-not, imply, not-and-r}
+use Rattle.laws.proofs.All.{All, all-left, all-right, weaken}
 use Rattle.theory.proofs.Cut.{split-class, split-other}
 use Rattle.theory.proofs.Answers.{first-none, of-map, if-none, Fails, record-none}
 
@@ -121,7 +121,7 @@ module _ (P : ℕ → List ℕ → Type 0) where
 -- ---- the second pass
 
 -- record r of class c fits the form
-pub record Fits (nlib n : ℕ) (g : ℕ → Group) (c : ℕ) (r : List ℕ) : Type 0 where
+pub record RecordFits (nlib n : ℕ) (g : ℕ → Group) (c : ℕ) (r : List ℕ) : Type 0 where
   pub there : All (λ d. d < n) (references r)
   pub local : T (isKind USES r) → index r < length (ofKind LOCAL (g (target r)))
   pub member : T (isKind REFERS r) → index r < length (ofKind MEMBER (g (target r)))
@@ -138,7 +138,7 @@ unfolding any
 not-any p [] t = tt
 not-any p (x ∷ xs) t = (not-or-l (p x) (any p xs) t, not-any p xs (not-or-r (p x) (any p xs) t))
 
-fits : (nlib n : ℕ) (g : ℕ → Group) (l : Located) → All Fails (formTests g nlib n l) → Fits nlib n g (l .class) (l .bytes)
+fits : (nlib n : ℕ) (g : ℕ → Group) (l : Located) → All Fails (formTests g nlib n l) → RecordFits nlib n g (l .class) (l .bytes)
 unfolding formTests noSuchClass noSuchIndex
 fits nlib n g l f =
     let r = l .bytes in
@@ -179,12 +179,12 @@ clear sheet n s e e′ =
     }
 
 -- what the second pass gives
-pub form-fits : (lib user : List ℕ) → formRefusal lib user ≡ none → (c : ℕ) → All (Fits (classCount lib) (total lib user) (group lib user) c) (group lib user c)
+pub form-fits : (lib user : List ℕ) → formRefusal lib user ≡ none → (c : ℕ) → All (RecordFits (classCount lib) (total lib user) (group lib user) c) (group lib user c)
 unfolding formRefusal
 form-fits lib user e =
     let tests : Located → List (ℕ × Bool) = formTests (group lib user) (classCount lib) (total lib user) in
-    by-class (Fits (classCount lib) (total lib user) (group lib user)) lib user
-    (weaken (λ l. refuseRecord l (tests l) ≡ none) (λ l. Fits (classCount lib) (total lib user) (group lib user) (l .class) (l .bytes))
+    by-class (RecordFits (classCount lib) (total lib user) (group lib user)) lib user
+    (weaken (λ l. refuseRecord l (tests l) ≡ none) (λ l. RecordFits (classCount lib) (total lib user) (group lib user) (l .class) (l .bytes))
     (λ l k. fits (classCount lib) (total lib user) (group lib user) l (record-none l (tests l) k)) (located lib user)
     (of-map (λ o. o ≡ none) (λ l. refuseRecord l (tests l)) (located lib user) (first-none _ e)))
 
@@ -193,7 +193,7 @@ pub record Sound (lib user : List ℕ) : Type 0 where
   pub librarySheet : Clear 0 0 lib
   pub userSheet : Clear 1 (classCount lib) user
   pub some : T (not (eqb (classCount lib) 0))
-  pub fits : (c : ℕ) → All (Fits (classCount lib) (total lib user) (group lib user) c) (group lib user c)
+  pub fits : (c : ℕ) → All (RecordFits (classCount lib) (total lib user) (group lib user) c) (group lib user c)
   pub few : total lib user ≤ 256
 
 pub sound : (lib user : List ℕ) → sheetRefusal lib user ≡ none → Sound lib user

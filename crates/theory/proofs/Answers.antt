@@ -10,7 +10,7 @@ use lib.Dec.{T}
 use Rattle.spec.specs.Lists.{firstOf}
 use Rattle.spec.specs.Sheet.{Located}
 use Rattle.spec.specs.Refusals.{refuseIf, refusePlain, refuseRecord}
-use Rattle.theory.proofs.All.{All}
+use Rattle.laws.proofs.All.{All}
 
 module _ {A : Type 0} where
   pub some≢none : (a : A) → Path (Option A) (some a) none → ⊥

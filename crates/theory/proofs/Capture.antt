@@ -13,10 +13,10 @@ use Rattle.spec.specs.Sheet.{Group, groupReferences}
 use Rattle.spec.specs.Classes.{targets, locals, usedIndexes, enclosers, inside, buildsInside, capturedOf, captured}
 use Rattle.spec.specs.Rules.{dependencies}
 use Rattle.spec.specs.Relations.{Uses, References, Depends, self, onward, Inside, Chain, start, step, Captures}
-use Rattle.theory.proofs.All.{All, all-keep, of-members}
+use Rattle.laws.proofs.All.{All, all-keep, of-members}
 use Rattle.theory.proofs.Reach.{Steps, onward as further, here as start-here}
-use Rattle.theory.proofs.Complete.{elem-mem, reach-sound, reach-complete}
-use Rattle.theory.proofs.Members.{mem-elem, gather-mem, mem-gather, keep-mem, mem-keep, ascending-mem, mem-ascending}
+use Rattle.theory.proofs.Complete.{reach-sound, reach-complete}
+use Rattle.laws.proofs.Members.{elem-mem, mem-elem, gather-mem, mem-gather, keep-mem, mem-keep, ascending-mem, mem-ascending}
 use Rattle.theory.proofs.Groups.{target-is, reference-is, uses-is, builds-reference}
 use Rattle.theory.proofs.Falls.{Falls}
 use Rattle.theory.proofs.Lines.{enclosers-inside, inside-enclosers, inside-sound, inside-complete, inside-lower}

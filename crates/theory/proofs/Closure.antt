@@ -14,8 +14,8 @@ use Rattle.spec.specs.Record.{bit}
 use Rattle.spec.specs.Markers.{markers, gives, implies, isClosed, contains, union, unionAll, closure, sets, singles}
 use Rattle.spec.specs.Evaluate.{evaluation}
 use Rattle.spec.proofs.Table.{entries-closed, entries-contain, entries-union}
-use Rattle.theory.proofs.Bools.{decide, or-cases, or-l, or-r, eq→eqb, T-implies}
-use Rattle.theory.proofs.All.{All, Any, all-kept, at-member, all-true, all-span}
+use Rattle.laws.proofs.Bools.{decide, or-cases, or-l, or-r, eq→eqb, T-implies}
+use Rattle.laws.proofs.All.{All, Any, all-kept, at-member, all-true, all-span}
 use Rattle.theory.proofs.Reach.{Steps}
 use Rattle.theory.proofs.Complete.{reach-sound}
 

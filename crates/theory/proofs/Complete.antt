@@ -10,28 +10,15 @@ use native.Mathlib.Omega.{arith}
 use lib.Dec.{T, T-not, eqb, eqb→eq, eqb-refl}
 use lib.ListN.{length}
 use Rattle.spec.specs.Lists.{any, keep, count, gather, elem, span, fresh, rounds, reach}
-use Rattle.theory.proofs.All.{All, all-append, all-parts, of-members}
+use Rattle.laws.proofs.Members.{all-elem, elem-mem, elem-span}
+use Rattle.laws.proofs.All.{All, all-append, all-parts, of-members}
 use Rattle.theory.proofs.Reach.{fresh-in, reach-in, Steps, here, onward}
-use Rattle.theory.proofs.Bools.{or-cases, or-l, or-r, decide, not-mono, not-not, not-or-r}
+use Rattle.laws.proofs.Bools.{or-cases, or-l, or-r, decide, not-mono, not-not, not-or-r}
 
 -- ---- membership
 
 In : List ℕ → ℕ → Type 0
 In s e = T (elem e s)
-
-pub all-elem : (P : ℕ → Type 0) (xs : List ℕ) (d : ℕ) → All P xs → T (elem d xs) → P d
-unfolding elem any
-all-elem P [] d h t = absurd t
-all-elem P (x ∷ xs) d h t = go (or-cases (eqb d x) (any (eqb d) xs) t) (all-elem P xs d (h .1))
-  where
-    go : T (eqb d x) ⊎ T (any (eqb d) xs) → (T (any (eqb d) xs) → P d) → P d
-    go (inl u) ih = subst P (sym (eqb→eq d x u)) (h .0)
-    go (inr u) ih = ih u
-
-pub elem-mem : {d : ℕ} {xs : List ℕ} → List·Memᴰ d xs → T (elem d xs)
-unfolding elem any
-elem-mem {d} (List·Memᴰ·head {x} {xs} e) = or-l (eqb d x) (any (eqb d) xs) (subst (λ (y : ℕ). T (eqb d y)) e (eqb-refl d))
-elem-mem {d} (List·Memᴰ·tail {x} {xs} m) = or-r (eqb d x) (any (eqb d) xs) (elem-mem m)
 
 all-mem : (P : ℕ → Type 0) {d : ℕ} {xs : List ℕ} → All P xs → List·Memᴰ d xs → P d
 all-mem P {d} {xs} h m = all-elem P xs d h (elem-mem m)
@@ -49,21 +36,6 @@ elem-seam : (d : ℕ) (xs ys : List ℕ) → T (elem d (xs ++ (d ∷ ys)))
 unfolding elem any
 elem-seam d [] ys = or-l (eqb d d) (any (eqb d) ys) (eqb-refl d)
 elem-seam d (x ∷ xs) ys = or-r (eqb d x) (any (eqb d) (xs ++ (d ∷ ys))) (elem-seam d xs ys)
-
-pub elem-span : (i n y : ℕ) → i ≤ y → y < i + n → T (elem y (span i n))
-unfolding elem any span
-elem-span i zero y h k = absurd (let z : suc y ≤ y = omega arith in go y z)
-  where
-    go : (y : ℕ) → suc y ≤ y → ⊥
-    go y z = omega arith
-elem-span i (suc n) y h k = go (decide (eqb y i)) (elem-span (suc i) n y)
-  where
-    ne : T (not (eqb y i)) → y ≡ i → ⊥
-    ne u e = T-not (eqb y i) u (subst (λ (z : ℕ). T (eqb y z)) e (eqb-refl y))
-
-    go : T (eqb y i) ⊎ T (not (eqb y i)) → (suc i ≤ y → y < suc i + n → T (any (eqb y) (span (suc i) n))) → T (eqb y i || any (eqb y) (span (suc i) n))
-    go (inl u) ih = or-l (eqb y i) (any (eqb y) (span (suc i) n)) u
-    go (inr u) ih = or-r (eqb y i) (any (eqb y) (span (suc i) n)) (ih (let q : y ≢ i = ne u in omega arith) (omega arith))
 
 -- ---- what a round adds
 

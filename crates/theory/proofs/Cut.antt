@@ -14,9 +14,9 @@ use Rattle.spec.specs.Lists.{any, concat}
 use Rattle.spec.specs.Record.{u16, isClass}
 use Rattle.spec.specs.Sheet.{Group, wholeFirst, recordsIn, recordsOf, wholeEnd, Split, splitGroups, groupsOf, classCount}
 use Rattle.spec.specs.Refusals.{oneClass, wholeGroup}
-use Rattle.theory.proofs.All.{All, all-append, all-left, all-right, all-map}
-use Rattle.theory.proofs.Parts.{u16-take}
-use Rattle.theory.proofs.Bools.{t-and, t-true, t-false, true-t, and-l, and-r, not-or-l, not-or-r}
+use Rattle.laws.proofs.All.{All, all-append, all-left, all-right, all-map}
+use Rattle.laws.proofs.Parts.{u16-take}
+use Rattle.laws.proofs.Bools.{t-and, t-true, t-false, true-t, and-l, and-r, not-or-l, not-or-r}
 
 -- a list of bytes that is one whole record
 pub record Whole (r : List ℕ) : Type 0 where

@@ -20,8 +20,8 @@ use Rattle.spec.specs.Breaks.{SelflessBase, marked, overrides, UnfitBase, unfit
 use Rattle.spec.specs.Breaks.{rule5 as breaks5, rule6 as breaks6, rule7 as breaks7, rule8 as breaks8, rule9 as breaks9, rule10 as breaks10}
 use Rattle.spec.specs.Verdicts.{verdictAt}
 use Rattle.theory.specs.Claims.{Relations, Right, Demand2}
-use Rattle.theory.proofs.Bools.{decide, t-and, and-l, and-r, or-cases, or-l, or-r, not-or-l, not-or-r, not-or, un-not, not-mono, not-and-r, eq→eqb}
-use Rattle.theory.proofs.Members.{any-mem, mem-any}
+use Rattle.laws.proofs.Bools.{decide, t-and, and-l, and-r, or-cases, or-l, or-r, not-or-l, not-or-r, not-or, un-not, not-mono, not-and-r, eq→eqb}
+use Rattle.laws.proofs.Members.{any-mem, mem-any}
 use Rattle.theory.proofs.Groups.{superclass-is, first-own, first-record, flag-is}
 use Rattle.theory.proofs.Falls.{Falls}
 use Rattle.theory.proofs.Slots.{member-is, satisfies-is, Shows, slots-sound, slots-complete}

@@ -10,9 +10,9 @@ use Rattle.spec.specs.Record.{bit, none16, flags, superclass, encloser, target}
 use Rattle.spec.specs.Sheet.{Group, ofKind, isInterface}
 use Rattle.spec.specs.Relations.{Superclass, Encloser, Implements}
 use Rattle.spec.specs.Refusals.{superclassFits, encloserFits, implementsFits}
-use Rattle.theory.proofs.Bools.{true-t, and-l, and-r}
-use Rattle.theory.proofs.All.{All, at-member}
-use Rattle.theory.proofs.Accept.{Fits}
+use Rattle.laws.proofs.Bools.{true-t, and-l, and-r}
+use Rattle.laws.proofs.All.{All, at-member}
+use Rattle.theory.proofs.Accept.{RecordFits}
 
 -- superclass, encloser and interfaces of a class have lower numbers
 pub record Falls (g : ℕ → Group) : Type 0 where
@@ -20,9 +20,9 @@ pub record Falls (g : ℕ → Group) : Type 0 where
   pub encloser : (c e : ℕ) → Encloser (g c) e → e < c
   pub implements : (c i : ℕ) → Implements (g c) i → i < c
 
-module _ (nlib n : ℕ) (g : ℕ → Group) (f : (c : ℕ) → All (Fits nlib n g c) (g c)) where
-  fit : {c : ℕ} {r : List ℕ} → List·Memᴰ r (g c) → Fits nlib n g c r
-  fit {c} m = at-member (Fits nlib n g c) (g c) (f c) m
+module _ (nlib n : ℕ) (g : ℕ → Group) (f : (c : ℕ) → All (RecordFits nlib n g c) (g c)) where
+  fit : {c : ℕ} {r : List ℕ} → List·Memᴰ r (g c) → RecordFits nlib n g c r
+  fit {c} m = at-member (RecordFits nlib n g c) (g c) (f c) m
 
   super-lower : (c : ℕ) (r : List ℕ) → T (superclassFits g c r) → superclass r ≢ none16 → superclass r < c
   unfolding superclassFits

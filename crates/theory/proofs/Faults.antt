@@ -12,7 +12,7 @@ use Rattle.spec.specs.Sheet.{Group}
 use Rattle.spec.specs.Classes.{Slot, slots}
 use Rattle.spec.specs.Rules.{Fault, slotFault, faultIf, faultsAt, slotFaults, placeIn}
 use Rattle.spec.specs.Relations.{At}
-use Rattle.theory.proofs.Members.{gather-mem, mem-gather, keep-mem, mem-keep, only-mem, mem-only, numbered-at, at-numbered}
+use Rattle.laws.proofs.Members.{gather-mem, mem-gather, keep-mem, mem-keep, only-mem, mem-only, numbered-at, at-numbered}
 use Rattle.theory.proofs.Slots.{place-own, place-zero}
 
 -- one of the faults stands at record k

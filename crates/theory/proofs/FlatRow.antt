@@ -14,7 +14,7 @@ use lib.ListN.{length, getD, set, length-set}
 use lib.Seq.{getD-set-same, getD-set-other, ext-getD, sets, length-sets}
 use Rattle.spec.specs.Rules.{Verdict}
 use Rattle.spec.specs.Verdicts.{verdictBytes, flatLines, flatAt, bytesOf, mapFrom, flatByte, flatRewritten}
-use Rattle.theory.proofs.Bools.{t-true, t-false, t-and, and-r, not-mono}
+use Rattle.laws.proofs.Bools.{t-true, t-false, t-and, and-r, not-mono}
 
 -- ---- a row of lines of w bytes
 

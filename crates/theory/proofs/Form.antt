@@ -20,11 +20,11 @@ use Rattle.spec.specs.Relations.{Depends, Superclass, References, Uses, Root}
 use Rattle.spec.specs.Breaks.{Not, Flag}
 use Rattle.spec.specs.Refusals.{Accepted, oneClass, superclassFits, presentRefusal}
 use Rattle.theory.specs.Claims.{Relations, RelationsHold, One, Form, FormHolds}
-use Rattle.theory.proofs.Bools.{decide, t-and, and-l, and-r, not-or-l, not-or-r, not-or, eq→eqb, t-true, t-false}
-use Rattle.theory.proofs.All.{All, all-append, all-take, all-drop, all-left, all-right, all-get, all-at, at-member, keep-yes, keep-no}
+use Rattle.laws.proofs.Bools.{decide, t-and, and-l, and-r, not-or-l, not-or-r, not-or, eq→eqb, t-true, t-false}
+use Rattle.laws.proofs.All.{All, all-append, all-take, all-drop, all-left, all-right, all-get, all-at, at-member, keep-yes, keep-no}
 use Rattle.theory.proofs.Cut.{split-parts}
 use Rattle.theory.proofs.Answers.{first-none}
-use Rattle.theory.proofs.Accept.{Fits, Sound, sound}
+use Rattle.theory.proofs.Accept.{RecordFits, Sound, sound}
 use Rattle.theory.proofs.Groups.{superclass-is, flag-is}
 use Rattle.theory.proofs.Falls.{Falls, falls}
 use Rattle.theory.proofs.Overlay.{marked-sound, marked-complete}
@@ -153,7 +153,7 @@ module _ (nlib : ℕ) (g : ℕ → Group) (f : Falls g) where
       (λ m d k. walk-enough nlib g f (rootIn nlib g) (λ c. c ∷ []) (λ c. []) (root-library nlib g f) (root-more nlib g f) m (suc d) d k (le-refl (suc d)))
       (root-more nlib g f t t h)
 
-module _ (nlib n : ℕ) (g : ℕ → Group) (few : n ≤ 256) (some : T (not (eqb nlib 0))) (fits : (c : ℕ) → All (Fits nlib n g c) (g c)) (one : (c : ℕ) → c < n → T (oneClass (g c))) where
+module _ (nlib n : ℕ) (g : ℕ → Group) (few : n ≤ 256) (some : T (not (eqb nlib 0))) (fits : (c : ℕ) → All (RecordFits nlib n g c) (g c)) (one : (c : ℕ) → c < n → T (oneClass (g c))) where
   based : (c : ℕ) (r : List ℕ) → T (not (eqb c 0 || bit 0 (flags r))) → T (superclassFits g c r) → (superclass r < c) × T (not (isInterface (g (superclass r))))
   unfolding superclassFits
   based c r u t = go (eqb c 0 || bit 0 (flags r)) u t
@@ -175,7 +175,7 @@ module _ (nlib n : ℕ) (g : ℕ → Group) (few : n ≤ 256) (some : T (not (eq
   unfolding isInterface
   has-super c hl hn hi =
       let o = one c hn in
-      let a = class-first (Fits nlib n g c) (g c) o (fits c) in
+      let a = class-first (RecordFits nlib n g c) (g c) o (fits c) in
       let b = based c (classRecord (g c)) (not-or (eqb c 0) (bit 0 (flags (classRecord (g c)))) (positive c hl) hi) (a .0 .superclassFits (a .1)) in
       let l : superclass (classRecord (g c)) < c = b .0 in
       record { only = super-one (g c) o (omega arith); lower = b .0; concrete = b .1 }
@@ -257,7 +257,7 @@ module _ (library user : List ℕ) (s : Sound library user) where
   pub sound-there : (c d : ℕ) → References (group library user c) d → d < total library user
   sound-there c d h =
       at-member (λ e. e < total library user) (references (h .bytes))
-      (at-member (Fits (classCount library) (total library user) (group library user) c) (group library user c) (s .fits c) (h .member) .there) (h .names)
+      (at-member (RecordFits (classCount library) (total library user) (group library user) c) (group library user c) (s .fits c) (h .member) .there) (h .names)
 
   pub sound-bound : (c d : ℕ) → References (group library user c) d → d < 256
   sound-bound c d h = let q : d < total library user = sound-there c d h in let w : total library user ≤ 256 = s .few in omega arith
@@ -266,7 +266,7 @@ module _ (library user : List ℕ) (s : Sound library user) where
   unfolding locals
   sound-variables c d i h =
       let q : index (h .bytes) < length (ofKind LOCAL (group library user (target (h .bytes)))) =
-      at-member (Fits (classCount library) (total library user) (group library user) c) (group library user c) (s .fits c) (h .member) .local (h .ofKind) in
+      at-member (RecordFits (classCount library) (total library user) (group library user) c) (group library user c) (s .fits c) (h .member) .local (h .ofKind) in
       subst (λ (k : ℕ). i < k) (sym (locals-length 0 (group library user d)))
       (subst (λ (e : ℕ). i < length (ofKind LOCAL (group library user e))) (h .owner) (subst (λ (j : ℕ). j < length (ofKind LOCAL (group library user (target (h .bytes))))) (h .variable) q))
 

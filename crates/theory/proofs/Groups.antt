@@ -12,10 +12,10 @@ use Rattle.spec.specs.Sheet.{Group, classRecord, groupReferences, ofKind}
 use Rattle.spec.specs.Classes.{superclasses, enclosing, targets, usedIndexes}
 use Rattle.spec.specs.Relations.{At, here, Says, Superclass, Encloser, Builds, Uses, References}
 use Rattle.spec.specs.Breaks.{Flag}
-use Rattle.theory.proofs.Bools.{eq→eqb}
+use Rattle.laws.proofs.Bools.{eq→eqb}
 use Rattle.theory.proofs.Closure.{bit-zero}
 use Rattle.theory.proofs.References.{references-builds}
-use Rattle.theory.proofs.Members.{gather-mem, mem-gather, keep-mem, mem-keep}
+use Rattle.laws.proofs.Members.{gather-mem, mem-gather, keep-mem, mem-keep}
 
 -- ---- one group
 

@@ -1,13 +1,9 @@
-pub mod Bools
-pub mod All
-pub mod Parts
 pub mod Cut
 pub mod Reach
 pub mod Complete
 pub mod Answers
 pub mod Accept
 pub mod Closure
-pub mod Members
 pub mod Somewhere
 pub mod References
 pub mod Groups
@@ -23,6 +19,4 @@ pub mod Demand2
 pub mod Faults
 pub mod New
 pub mod Refused
-pub mod Rows
 pub mod FlatRow
-pub mod Counts

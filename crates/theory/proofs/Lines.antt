@@ -13,10 +13,9 @@ use Rattle.spec.specs.Record.{superclass, encloser}
 use Rattle.spec.specs.Sheet.{Group}
 use Rattle.spec.specs.Classes.{superclasses, enclosing, enclosersIn, enclosers, inside, lineageIn, lineage, rootIn, root}
 use Rattle.spec.specs.Relations.{Superclass, Encloser, self, above, Lineage, up, Root, Inside, direct, deeper, start}
-use Rattle.theory.proofs.Bools.{decide, nltb, false-t, t-true, t-false}
-use Rattle.theory.proofs.All.{All, of-members, gather-cong}
-use Rattle.theory.proofs.Complete.{elem-mem}
-use Rattle.theory.proofs.Members.{mem-elem, gather-mem, mem-gather}
+use Rattle.laws.proofs.Bools.{decide, nltb, false-t, t-true, t-false}
+use Rattle.laws.proofs.All.{All, of-members, gather-cong}
+use Rattle.laws.proofs.Members.{elem-mem, mem-elem, gather-mem, mem-gather}
 use Rattle.theory.proofs.Groups.{superclass-is, encloser-is}
 use Rattle.theory.proofs.Falls.{Falls}
 

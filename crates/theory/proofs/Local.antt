@@ -19,11 +19,11 @@ use Rattle.spec.specs.Rules.{slotFaults, rootFits, rootFaults, rule7, rule8, ba
 use Rattle.spec.specs.Relations.{Depends, self, onward}
 use Rattle.spec.specs.Verdicts.{verdictAt}
 use Rattle.theory.specs.Claims.{Locality}
-use Rattle.theory.proofs.Bools.{and-l, and-cong}
-use Rattle.theory.proofs.All.{All, all-append, all-left, all-right, all-keep, all-take, all-drop, all-if, of-members, at-member, weaken, all-kept}
-use Rattle.theory.proofs.All.{all-gather, all-map, all-parts, map-cong, any-cong, all-cong, keep-cong, all-numbered, gather-same}
+use Rattle.laws.proofs.Bools.{and-l, and-cong}
+use Rattle.laws.proofs.All.{All, all-append, all-left, all-right, all-keep, all-take, all-drop, all-if, of-members, at-member, weaken, all-kept}
+use Rattle.laws.proofs.All.{all-gather, all-map, all-parts, map-cong, any-cong, all-cong, keep-cong, all-numbered, gather-same}
 use Rattle.theory.proofs.Reach.{reach-in, reach-same}
-use Rattle.theory.proofs.Members.{gather-mem, ascending-mem}
+use Rattle.laws.proofs.Members.{gather-mem, ascending-mem}
 use Rattle.theory.proofs.References.{references-class, references-implements, references-field, references-local, references-builds, references-refers}
 
 -- one step of a walk up the superclasses: at a library class xs, at a user class ys and what is further up

@@ -14,7 +14,7 @@ use Rattle.spec.specs.Lists.{lowest}
 use Rattle.spec.specs.Rules.{Verdict, clean, firstBroken}
 use Rattle.spec.specs.Breaks.{Not}
 use Rattle.theory.specs.Claims.{Right}
-use Rattle.theory.proofs.Bools.{decide}
+use Rattle.laws.proofs.Bools.{decide}
 
 -- what the lowest number of a list is
 pub data Least (ks : List ℕ) : Option ℕ → Type 0 where

@@ -11,8 +11,8 @@ use Rattle.spec.specs.Lists.{concat}
 use Rattle.spec.specs.Sheet.{recordsOf, wholeEnd, groupsOf, classCount}
 use Rattle.spec.specs.Refusals.{tornRefusal, sheetRefusal, newRefusal, presentRefusal, addedSheet, replacedSheet}
 use Rattle.theory.specs.Claims.{NewSheets}
-use Rattle.theory.proofs.Bools.{eq→eqb, not-not}
-use Rattle.theory.proofs.All.{All, all-append, all-set}
+use Rattle.laws.proofs.Bools.{eq→eqb, not-not}
+use Rattle.laws.proofs.All.{All, all-append, all-set}
 use Rattle.theory.proofs.Cut.{IsGroup, concat-append, groups-of-join, sheet-grouped, sheet-groups, whole-join}
 use Rattle.theory.proofs.Answers.{first-none, skip-none, keep-head, none-if}
 use Rattle.theory.proofs.Accept.{Clear, sound}

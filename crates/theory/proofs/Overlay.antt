@@ -15,11 +15,11 @@ use Rattle.spec.specs.Sheet.{Group, classRecord}
 use Rattle.spec.specs.Markers.{gives, union, unionAll}
 use Rattle.spec.specs.Classes.{superclasses, targets, supertypes, gathered, overlay, hasMarker}
 use Rattle.spec.specs.Relations.{Superclass, Implements, self, Supertype, above, beside, Marked, own, given}
-use Rattle.theory.proofs.Bools.{or-cases, or-l, or-r}
-use Rattle.theory.proofs.All.{All, Any, all-map, at-member, of-members, map-cong}
+use Rattle.laws.proofs.Bools.{or-cases, or-l, or-r}
+use Rattle.laws.proofs.All.{All, Any, all-map, at-member, of-members, map-cong}
 use Rattle.theory.proofs.Reach.{Steps, onward as further, here as start-here}
 use Rattle.theory.proofs.Closure.{bit-union, bit-zero, union-in, in-union, unionAll-low, closure-holds, closure-closed, closure-given, givenBy}
-use Rattle.theory.proofs.Members.{keep-mem}
+use Rattle.laws.proofs.Members.{keep-mem}
 use Rattle.theory.proofs.Groups.{superclass-is, target-is, first-record, first-own}
 use Rattle.theory.proofs.Falls.{Falls}
 

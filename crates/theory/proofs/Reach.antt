@@ -4,7 +4,7 @@ use mathlib.Core.Path.{_≡_, refl}
 use mathlib.Core.List.{List, [], _∷_, _++_, List·Memᴰ}
 use Prim.Native.Nat.{ℕ, zero, suc}
 use Rattle.spec.specs.Lists.{gather, elem, fresh, rounds, reach}
-use Rattle.theory.proofs.All.{All, all-append, all-gather, gather-cong, all-if}
+use Rattle.laws.proofs.All.{All, all-append, all-gather, gather-cong, all-if}
 
 -- d is c, or a chain of steps leads from c to d
 pub data Steps (step : ℕ → List ℕ) (c : ℕ) : ℕ → Type 0 where

@@ -17,8 +17,8 @@ use Rattle.spec.specs.Refusals.{Refusal, refuseIf, refusePlain, refuseRecord, s
 use Rattle.spec.specs.Refusals.{deemedRefusal, sheetRefusal, newRefusal, presentRefusal, shortRefusal, noUserRefusal, unusedRefusal, groupRefusal, roomRefusal, addedSheet}
 use Rattle.spec.specs.Refusals.{replacedSheet, judgeRefusal, addRefusal, replaceRefusal, queryRefusal, judgeNumbers, addNumbers, replaceNumbers, queryNumbers}
 use Rattle.theory.specs.Claims.{sheetOf, Begins, Blames, size, torn, at, noClass, plain, BlamesEdit, present, made, Refuses, RefusalsHold}
-use Rattle.theory.proofs.All.{All, all-append, all-if, weaken, all-true}
-use Rattle.theory.proofs.Complete.{all-elem}
+use Rattle.laws.proofs.All.{All, all-append, all-if, weaken, all-true}
+use Rattle.laws.proofs.Members.{all-elem}
 use Rattle.theory.proofs.Answers.{Gives, gives-first, gives-map}
 
 -- ---- answers

@@ -18,8 +18,8 @@ use Rattle.spec.specs.Classes.{lineage, captured, encloserSlots, fieldSlots, ca
 use Rattle.spec.specs.Rules.{slotFault, placeIn, memberAllowed}
 use Rattle.spec.specs.Relations.{At, Nth, here, over, past, Encloser, Marked, Lineage, self, up, Captures}
 use Rattle.spec.specs.Breaks.{Flag, Allowed, Satisfies, object, primitive, SlotShape, field, fixed, typeOf, Final, Transient, OwnSlot, instance, outer, HasSlot, own, inherited}
-use Rattle.theory.proofs.Bools.{decide, t-and, and-l, and-r, t-true, t-false, true-t, false-t, eq→eqb}
-use Rattle.theory.proofs.Members.{gather-mem, mem-gather, keep-mem, mem-keep, only-mem, mem-only, numbered-at, at-numbered}
+use Rattle.laws.proofs.Bools.{decide, t-and, and-l, and-r, t-true, t-false, true-t, false-t, eq→eqb}
+use Rattle.laws.proofs.Members.{gather-mem, mem-gather, keep-mem, mem-keep, only-mem, mem-only, numbered-at, at-numbered}
 use Rattle.theory.proofs.Groups.{encloser-is, flag-is}
 use Rattle.theory.proofs.Falls.{Falls}
 use Rattle.theory.proofs.Lines.{inside-lower}

@@ -13,7 +13,7 @@ use lib.Seq.{take-suc, take-all, drop-at}
 use borrow.Author.Tests.{eq-eqb, ne-eqb}
 use Rattle.spec.specs.Lists.{keep, count}
 use Rattle.spec.specs.Verdicts.{flatAt}
-use Rattle.theory.proofs.Counts.{step, count-none, count-more}
+use Rattle.laws.proofs.Count.{step, count-none, count-more}
 use Rattle.verdicts.specs.Row.{clean, lineOf, isFaulted, tallied, faultedIn, shared, firstLines, written, flatFaulted}
 use Rattle.verdicts.specs.declared.Verdict.{Verdict}
 

@@ -22,7 +22,7 @@ use Rattle.theory.proofs.Accept.{Sound, sound}
 use Rattle.theory.proofs.Cut.{IsGroup, sheet-grouped, sheet-groups}
 use Rattle.theory.proofs.New.{new-sheets, added-count}
 use Rattle.theory.proofs.FlatRow.{rewritten-same}
-use Rattle.theory.proofs.Counts.{count-same}
+use Rattle.laws.proofs.Count.{count-same}
 use Rattle.view.specs.View.{spliced}
 use Rattle.view.proofs.Splice.{added}
 use Rattle.lanes.proofs.Filling.{getD-replicate}

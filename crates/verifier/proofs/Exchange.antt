@@ -8,7 +8,7 @@ use lib.ListN.{length, getD, set, take, drop, length-append, length-map}
 use lib.Seq.{split-at, set-at, take-at, drop-at, length-take-le}
 use Rattle.spec.specs.Lists.{concat}
 use Rattle.spec.specs.Sheet.{groupsOf, classCount, groupStart}
-use Rattle.theory.proofs.All.{All, all-left, all-right}
+use Rattle.laws.proofs.All.{All, all-left, all-right}
 use Rattle.theory.proofs.Accept.{Clear}
 use Rattle.theory.proofs.Cut.{IsGroup, concat-append, concat-concat, sheet-grouped, sheet-groups}
 

@@ -17,10 +17,10 @@ use Rattle.spec.specs.Rules.{verdictOf}
 use Rattle.spec.specs.Verdicts.{userVerdict, flatLines, flatRewritten, flat, dependsOn, dependentCount}
 use Rattle.spec.specs.Refusals.{Refusal, refuseIf, refusePlain, presentRefusal, noUserRefusal, replacedSheet, replaceRefusal}
 use Rattle.spec.specs.Promises.{Answer, answerOf, refused, State, Edit, Makes, replacement}
-use Rattle.theory.proofs.Rows.{length-values, getD-values}
-use Rattle.theory.proofs.Counts.{count-same}
+use Rattle.laws.proofs.Rows.{length-values, getD-values}
+use Rattle.laws.proofs.Count.{count-same}
 use Rattle.theory.proofs.Answers.{first-none, skip-none, first-some, first-append, plain-none}
-use Rattle.theory.proofs.Bools.{not-or-l, not-or-r}
+use Rattle.laws.proofs.Bools.{not-or-l, not-or-r}
 use Rattle.theory.proofs.Cut.{IsGroup}
 use Rattle.theory.proofs.New.{new-sheets, replaced-count}
 use Rattle.view.specs.declared.Cut.{Cut}

@@ -15,14 +15,13 @@ use Rattle.spec.specs.Verdicts.{verdictBytes, verdictAt, userVerdict, faulted, 
 use Rattle.spec.specs.Refusals.{Refusal, scratchLength, refuseIf, refusePlain, shortRefusal, judgeRefusal}
 use Rattle.spec.specs.Promises.{countsOf, afterwards, refused, accepted, cleared, judgedRow, Judges}
 use Rattle.theory.proofs.Answers.{first-past, first-some}
-use Rattle.theory.proofs.Counts.{count-same}
+use Rattle.laws.proofs.Count.{count-same}
 use Rattle.theory.proofs.FlatRow.{at-new, rewritten-lines, rewritten-same}
 use Rattle.groups.specs.declared.Classes.{Classes}
 use Rattle.form.specs.declared.Refusal.{Refusal as Turned}
-use Rattle.form.specs.Form.{refusalOf}
+use Rattle.form.specs.Form.{refusalOf, Presents}
 use Rattle.form.specs.declared.Checked.{Checked}
 use Rattle.form.specs.declared.Checked.the-variants.{Fine, Refused}
-use Rattle.form.proofs.Accepting.{Presents}
 use Rattle.flat.specs.Row.{chosen, faultedIn}
 use Rattle.queries.proofs.Asking.{answer-refused, answer-fine, present-refused, told}
 

@@ -14,8 +14,8 @@ use lib.Seq.{take-take, take-append-seam, length-take-le, ext-getD, getD-take, g
 use borrow.Author.Tests.{ltb-true, ltb-false}
 use Rattle.spec.specs.Lists.{concat}
 use Rattle.spec.specs.Sheet.{recordsOf, groupStart, group}
-use Rattle.theory.proofs.All.{All, all-append, all-take}
-use Rattle.theory.proofs.Parts.{part-length}
+use Rattle.laws.proofs.All.{All, all-append, all-take}
+use Rattle.laws.proofs.Parts.{part-length}
 use Rattle.theory.proofs.Cut.{IsGroup, front-low, concat-append, concat-concat, groups-of-join, regroup}
 use Rattle.theory.proofs.New.{concat-last}
 use Rattle.groups.specs.Groups.{startOf, endOf, Indexed}

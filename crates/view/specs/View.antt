@@ -6,7 +6,7 @@ use Prim.Native.Nat.{ℕ, _≤_}
 use mathlib.Core.List.{List, [], _++_}
 use lib.ListN.{length, take, drop}
 use Rattle.spec.specs.Lists.{concat}
-use Rattle.theory.proofs.All.{All}
+use Rattle.laws.proofs.All.{All}
 use Rattle.theory.proofs.Cut.{IsGroup}
 use Rattle.groups.specs.Groups.{Indexed}
 use Rattle.view.specs.declared.Cut.{Cut}

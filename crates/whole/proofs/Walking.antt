@@ -14,7 +14,7 @@ use Rattle.spec.specs.Lists.{any, concat}
 use Rattle.spec.specs.Record.{u16, isClass}
 use Rattle.spec.specs.Sheet.{wholeFirst, recordsOf, wholeEnd}
 use Rattle.spec.specs.Refusals.{oneClass, wholeGroup}
-use Rattle.theory.proofs.Parts.{part-length, part-kind}
+use Rattle.laws.proofs.Parts.{part-length, part-kind}
 use Rattle.theory.proofs.Cut.{short-stop, records-stop}
 use Rattle.records.specs.Lengths.{wholeLength}
 use Rattle.records.proofs.Lengths.{Stands, length-some, length-zero, records-here}

@@ -22,8 +22,8 @@ returns c = offer-unmarked _ (c .if1 .taken)
 loop-holds : tie.Need-loop-holds Inv-loop μ-loop
 loop-holds c = (omega arith, offer-start _)
 
-lower-requires : tie.Need-lower-requires Inv-loop μ-loop
-lower-requires c κs = omega (arith, c .before .before .loop .inv .1 .long)
+lower-lane-requires : tie.Need-lower-lane-requires Inv-loop μ-loop
+lower-lane-requires c κs = omega (arith, c .before .before .loop .inv .1 .long)
 
 add-k : tie.Need-add-k Inv-loop μ-loop
 add-k c = omega arith
@@ -32,7 +32,11 @@ loop-less : tie.Need-loop-less Inv-loop μ-loop
 loop-less c = omega arith
 
 loop-again : tie.Need-loop-again Inv-loop μ-loop
-loop-again c = (omega arith, offer-next (c .before .before .before .before .before .before .if1 .left) (c .before .before .before .before .before .loop .inv .1) (c .before .before .lower .ensures))
+loop-again c = (
+  omega arith,
+  offer-next (c .before .before .before .before .before .before .if1 .left) (c .before .before .before .before .before .loop .inv .1)
+      (c .before .before .lower-lane .ensures),
+)
 
 same-length : tie.Need-same-length Inv-loop μ-loop
 same-length c = c .before .loop .inv .1 .long
@@ -49,7 +53,7 @@ offer-spec =
     shared-slice-read-if1
     returns
     loop-holds
-    lower-requires
+    lower-lane-requires
     add-k
     loop-less
     loop-again

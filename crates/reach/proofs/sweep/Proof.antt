@@ -19,13 +19,13 @@ abbrev μ-loop : tie.MeasureT-loop
 loop-holds : tie.Need-loop-holds Inv-loop μ-loop
 loop-holds c = sweep-start _ _ _ _ _ _
 
-place-requires : tie.Need-place-requires Inv-loop μ-loop
-place-requires c κs = omega arith
+swept-requires : tie.Need-swept-requires Inv-loop μ-loop
+swept-requires c κs = omega arith
 
 visit-requires : tie.Need-visit-requires Inv-loop μ-loop
 visit-requires c κs =
     let p = c .before .before .before .before .before .before .before .before .before .pre in
-    (p .0, omega (arith, p .1, c .before .before .before .before .loop .inv .long, c .before .place .ensures))
+    (p .0, omega (arith, p .1, c .before .before .before .before .loop .inv .long, c .before .swept .ensures))
 
 either-requires : tie.Need-either-requires Inv-loop μ-loop
 either-requires c κs = search needs
@@ -37,7 +37,7 @@ loop-less : tie.Need-loop-less Inv-loop μ-loop
 loop-less c = omega arith
 
 loop-again : tie.Need-loop-again Inv-loop μ-loop
-loop-again c = sweep-next (c .before .before .before .before .before .before .before .before .loop .inv) (c .before .before .before .before .before .place .ensures .0)
+loop-again c = sweep-next (c .before .before .before .before .before .before .before .before .loop .inv) (c .before .before .before .before .before .swept .ensures .0)
     (c .before .before .before .visit .ensures) (c .either .ensures) (c .before .before .before .visit .kept .1 .1 .1 .1 .1 .1 .1 .0)
 
 same-length : tie.Need-same-length Inv-loop μ-loop
@@ -53,7 +53,7 @@ sweep-spec =
     Inv-loop
     μ-loop
     loop-holds
-    place-requires
+    swept-requires
     visit-requires
     either-requires
     add-i

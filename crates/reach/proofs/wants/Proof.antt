@@ -24,8 +24,8 @@ loop-holds c = wants-start (c .before .before .pre .0)
 first-named-requires : tie.Need-first-named-requires Inv-loop μ-loop
 first-named-requires c κs = (walk-sized (c .before .loop .inv .place) (c .loop-test .taken), c .before .loop .inv .place .small)
 
-lower-requires : tie.Need-lower-requires Inv-loop μ-loop
-lower-requires c κs = search needs
+has-lower-requires : tie.Need-has-lower-requires Inv-loop μ-loop
+has-lower-requires c κs = search needs
 
 returns : tie.Need-returns Inv-loop μ-loop
 returns c = told-true
@@ -36,8 +36,8 @@ second-named-requires c κs = (
   c .before .before .before .before .loop .inv .place .small,
 )
 
-lower-requires-2 : tie.Need-lower-requires-2 Inv-loop μ-loop
-lower-requires-2 c κs = search needs
+has-lower-requires-2 : tie.Need-has-lower-requires-2 Inv-loop μ-loop
+has-lower-requires-2 c κs = search needs
 
 returns-2 : tie.Need-returns-2 Inv-loop μ-loop
 returns-2 c = told-true
@@ -64,8 +64,8 @@ loop-less c = omega (
 
 loop-again : tie.Need-loop-again Inv-loop μ-loop
 loop-again c = wants-next (c .before .before .before .before .before .before .before .before .before .loop .inv) (c .before .before .before .before .before .before .before .before .loop-test .taken)
-    (c .before .before .before .before .before .before .before .first-named .ensures) (c .before .before .before .before .before .before .lower .ensures)
-    (c .before .before .before .before .before .if1 .left) (c .before .before .before .before .second-named .ensures) (c .before .before .before .lower2 .ensures) (c .before .before .if2 .left)
+    (c .before .before .before .before .before .before .before .first-named .ensures) (c .before .before .before .before .before .before .has-lower .ensures)
+    (c .before .before .before .before .before .if1 .left) (c .before .before .before .before .second-named .ensures) (c .before .before .before .has-lower2 .ensures) (c .before .before .if2 .left)
     (c .wide .ensures .0 ∙ c .before .word-in .ensures)
 
 returns-3 : tie.Need-returns-3 Inv-loop μ-loop
@@ -79,10 +79,10 @@ wants-spec =
     μ-loop
     loop-holds
     first-named-requires
-    lower-requires
+    has-lower-requires
     returns
     second-named-requires
-    lower-requires-2
+    has-lower-requires-2
     returns-2
     word-in-requires
     wide-requires

@@ -6,7 +6,7 @@ use borrow.Author.Needs.{needs}
 use Rattle.spec.specs.Sheet.{group as groupOf}
 use Rattle.records.specs.Records.{recordAt}
 use Rattle.view.specs.View.{spliced}
-use Rattle.names.proofs.Printing.{class-opens}
+use Rattle.fingerprints.proofs.Printing.{class-opens}
 use Rattle.second.specs.Second.{classNumber}
 use Rattle.second.proofs.Passing.{form-stops, name-stops, class-passes}
 use Rattle.second.proofs.class_pass.Statement.{statement}

@@ -3,7 +3,7 @@
 use Prim.Native.Nat.{_<_}
 use native.Mathlib.Omega.{arith}
 use borrow.Author.Needs.{needs}
-use Rattle.names.proofs.Printing.{class-opens}
+use Rattle.fingerprints.proofs.Printing.{class-opens}
 use Rattle.second.proofs.Asking.{count-low, head-is}
 use Rattle.second.proofs.head_of.Statement.{statement}
 use Rattle.second.proofs.head_of.Tie as tie

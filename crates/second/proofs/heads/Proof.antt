@@ -6,7 +6,7 @@ use native.Mathlib.Omega.{arith}
 use borrow.Author.Needs.{needs}
 use Rattle.spec.specs.Sheet.{group as groupOf}
 use Rattle.view.specs.View.{spliced}
-use Rattle.theory.proofs.Rows.{Filling, filling-start, filling-next}
+use Rattle.laws.proofs.Rows.{Filling, filling-start, filling-next}
 use Rattle.second.specs.Second.{headOf}
 use Rattle.second.proofs.Asking.{heads-end}
 use Rattle.second.proofs.heads.Statement.{statement}

@@ -10,8 +10,8 @@ use Rattle.spec.specs.Sheet.{group as groupOf}
 use Rattle.records.specs.Records.{recordAt, between}
 use Rattle.view.specs.View.{spliced}
 use Rattle.groups.specs.Groups.{startOf}
-use Rattle.names.specs.Names.{Opens}
-use Rattle.names.proofs.Printing.{class-opens}
+use Rattle.fingerprints.specs.Fingerprints.{Opens}
+use Rattle.fingerprints.proofs.Printing.{class-opens}
 use Rattle.second.specs.Second.{formNumber, formOf}
 use Rattle.second.proofs.Passing.{Going, goes-start, goes-end, goes-room, goes-sized, goes-other, goes-stop, goes-on, start-low}
 use Rattle.second.proofs.others_pass.Statement.{statement}

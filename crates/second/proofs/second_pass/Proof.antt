@@ -14,11 +14,11 @@ Inv-loop library user group starts view prints heads sheet end c₀ c = Passing 
 abbrev μ-loop : tie.MeasureT-loop
 μ-loop library user group starts view prints heads sheet end c₀ c = end - c
 
-abbrev start : tie.After-first-class Inv-loop μ-loop → tie.Start Inv-loop μ-loop
+abbrev start : tie.After-classes-start Inv-loop μ-loop → tie.Start Inv-loop μ-loop
 start c = c .before .before .before .before .before .before .before .before .before
 
 loop-holds : tie.Need-loop-holds Inv-loop μ-loop
-loop-holds c = let p = start c .pre in passes-start (p .0 .indexed) (p .1 .1 .1) (c .first-class .ensures)
+loop-holds c = let p = start c .pre in passes-start (p .0 .indexed) (p .1 .1 .1) (c .classes-start .ensures)
 
 class-pass-requires : tie.Need-class-pass-requires Inv-loop μ-loop
 class-pass-requires c κs =

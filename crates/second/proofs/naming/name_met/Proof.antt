@@ -9,9 +9,9 @@ use lib.ListN.{getD}
 use Rattle.spec.specs.Record.{className}
 use Rattle.spec.specs.Sheet.{group as groupOf, classRecord}
 use Rattle.view.specs.View.{spliced}
-use Rattle.names.specs.Names.{printOf}
-use Rattle.names.proofs.Printing.{class-opens}
-use Rattle.names.proofs.Telling.{told}
+use Rattle.fingerprints.specs.Fingerprints.{printOf}
+use Rattle.fingerprints.proofs.Printing.{class-opens}
+use Rattle.fingerprints.proofs.Telling.{told}
 use Rattle.second.proofs.Names.{second-named, none-printed, Seeking, seeks, met, seeks-on, none-met}
 use Rattle.second.proofs.naming.name_met.Statement.{statement}
 use Rattle.second.proofs.naming.name_met.Tie as tie

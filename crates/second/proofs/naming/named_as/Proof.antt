@@ -1,7 +1,7 @@
 -- The CLASS record of a class comes first in its bytes.
 -- Assumes nothing.
 use borrow.Author.Needs.{needs}
-use Rattle.names.proofs.Printing.{class-opens}
+use Rattle.fingerprints.proofs.Printing.{class-opens}
 use Rattle.second.proofs.Names.{first-named}
 use Rattle.second.proofs.naming.named_as.Statement.{statement}
 use Rattle.second.proofs.naming.named_as.Tie as tie

@@ -1,0 +1,6 @@
+pub mod Bools
+pub mod All
+pub mod Members
+pub mod Parts
+pub mod Rows
+pub mod Count
