@@ -1,6 +1,6 @@
 -- The first of 14, 15, 3 to 11 and 12 that turns a group away, test by test.
 -- Assumes nothing.
-use mathlib.Core.Path.{_≡_, sym, ap, _∙_}
+use mathlib.Core.Path.{_≡_, refl, sym, ap, _∙_}
 use mathlib.Core.Bool.{Bool, true, false, not, _||_}
 use mathlib.Core.List.{List, [], _∷_}
 use mathlib.Core.Option.{Option, none, some}
@@ -11,7 +11,7 @@ use lib.ListN.{length}
 use borrow.Author.Tests.{lt-ltb, le-ltb, not-false}
 use Rattle.spec.specs.Lists.{firstOf}
 use Rattle.spec.specs.Sheet.{classCount, total, group}
-use Rattle.spec.specs.Refusals.{Refusal as Reason, refuseIf, refusePlain, formRefusal, sheetRefusal, newRefusal, wholeGroup, groupRefusal, roomRefusal, shortRefusal}
+use Rattle.spec.specs.Refusals.{Refusal as Reason, refuseIf, refusePlain, formRefusal, sheetRefusal, newRefusal, wholeGroup, groupRefusal, roomRefusal, shortRefusal, scratchLength}
 use Rattle.laws.proofs.Bools.{true-t, un-not, not-or-l, not-or-r}
 use Rattle.theory.proofs.Answers.{first-none, first-some, first-past, skip-none, plain-none}
 use Rattle.theory.proofs.Cut.{IsGroup}
@@ -21,11 +21,11 @@ use Rattle.view.proofs.Splice.{sits-fits}
 use Rattle.groups.specs.Groups.{Indexed}
 use Rattle.overlay.specs.Memo.{memoOf}
 use Rattle.groups.specs.declared.Classes.{Classes}
-use Rattle.form.specs.Form.{Ready, refuse, refusalOf, checkedOf}
+use Rattle.form.specs.Form.{Checks, refuse}
 use Rattle.form.specs.declared.Refusal.{Refusal}
 use Rattle.form.specs.declared.Checked.{Checked}
 use Rattle.form.specs.declared.Checked.the-variants.{Fine, Refused}
-use Rattle.form.proofs.Accepting.{Fresh, ready-fresh, ready-memo, ready-refused, fine-none, refused-is}
+use Rattle.form.proofs.Accepting.{Fresh, ready-fresh, ready-refused, turned, told, indexed, memo-is}
 use Rattle.admit.specs.Admitting.{admitRefusal, Plain}
 
 -- a whole group between whole groups can be read through the view
@@ -33,26 +33,18 @@ pub group-fits : {cut : Cut} {user g : List ℕ} → Sits cut user → {b : Bool
 unfolding IsGroup
 group-fits s {b} e t = sits-fits s (true-t (sym e ∙ not-false b t))
 
--- the library's classes are among all classes
-pub admit-ordered : (library new : List ℕ) {p : Checked} → p ≡ checkedOf (sheetRefusal library new) (classCount library) (total library new)
-    → {k : Classes} → p ≡ Fine k → k .library ≤ k .all
-unfolding total
-admit-ordered library new e f = omega (arith, fine-none (sheetRefusal library new) (sym f ∙ e) .1)
-
 module _ (library user g new : List ℕ) (lines scratch : ℕ) where
   -- what a call promises
   abbrev pub Admits : Checked → List ℕ → List ℕ → Type 0
-  Admits p row memo =
-      (p ≡ checkedOf (admitRefusal library user g new lines scratch) (classCount library) (total library new))
-      × Ready (admitRefusal library user g new lines scratch) library new row memo
+  Admits = Checks (admitRefusal library user g new lines scratch) library new
 
-  turned : {row memo : List ℕ} → Fresh row memo → {r : Reason} → admitRefusal library user g new lines scratch ≡ some r → Admits (refuse (r .number) (r .sheet) (r .byte)) row memo
-  turned f o = (rw o, ready-fresh o f)
+  stopped : {row memo : List ℕ} → Fresh row memo → {r : Reason} → admitRefusal library user g new lines scratch ≡ some r → Admits (refuse (r .number) (r .sheet) (r .byte)) row memo
+  stopped f o = record { answered = rw o; ready = ready-fresh o f }
 
   pub not-whole : {b : Bool} {row memo : List ℕ} → Fresh row memo → b ≡ wholeGroup g → not b ≡ true → Admits (refuse 14 0 0) row memo
   unfolding admitRefusal groupRefusal refusePlain refuseIf
   not-whole {b} f e t =
-      turned f (first-some _ (let o : groupRefusal g ≡ some (record { number = 14; sheet = 0; byte = 0 }) = rw (← e, t) in o))
+      stopped f (first-some _ (let o : groupRefusal g ≡ some (record { number = 14; sheet = 0; byte = 0 }) = rw (← e, t) in o))
 
   module _ {b : Bool} (eb : b ≡ wholeGroup g) (tb : not b ≡ false) where
     past-group : admitRefusal library user g new lines scratch ≡ firstOf (roomRefusal user new ∷ newRefusal library new ∷ shortRefusal (classCount new) lines scratch ∷ [])
@@ -60,7 +52,7 @@ module _ (library user g new : List ℕ) (lines scratch : ℕ) where
     past-group = skip-none _ _ (let o : groupRefusal g ≡ none = rw (← eb, tb) in o)
 
     room : {row memo : List ℕ} → Fresh row memo → {r : Reason} → roomRefusal user new ≡ some r → Admits (refuse (r .number) (r .sheet) (r .byte)) row memo
-    room f o = turned f (past-group ∙ first-some _ o)
+    room f o = stopped f (past-group ∙ first-some _ o)
 
     pub over-buffer : {size : ℕ} {row memo : List ℕ} → Fresh row memo → size ≡ length new → length user < size → Admits (refuse 15 0 0) row memo
     unfolding roomRefusal refusePlain refuseIf
@@ -82,38 +74,29 @@ module _ (library user g new : List ℕ) (lines scratch : ℕ) where
           ∙ skip-none _ _ (let o : roomRefusal user new ≡ none = rw (le-ltb (length user) (length new) (omega arith), le-ltb 32768 (length new) (omega arith)) in o)
           ∙ ap (λ (x : Option Reason). firstOf (x ∷ shortRefusal (classCount new) lines scratch ∷ [])) (sym (plain .is whole))
 
-      module _ {p : Checked} {row memo : List ℕ} (a : (p ≡ checkedOf (sheetRefusal library new) (classCount library) (total library new)) × Ready (sheetRefusal library new) library new row memo) where
+      module _ {p : Checked} {row memo : List ℕ} (a : Checks (sheetRefusal library new) library new p row memo) where
         pub sheet-refused : {r : Refusal} → p ≡ Refused r → Admits p row memo
         sheet-refused f =
-            let o = past-room ∙ first-some _ (refused-is (sheetRefusal library new) (classCount library) (total library new) (sym f ∙ a .0)) in
-            (f ∙ rw o, ready-refused (a .1) o)
+            let o = past-room ∙ first-some _ (turned a f) in
+            record { answered = f ∙ rw o; ready = ready-refused (a .ready) o }
 
-        module _ {k : Classes} (f : p ≡ Fine k) where
-          abbrev own : ℕ
-          own = k .all - k .library
-
-          told : (sheetRefusal library new ≡ none) × ((k .library ≡ classCount library) × (k .all ≡ total library new))
-          told = fine-none (sheetRefusal library new) (sym f ∙ a .0)
-
-          short : (x : Bool) → (ltb lines own || ltb scratch 65536) ≡ x → admitRefusal library user g new lines scratch ≡ refusePlain x 12
+        module _ {k : Classes} (f : p ≡ Fine k) {x : Bool} (e : x ≡ (ltb lines (k .all - k .library) || ltb scratch scratchLength)) where
+          short : admitRefusal library user g new lines scratch ≡ refusePlain x 12
           unfolding shortRefusal total
-          short x e =
-              past-room ∙ first-past _ _ (told .0)
-              ∙ ap (λ (x : Bool). refusePlain x 12) (ap (λ (m : ℕ). ltb lines m || ltb scratch 65536) (let q : classCount new ≡ own = omega (arith, told .1) in q) ∙ e)
+          short =
+              past-room ∙ first-past _ _ (told a f .0)
+              ∙ ap (λ (m : ℕ). refusePlain (ltb lines m || ltb scratch scratchLength) 12) (let q : classCount new ≡ k .all - k .library = omega (arith, told a f .1) in q)
+              ∙ ap (λ (y : Bool). refusePlain y 12) (sym e)
 
-          pub few-lines : lines < own → Admits (refuse 12 0 0) row memo
+          pub too-short : x ≡ true → Admits (refuse 12 0 0) row memo
           unfolding refusePlain refuseIf
-          few-lines h = let q = short true (rw (lt-ltb lines own h)) in (rw q, ready-refused (a .1) q)
+          too-short t = let o = short ∙ ap (λ (y : Bool). refusePlain y 12) t in record { answered = rw o; ready = ready-refused (a .ready) o }
 
-          pub short-scratch : own ≤ lines → scratch < 65536 → Admits (refuse 12 0 0) row memo
+          pub admitted : x ≡ false → Admits (Fine k) row memo
           unfolding refusePlain refuseIf
-          short-scratch h q = let o = short true (rw (le-ltb lines own h, lt-ltb scratch 65536 q)) in (rw o, ready-refused (a .1) o)
-
-          pub admitted : own ≤ lines → 65536 ≤ scratch → Admits (Fine k) row memo
-          unfolding refusePlain refuseIf
-          admitted h q =
-              let o : admitRefusal library user g new lines scratch ≡ none = short false (rw (le-ltb lines own h, le-ltb scratch 65536 q)) in
-              (sym f ∙ a .0 ∙ rw (told .0, o), rw (o ∙ sym (told .0)) (a .1))
+          admitted t =
+              let o : admitRefusal library user g new lines scratch ≡ none = short ∙ ap (λ (y : Bool). refusePlain y 12) t in
+              record { answered = sym f ∙ a .answered ∙ rw (told a f .0, o); ready = rw (o ∙ sym (told a f .0)) (a .ready) }
 
 -- ---- what an admitted group gives
 
@@ -124,38 +107,34 @@ pub record Admitted (library user g new : List ℕ) (lines scratch nlib n : ℕ)
   pub nlib-is : nlib ≡ classCount library
   pub n-is : n ≡ total library new
   pub room : n - nlib ≤ lines
-  pub enough : 65536 ≤ scratch
+  pub enough : scratchLength ≤ scratch
   pub form : formRefusal library new ≡ none
   pub indexed : Indexed library new nlib n row
   pub memo-is : memo ≡ memoOf (group library new) nlib
 
-module _ (library user g new : List ℕ) (lines scratch : ℕ) (plain : Plain library g new) where
-  pub admit-turned : {p : Checked} {row memo : List ℕ} → Admits library user g new lines scratch p row memo → {r : Refusal} → p ≡ Refused r
-      → admitRefusal library user g new lines scratch ≡ some (refusalOf r)
-  admit-turned a f = refused-is (admitRefusal library user g new lines scratch) (classCount library) (total library new) (sym f ∙ a .0)
-
-  pub admit-facts : {p : Checked} {row memo : List ℕ} → Admits library user g new lines scratch p row memo → {k : Classes} → p ≡ Fine k
-      → Admitted library user g new lines scratch (k .library) (k .all) row memo
-  unfolding admitRefusal groupRefusal roomRefusal shortRefusal sheetRefusal total
-  admit-facts a f =
-      let t = fine-none (admitRefusal library user g new lines scratch) (sym f ∙ a .0) in
-      let q = first-none _ (t .0) in
-      let w : T (wholeGroup g) = un-not (wholeGroup g) (plain-none (not (wholeGroup g)) 14 (q .0)) in
-      let m = plain-none (ltb (length user) (length new) || ltb 32768 (length new)) 15 (q .1 .0) in
-      let z = plain-none (ltb lines (classCount new) || ltb scratch 65536) 12 (q .1 .1 .1 .0) in
-      let o : sheetRefusal library new ≡ none = plain .is w ∙ q .1 .1 .0 in
-      record {
-        unrefused = t .0;
-        whole = w;
-        within = nltb→le (length user) (length new) (not-or-l (ltb (length user) (length new)) (ltb 32768 (length new)) m);
-        nlib-is = t .1 .0;
-        n-is = t .1 .1;
-        room = omega (arith, t .1, nltb→le lines (classCount new) (not-or-l (ltb lines (classCount new)) (ltb scratch 65536) z));
-        enough = nltb→le scratch 65536 (not-or-r (ltb lines (classCount new)) (ltb scratch 65536) z);
-        form = first-none _ o .1 .1 .1 .1 .1 .0;
-        indexed = rw (t .1 .0, t .1 .1) (a .1 .indexed (t .0));
-        memo-is = rw (t .1 .0) (ready-memo (a .1) (t .0));
-      }
+pub admit-facts : {library user g new : List ℕ} {lines scratch : ℕ} → Plain library g new → {p : Checked} {row memo : List ℕ}
+    → Admits library user g new lines scratch p row memo → {k : Classes} → p ≡ Fine k
+    → Admitted library user g new lines scratch (k .library) (k .all) row memo
+unfolding admitRefusal groupRefusal roomRefusal shortRefusal sheetRefusal total
+admit-facts {library} {user} {g} {new} {lines} {scratch} plain a f =
+    let t = told a f in
+    let q = first-none _ (t .0) in
+    let w : T (wholeGroup g) = un-not (wholeGroup g) (plain-none (not (wholeGroup g)) 14 (q .0)) in
+    let m = plain-none (ltb (length user) (length new) || ltb 32768 (length new)) 15 (q .1 .0) in
+    let z = plain-none (ltb lines (classCount new) || ltb scratch scratchLength) 12 (q .1 .1 .1 .0) in
+    let o : sheetRefusal library new ≡ none = plain .is w ∙ q .1 .1 .0 in
+    record {
+      unrefused = t .0;
+      whole = w;
+      within = nltb→le (length user) (length new) (not-or-l (ltb (length user) (length new)) (ltb 32768 (length new)) m);
+      nlib-is = t .1 .0;
+      n-is = t .1 .1;
+      room = omega (arith, t .1, nltb→le lines (classCount new) (not-or-l (ltb lines (classCount new)) (ltb scratch scratchLength) z));
+      enough = nltb→le scratch scratchLength (not-or-r (ltb lines (classCount new)) (ltb scratch scratchLength) z);
+      form = first-none _ o .1 .1 .1 .1 .1 .0;
+      indexed = indexed a f refl;
+      memo-is = memo-is a f refl;
+    }
 
 -- an admitted group can be read through the view
 pub admitted-fits : {library user g new : List ℕ} {lines scratch nlib n : ℕ} {row memo : List ℕ} {cut : Cut} → Sits cut user

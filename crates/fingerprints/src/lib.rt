@@ -1,4 +1,5 @@
 // Fingerprints of class names: whether a name is new is asked of a row of numbers.
+use records::NAME_AT;
 use records::wide;
 use records::word_in;
 use view::View;
@@ -27,7 +28,7 @@ fn print_in(bytes: &[u8]) -> u16
 {
     let len = wide(word_in(bytes, 0));
     let mut print = 0;
-    let mut j = 12;
+    let mut j = NAME_AT;
     while j < len {
         print = print_with(print, bytes[j]);
         j += 1;

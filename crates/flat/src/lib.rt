@@ -7,6 +7,8 @@ use captured::captures;
 use groups::Classes;
 use lanes::fill;
 use overlay::overlays;
+use records::SCRATCH_BYTES;
+use records::VERDICT_BYTES;
 use rules::Verdict;
 use rules::verdict_of;
 use survey::clean;
@@ -28,11 +30,6 @@ ghost use Rattle.rules.specs.Line.{lineOf};
 ghost use Rattle.rules.specs.Walk.{Kept};
 ghost use Rattle.survey.specs.Survey.{Passing, setsIn};
 ghost use Rattle.flat.specs.Row.{putAt, chosen, faultedIn, markedIn};
-
-// How many bytes a verdict takes in the row, and how many a judging is lent to work in.
-pub const VERDICT_BYTES: usize = 2;
-
-pub const SCRATCH_BYTES: usize = 65536;
 
 // ---- what is known of each class
 

@@ -4,7 +4,7 @@ use mathlib.Core.Path.{_≡_, refl, sym, ap, _∙_, subst}
 use mathlib.Core.Bool.{Bool, true, false, _||_}
 use mathlib.Core.List.{List, [], _∷_, _++_, map, map-append}
 use mathlib.Core.Option.{Option, none, some}
-use Prim.Native.Nat.{ℕ, _+_, _<_, min}
+use Prim.Native.Nat.{ℕ, _+_, _≤_, _<_, min}
 use native.Mathlib.Omega.{arith}
 use lib.Dec.{ltb}
 use lib.ListN.{length, take, replicate}
@@ -28,7 +28,7 @@ use Rattle.overlay.proofs.Memos.{memo-none, memo-length}
 use Rattle.overlay.proofs.Turns.{classes-few}
 use Rattle.second.specs.Second.{formIn, classesStart}
 use Rattle.groups.specs.declared.Classes.{Classes}
-use Rattle.form.specs.Form.{Presents, firstDeemed, passesRefusal, laterRefusal, Starts, Ready, fine, refuse, refusalOf, checkedOf}
+use Rattle.form.specs.Form.{Checks, firstDeemed, passesRefusal, laterRefusal, Starts, Ready, fine, refuse, refusalOf, checkedOf}
 use Rattle.form.specs.declared.Refusal.{Refusal}
 use Rattle.form.specs.declared.Checked.{Checked}
 use Rattle.form.specs.declared.Checked.the-variants.{Fine, Refused}
@@ -218,30 +218,34 @@ module _ {library user row : List ℕ} {p : Checked} (e : (p ≡ checkedOf (pass
     check-indexed = rw (all-passed .1 .0, all-passed .1 .1) (e .1 .indexed (all-passed .0))
 
     pub check-later : {r : Checked} {memo : List ℕ} → (r ≡ checkedOf (laterRefusal library user) (k .library) (k .all)) × Ready (laterRefusal library user) library user row memo
-        → (r ≡ checkedOf (sheetRefusal library user) (classCount library) (total library user)) × Ready (sheetRefusal library user) library user row memo
+        → Checks (sheetRefusal library user) library user r row memo
     check-later {r} h =
         let o : sheetRefusal library user ≡ laterRefusal library user = sheet-parts library user ∙ first-past _ _ (all-passed .0) in
-        (rw (o, ← (all-passed .1 .0), ← (all-passed .1 .1)) (h .0), rw o (h .1))
+        record { answered = rw (o, ← (all-passed .1 .0), ← (all-passed .1 .1)) (h .0); ready = rw o (h .1) }
 
   pub check-passed : {r : Refusal} {memo : List ℕ} → p ≡ Refused r → memo ≡ replicate 256 65535
-      → (p ≡ checkedOf (sheetRefusal library user) (classCount library) (total library user)) × Ready (sheetRefusal library user) library user row memo
+      → Checks (sheetRefusal library user) library user p row memo
   check-passed f m =
       let q = refused-is (passesRefusal library user) (classCount library) (total library user) (sym f ∙ e .0) in
       let o = sheet-parts library user ∙ first-some _ q in
-      (e .0 ∙ rw (q, o), ready-fresh o (e .1 .long, m))
+      record { answered = e .0 ∙ rw (q, o); ready = ready-fresh o (e .1 .long, m) }
 
 -- ---- present: 1 to 11
 
 module _ (library user : List ℕ) (used : ℕ) where
+  -- what a call promises
+  abbrev Answers : Checked → List ℕ → List ℕ → Type 0
+  Answers = Checks (presentRefusal library user used) library (take used user)
+
   size-first : {r : Reason} → sizeRefusal library user used ≡ some r → presentRefusal library user used ≡ some r
   unfolding presentRefusal
   size-first e = first-some _ e
 
   module _ {row memo : List ℕ} (rows : Fresh row memo) where
-    refused : {r : Reason} → sizeRefusal library user used ≡ some r → Presents library user used (refuse (r .number) (r .sheet) (r .byte)) row memo
+    refused : {r : Reason} → sizeRefusal library user used ≡ some r → Answers (refuse (r .number) (r .sheet) (r .byte)) row memo
     refused e = let o = size-first e in record { answered = rw o; ready = ready-fresh o rows }
 
-    pub library-long : 32768 < length library → Presents library user used (refuse 1 0 0) row memo
+    pub library-long : 32768 < length library → Answers (refuse 1 0 0) row memo
     unfolding sizeRefusal refuseIf firstOf
     library-long h = refused (let o : sizeRefusal library user used ≡ some (record { number = 1; sheet = 0; byte = 0 }) = rw (lt-ltb 32768 (length library) h) in o)
 
@@ -250,12 +254,12 @@ module _ (library user : List ℕ) (used : ℕ) where
     unfolding sizeRefusal
     user-size b e = first-past _ _ (none-if (ltb 32768 (length library)) 1 0 0 (nltb 32768 (length library) (omega arith))) ∙ rw e
 
-    pub used-long : {row memo : List ℕ} → Fresh row memo → 32768 < used → Presents library user used (refuse 1 1 0) row memo
+    pub used-long : {row memo : List ℕ} → Fresh row memo → 32768 < used → Answers (refuse 1 1 0) row memo
     unfolding refuseIf
     used-long rows h = refused rows (user-size true (rw (lt-ltb 32768 used h)))
 
     module _ (u : 32768 < used → ⊥) where
-      pub used-past : {row memo : List ℕ} → Fresh row memo → length user < used → Presents library user used (refuse 1 1 0) row memo
+      pub used-past : {row memo : List ℕ} → Fresh row memo → length user < used → Answers (refuse 1 1 0) row memo
       unfolding refuseIf
       used-past rows h = refused rows (user-size true (rw (le-ltb 32768 used (omega arith), lt-ltb (length user) used h)))
 
@@ -264,8 +268,29 @@ module _ (library user : List ℕ) (used : ℕ) where
         unfolding presentRefusal refuseIf
         size-none = first-past _ _ (user-size false (rw (le-ltb 32768 used (omega arith), le-ltb (length user) used (omega arith))))
 
-        pub present-is : {p : Checked} {row memo : List ℕ} (s : List ℕ) → s ≡ take used user
-            → (p ≡ checkedOf (sheetRefusal library s) (classCount library) (total library s)) × Ready (sheetRefusal library s) library s row memo → Presents library user used p row memo
+        pub present-is : {p : Checked} {row memo : List ℕ} (s : List ℕ) → s ≡ take used user → Checks (sheetRefusal library s) library s p row memo → Answers p row memo
         present-is {p} {row} {memo} s e h =
-            let q = subst (λ (v : List ℕ). (p ≡ checkedOf (sheetRefusal library v) (classCount library) (total library v)) × Ready (sheetRefusal library v) library v row memo) e h in
-            record { answered = q .0 ∙ rw size-none; ready = rw size-none (q .1) }
+            let q = subst (λ (v : List ℕ). Checks (sheetRefusal library v) library v p row memo) e h in
+            record { answered = q .answered ∙ rw size-none; ready = rw size-none (q .ready) }
+
+-- ---- what a check tells
+
+module _ {o : Option Reason} {library user : List ℕ} {p : Checked} {row memo : List ℕ} (a : Checks o library user p row memo) where
+  pub turned : {r : Refusal} → p ≡ Refused r → o ≡ some (refusalOf r)
+  turned f = refused-is o _ _ (sym f ∙ a .answered)
+
+  module _ {k : Classes} (f : p ≡ Fine k) where
+    pub told : (o ≡ none) × ((k .library ≡ classCount library) × (k .all ≡ total library user))
+    told = fine-none o (sym f ∙ a .answered)
+
+    -- the library's classes are among all classes
+    pub ordered : k .library ≤ k .all
+    unfolding total
+    ordered = omega (arith, told .1)
+
+    module _ {s : List ℕ} (q : s ≡ user) where
+      pub indexed : Indexed library s (k .library) (k .all) row
+      indexed = rw (q, told .1 .0, told .1 .1) (a .ready .indexed (told .0))
+
+      pub memo-is : memo ≡ memoOf (group library s) (k .library)
+      memo-is = rw (q, told .1 .0) (ready-memo (a .ready) (told .0))

@@ -6,12 +6,12 @@ use mathlib.Core.List.{List, [], _∷_}
 use mathlib.Core.Option.{Option, none, some}
 use Prim.Native.Nat.{ℕ, zero, suc, _+_}
 use lib.Dec.{eqb}
-use lib.ListN.{length, take}
+use lib.ListN.{length}
 use Rattle.spec.specs.Lists.{firstOf}
 use Rattle.spec.specs.Sheet.{Group, classCount, total, group}
 use Rattle.spec.specs.Markers.{clash}
 use Rattle.spec.specs.Classes.{overlay}
-use Rattle.spec.specs.Refusals.{Refusal as Reason, recordRefusal, tornRefusal, noClassRefusal, formRefusal, deemedRefusal, presentRefusal}
+use Rattle.spec.specs.Refusals.{Refusal as Reason, recordRefusal, tornRefusal, noClassRefusal, formRefusal, deemedRefusal}
 use Rattle.groups.specs.Groups.{Indexed}
 use Rattle.overlay.specs.Memo.{memoOf}
 use Rattle.form.specs.declared.Refusal.{Refusal}
@@ -76,7 +76,7 @@ abbrev pub checkedOf : Option Reason → ℕ → ℕ → Checked
 checkedOf none nlib n = fine nlib n
 checkedOf (some r) nlib n = refuse (r .number) (r .sheet) (r .byte)
 
--- what a call of the present sheets promises
-pub record Presents (library user : List ℕ) (used : ℕ) (p : Checked) (row memo : List ℕ) : Type 0 where
-  pub answered : p ≡ checkedOf (presentRefusal library user used) (classCount library) (total library (take used user))
-  pub ready : Ready (presentRefusal library user used) library (take used user) row memo
+-- what a check of a library sheet and a user sheet promises where o is the refusal that is due: its answer and its rows
+pub record Checks (o : Option Reason) (library user : List ℕ) (p : Checked) (row memo : List ℕ) : Type 0 where
+  pub answered : p ≡ checkedOf o (classCount library) (total library user)
+  pub ready : Ready o library user row memo

@@ -5,6 +5,7 @@ use markers::clash;
 use overlay::overlay;
 use pass::Pass;
 use pass::first_pass;
+use records::SHEET_LIMIT;
 use records::wide;
 use second::heads;
 use second::second_pass;
@@ -13,15 +14,15 @@ use view::View;
 ghost use mathlib.Core.Path.{_≡_};
 ghost use mathlib.Core.List.{List, []};
 ghost use Prim.Native.Nat.{ℕ, _+_, _≤_, min};
-ghost use lib.ListN.{length, replicate};
+ghost use lib.ListN.{length, take, replicate};
 ghost use Rattle.spec.specs.Sheet.{Group, group as groupOf, classCount, total};
-ghost use Rattle.spec.specs.Refusals.{sheetRefusal};
+ghost use Rattle.spec.specs.Refusals.{sheetRefusal, presentRefusal};
 ghost use Rattle.theory.proofs.Falls.{Falls};
 ghost use Rattle.view.specs.View.{Fits, spliced, Views};
 ghost use Rattle.pass.specs.Pass.{passRefusal, passOf, Filled};
 ghost use Rattle.groups.specs.Groups.{Indexed};
 ghost use Rattle.overlay.specs.Memo.{memoOf};
-ghost use Rattle.form.specs.Form.{deemedBreaks, firstDeemed, passesRefusal, laterRefusal, Starts, Ready, Presents, checkedOf};
+ghost use Rattle.form.specs.Form.{deemedBreaks, firstDeemed, passesRefusal, laterRefusal, Starts, Ready, Checks, checkedOf};
 
 // Why sheets are turned away: the number, the sheet (0 library, 1 user) and the byte in it.
 pub struct Refusal {
@@ -34,6 +35,17 @@ pub struct Refusal {
 pub enum Checked {
     Fine(Classes),
     Refused(Refusal),
+}
+
+// A refusal that is no record's.
+pub fn plain(number: u8) -> Refusal
+    ensures { λ r. ⌜ r ≡ record { number = number; sheet = 0; byte = 0 } ⌝ }
+{
+    Refusal {
+        number: number,
+        sheet: 0,
+        byte: 0,
+    }
 }
 
 // Whether the deemed markers of class c are refused: they clash, or class 0 has any.
@@ -213,10 +225,7 @@ pub fn check<'a>(
     requires { λ view. ⌜ Fits cut (now user) (now group) ⌝ }
     requires { λ view. ⌜ (length (now library) ≤ 32768) × (length view ≤ 32768) ⌝ }
     requires { λ view. ⌜ (length (now starts) ≡ 256) × (now memo ≡ replicate 256 65535) ⌝ }
-    ensures answer { λ view r. ⌜ r ≡ checkedOf (sheetRefusal (now (library .entry)) view)
-        (classCount (now (library .entry))) (total (now (library .entry)) view) ⌝ }
-    ensures rows { λ view r. ⌜ Ready (sheetRefusal (now (library .entry)) view)
-        (now (library .entry)) view (now (starts .exit)) (now (memo .exit)) ⌝ }
+    ensures { λ view r. ⌜ Checks (sheetRefusal (now (library .entry)) view) (now (library .entry)) view r (now (starts .exit)) (now (memo .exit)) ⌝ }
 {
     let passed = both_passes(library, user, group, cut, starts);
     if let Checked::Fine(classes) = passed {
@@ -238,16 +247,13 @@ pub fn present<'a>(
     memo: &mut [u16],
 ) -> Checked
     requires { ⌜ (length (now starts) ≡ 256) × (now memo ≡ replicate 256 65535) ⌝ }
-    ensures { λ r. ⌜ Presents (now (library .entry)) (now (user .entry)) used r (now (starts .exit)) (now (memo .exit)) ⌝ }
+    ensures { λ r. ⌜ Checks (presentRefusal (now (library .entry)) (now (user .entry)) used)
+        (now (library .entry)) (take used (now (user .entry))) r (now (starts .exit)) (now (memo .exit)) ⌝ }
 {
-    if 32768 < library.len() {
-        return Checked::Refused(Refusal {
-            number: 1,
-            sheet: 0,
-            byte: 0,
-        });
+    if SHEET_LIMIT < library.len() {
+        return Checked::Refused(plain(1));
     }
-    if 32768 < used {
+    if SHEET_LIMIT < used {
         return Checked::Refused(Refusal {
             number: 1,
             sheet: 1,

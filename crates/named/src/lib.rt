@@ -1,4 +1,18 @@
 // The classes that a record names, read where it stands: 65535 is none. Along BUILDS alone, or along every record.
+use records::BUILDS;
+use records::CLASS;
+use records::CODE_AT;
+use records::ENCLOSER_AT;
+use records::FIELD;
+use records::FIELD_TYPE_AT;
+use records::KIND_AT;
+use records::LOCAL;
+use records::LOCAL_TYPE_AT;
+use records::MEMBER;
+use records::NONE;
+use records::SUPERCLASS_AT;
+use records::TARGET_AT;
+use records::TYPE_CLASS_AT;
 use records::wide;
 use records::word_in;
 ghost use mathlib.Core.Path.{_≡_};
@@ -14,10 +28,10 @@ fn type_named(bytes: &[u8], i: usize) -> usize
     requires { ⌜ (i + 3 < length (now bytes)) × (length (now bytes) ≤ 32768) ⌝ }
     ensures { λ r. ⌜ r ≡ typeNamed (tyAt (now (bytes .entry)) i) ⌝ }
 {
-    if bytes[i + 1] == 0 {
-        return wide(word_in(bytes, i + 2));
+    if bytes[i + CODE_AT] == 0 {
+        return wide(word_in(bytes, i + TYPE_CLASS_AT));
     }
-    65535
+    NONE
 }
 
 // The class that a BUILDS record builds.
@@ -26,10 +40,10 @@ fn built(bytes: &[u8], at: usize) -> usize
     requires { ⌜ length (now bytes) ≤ 32768 ⌝ }
     ensures { λ r. ⌜ r ≡ firstNamed true (recordAt (now (bytes .entry)) at) ⌝ }
 {
-    if word_in(bytes, at + 2) == 6 {
-        return wide(word_in(bytes, at + 4));
+    if word_in(bytes, at + KIND_AT) == BUILDS {
+        return wide(word_in(bytes, at + TARGET_AT));
     }
-    65535
+    NONE
 }
 
 // The first class that the record at `at` names, of whatever kind.
@@ -38,20 +52,20 @@ pub fn any_named(bytes: &[u8], at: usize) -> usize
     requires { ⌜ length (now bytes) ≤ 32768 ⌝ }
     ensures { λ r. ⌜ r ≡ firstNamed false (recordAt (now (bytes .entry)) at) ⌝ }
 {
-    let kind = word_in(bytes, at + 2);
-    if kind == 3 {
-        return type_named(bytes, at + 6);
+    let kind = word_in(bytes, at + KIND_AT);
+    if kind == FIELD {
+        return type_named(bytes, at + FIELD_TYPE_AT);
     }
-    if kind == 1 {
-        return wide(word_in(bytes, at + 8));
+    if kind == CLASS {
+        return wide(word_in(bytes, at + SUPERCLASS_AT));
     }
-    if kind == 4 {
-        return type_named(bytes, at + 4);
+    if kind == LOCAL {
+        return type_named(bytes, at + LOCAL_TYPE_AT);
     }
-    if kind == 7 {
-        return 65535;
+    if kind == MEMBER {
+        return NONE;
     }
-    wide(word_in(bytes, at + 4))
+    wide(word_in(bytes, at + TARGET_AT))
 }
 
 // The first class that the record at `at` names. Small, so that a search along BUILDS reads little.
@@ -73,10 +87,10 @@ pub fn second_named(bytes: &[u8], at: usize, builds: bool) -> usize
     ensures { λ r. ⌜ r ≡ secondNamed builds (recordAt (now (bytes .entry)) at) ⌝ }
 {
     if builds {
-        return 65535;
+        return NONE;
     }
-    if word_in(bytes, at + 2) == 1 {
-        return wide(word_in(bytes, at + 10));
+    if word_in(bytes, at + KIND_AT) == CLASS {
+        return wide(word_in(bytes, at + ENCLOSER_AT));
     }
-    65535
+    NONE
 }

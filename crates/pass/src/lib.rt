@@ -1,5 +1,22 @@
 // The first pass over a sheet, or over whole groups of one: each record by itself, refusals 2 to 7. On the way it fills the row of the bytes where the
 // groups begin.
+use records::BUILDS;
+use records::CLASS;
+use records::CLASS_LIMIT;
+use records::CODE_AT;
+use records::FIELD;
+use records::FIELD_TYPE_AT;
+use records::FLAGS_AT;
+use records::HEAD_BYTES;
+use records::IMPLEMENTS;
+use records::KIND_AT;
+use records::LOCAL;
+use records::LOCAL_TYPE_AT;
+use records::MEMBER;
+use records::NAME_AT;
+use records::REFERS;
+use records::TYPE_CLASS_AT;
+use records::USES;
 use records::word_in;
 ghost use mathlib.Core.Path.{_≡_};
 ghost use mathlib.Core.Bool.{true};
@@ -24,6 +41,13 @@ const SHORTEST: [u16; 9] = [1, 13, 6, 11, 9, 8, 6, 7, 8];
 
 const LONGEST: [u16; 9] = [0, 112, 6, 110, 108, 8, 6, 106, 8];
 
+// Where a CLASS record has the upper byte of its own markers, which is 0; the highest primitive, and the most records of a group.
+const MARKERS_TOP_AT: usize = 7;
+
+const PRIMITIVES: u8 = 8;
+
+const RECORD_LIMIT: usize = 255;
+
 // In each of eight bytes: the highest bit, 1, and 160.
 const TOPS: u64 = 0x8080808080808080;
 
@@ -32,14 +56,14 @@ const ONES: u64 = 0x0101010101010101;
 const LIMITS: u64 = 0xa0a0a0a0a0a0a0a0;
 
 // Whether a sheet (0 library, 1 user) may have the kind.
-fn home_fits(sheet: u8, kind: usize) -> bool
+fn home_fits(sheet: u8, kind: u16) -> bool
     requires { ⌜ sheet < 2 ⌝ }
     ensures { λ r. ⌜ r ≡ homeFits sheet kind ⌝ }
 {
-    if 8 < kind {
+    if REFERS < kind {
         return false;
     }
-    let home = HOMES[kind];
+    let home = HOMES[kind as usize];
     if home == 3 {
         return true;
     }
@@ -47,14 +71,14 @@ fn home_fits(sheet: u8, kind: usize) -> bool
 }
 
 // Whether a record of the kind may have that length.
-fn size_fits(kind: usize, len: u16) -> bool
+fn size_fits(kind: u16, len: u16) -> bool
     requires { ⌜ kind < 9 ⌝ }
     ensures { λ r. ⌜ r ≡ sizeFits kind len ⌝ }
 {
-    if len < SHORTEST[kind] {
+    if len < SHORTEST[kind as usize] {
         return false;
     }
-    len <= LONGEST[kind]
+    len <= LONGEST[kind as usize]
 }
 
 fn class_flags_fit(sheet: u8, flags: u16) -> bool
@@ -78,14 +102,14 @@ fn type_fits(bytes: &[u8], i: usize) -> bool
     requires { ⌜ i + 3 < length (now bytes) ⌝ }
     ensures { λ r. ⌜ r ≡ tyFits (tyAt (now (bytes .entry)) i) ⌝ }
 {
-    let code = bytes[i + 1];
+    let code = bytes[i + CODE_AT];
     if code == 0 {
         return true;
     }
-    if 8 < code {
+    if PRIMITIVES < code {
         return false;
     }
-    word_in(bytes, i + 2) == 0
+    word_in(bytes, i + TYPE_CLASS_AT) == 0
 }
 
 fn wide(x: u8) -> u64
@@ -167,27 +191,27 @@ fn name_fits(bytes: &[u8], from: usize, to: usize) -> bool
 }
 
 // Whether what stands at fixed places in the record at `at` is right for its kind.
-fn fixed_fits(bytes: &[u8], sheet: u8, at: usize, kind: usize) -> bool
+fn fixed_fits(bytes: &[u8], sheet: u8, at: usize, kind: u16) -> bool
     requires { ⌜ (sheet < 2) × (at + nameStart kind 0 ≤ length (now bytes)) ⌝ }
     ensures { λ r. ⌜ r ≡ fixedAt sheet (now (bytes .entry)) at kind ⌝ }
 {
-    if kind == 1 {
-        if class_flags_fit(sheet, word_in(bytes, at + 4)) {
-            return bytes[at + 7] == 0;
+    if kind == CLASS {
+        if class_flags_fit(sheet, word_in(bytes, at + FLAGS_AT)) {
+            return bytes[at + MARKERS_TOP_AT] == 0;
         }
         return false;
     }
-    if kind == 3 {
-        if word_in(bytes, at + 4) < 8 {
-            return type_fits(bytes, at + 6);
+    if kind == FIELD {
+        if word_in(bytes, at + FLAGS_AT) < 8 {
+            return type_fits(bytes, at + FIELD_TYPE_AT);
         }
         return false;
     }
-    if kind == 4 {
-        return type_fits(bytes, at + 4);
+    if kind == LOCAL {
+        return type_fits(bytes, at + LOCAL_TYPE_AT);
     }
-    if kind == 7 {
-        return word_in(bytes, at + 4) < 2;
+    if kind == MEMBER {
+        return word_in(bytes, at + FLAGS_AT) < 2;
     }
     true
 }
@@ -197,7 +221,7 @@ fn name_start(kind: u16, n: usize) -> usize
     ensures { λ r. ⌜ r ≡ nameStart kind n ⌝ }
 {
     match kind {
-        1 => 12,
+        1 => NAME_AT,
         3 => 10,
         4 => 8,
         7 => 6,
@@ -206,16 +230,16 @@ fn name_start(kind: u16, n: usize) -> usize
 }
 
 // The number that refuses the kind, the length or the place of a record with no CLASS before it, or 0.
-fn order_number(sheet: u8, kind: usize, len: u16, k: usize) -> u8
+fn order_number(sheet: u8, kind: u16, len: u16, k: usize) -> u8
     requires { ⌜ sheet < 2 ⌝ }
     ensures { λ r. ⌜ r ≡ orderNumber sheet kind len k ⌝ }
 {
     if home_fits(sheet, kind) {
-        if 8 < kind {
+        if REFERS < kind {
             return 3;
         }
         if size_fits(kind, len) {
-            if kind == 1 {
+            if kind == CLASS {
                 return 0;
             }
             if k == 0 {
@@ -229,7 +253,7 @@ fn order_number(sheet: u8, kind: usize, len: u16, k: usize) -> u8
 }
 
 // The number that refuses the kind, the length, the place or the fixed bytes of the record at `at`, or 0.
-fn kind_number(bytes: &[u8], sheet: u8, at: usize, kind: usize, len: u16, k: usize) -> u8
+fn kind_number(bytes: &[u8], sheet: u8, at: usize, kind: u16, len: u16, k: usize) -> u8
     requires { ⌜ (sheet < 2) × (at + len ≤ length (now bytes)) ⌝ }
     ensures { λ r. ⌜ r ≡ headNumber sheet (now (bytes .entry)) at kind len k ⌝ }
 {
@@ -249,14 +273,14 @@ fn head_number(bytes: &[u8], sheet: u8, at: usize, kind: u16, len: u16, k: usize
     ensures { λ r. ⌜ r ≡ headNumber sheet (now (bytes .entry)) at kind len k ⌝ }
 {
     match kind {
-        1 => kind_number(bytes, sheet, at, 1, len, k),
-        2 => kind_number(bytes, sheet, at, 2, len, k),
-        3 => kind_number(bytes, sheet, at, 3, len, k),
-        4 => kind_number(bytes, sheet, at, 4, len, k),
-        5 => kind_number(bytes, sheet, at, 5, len, k),
-        6 => kind_number(bytes, sheet, at, 6, len, k),
-        7 => kind_number(bytes, sheet, at, 7, len, k),
-        8 => kind_number(bytes, sheet, at, 8, len, k),
+        1 => kind_number(bytes, sheet, at, CLASS, len, k),
+        2 => kind_number(bytes, sheet, at, IMPLEMENTS, len, k),
+        3 => kind_number(bytes, sheet, at, FIELD, len, k),
+        4 => kind_number(bytes, sheet, at, LOCAL, len, k),
+        5 => kind_number(bytes, sheet, at, USES, len, k),
+        6 => kind_number(bytes, sheet, at, BUILDS, len, k),
+        7 => kind_number(bytes, sheet, at, MEMBER, len, k),
+        8 => kind_number(bytes, sheet, at, REFERS, len, k),
         _ => 3,
     }
 }
@@ -268,10 +292,10 @@ fn record_number(bytes: &[u8], sheet: u8, at: usize, kind: u16, len: u16, c: usi
     requires { ⌜ (len ≡ u16 (now bytes) at) × (kind ≡ u16 (now bytes) (at + 2)) ⌝ }
     ensures { λ r. ⌜ r ≡ recordNumber sheet (now (bytes .entry)) at c k ⌝ }
 {
-    if len < 4 {
+    let n = len as usize;
+    if n < HEAD_BYTES {
         return 2;
     }
-    let n = len as usize;
     if bytes.len() - at < n {
         return 2;
     }
@@ -280,13 +304,13 @@ fn record_number(bytes: &[u8], sheet: u8, at: usize, kind: u16, len: u16, c: usi
         return head;
     }
     if name_fits(bytes, at + name_start(kind, n), at + n) {
-        if kind == 1 {
-            if c == 256 {
+        if kind == CLASS {
+            if c == CLASS_LIMIT {
                 return 7;
             }
             return 0;
         }
-        if 254 < k {
+        if RECORD_LIMIT <= k {
             return 7;
         }
         return 0;
@@ -305,14 +329,14 @@ pub fn first_pass(bytes: &[u8], sheet: u8, base: usize, from: usize, starts: &mu
     let mut at = 0;
     let mut c = base;
     let mut k = 0;
-    while 4 <= end - at {
+    while HEAD_BYTES <= end - at {
         let len = word_in(bytes, at);
-        let kind = word_in(bytes, at + 2);
+        let kind = word_in(bytes, at + KIND_AT);
         let number = record_number(bytes, sheet, at, kind, len, c, k);
         if number != 0 {
             return Pass::Refused(number, from + at);
         }
-        if kind == 1 {
+        if kind == CLASS {
             starts[c] = (from + at) as u16;
             c += 1;
             k = 1;

@@ -2,34 +2,31 @@
 -- Assumes nothing.
 use mathlib.Core.Path.{_≡_, refl, sym, ap, _∙_, subst}
 use mathlib.Core.Bool.{Bool, true, false, not, _||_}
-use mathlib.Core.List.{List, [], map}
+use mathlib.Core.List.{List, map}
 use mathlib.Core.Option.{Option, none, some}
-use Prim.Native.Nat.{ℕ, _-_, _≤_}
+use Prim.Native.Nat.{ℕ, _-_, _≤_, _<_}
 use native.Mathlib.Nat.{sub-zero}
 use native.Mathlib.Omega.{arith}
 use native.Mathlib.Decide.{ℕ-discrete}
 use lib.Dec.{T, eqb, leb, ltb, nltb→le}
 use lib.ListN.{length, take, length-take}
-use borrow.Author.Tests.{eq-eqb, le-leb, lt-leb}
+use borrow.Author.Tests.{eq-eqb, le-leb, lt-leb, leb-false}
 use Rattle.spec.specs.Lists.{span}
 use Rattle.spec.specs.Sheet.{classCount, total, group}
 use Rattle.spec.specs.Refusals.{Refusal as Reason, refuseIf, refusePlain, sizeRefusal, formRefusal, sheetRefusal, presentRefusal, unusedRefusal, queryRefusal}
 use Rattle.spec.specs.Promises.{refused, accepted, answerOf}
-use Rattle.laws.proofs.Bools.{not-or-l, not-or-r}
+use Rattle.laws.proofs.Bools.{not-or-l, not-or-r, t-false}
 use Rattle.laws.proofs.Rows.{length-values, getD-values}
 use Rattle.theory.proofs.Answers.{first-none, first-past, first-some, if-none}
 use Rattle.theory.proofs.Accept.{sound}
 use Rattle.theory.proofs.Falls.{Falls, falls}
-use Rattle.view.specs.View.{Fits}
-use Rattle.view.proofs.Splice.{plain-fits}
 use Rattle.groups.specs.declared.Classes.{Classes}
 use Rattle.groups.specs.Groups.{Indexed, startOf}
-use Rattle.overlay.specs.Memo.{memoOf}
-use Rattle.form.specs.Form.{refusalOf, Presents}
+use Rattle.form.specs.Form.{Checks, refuse}
 use Rattle.form.specs.declared.Refusal.{Refusal}
 use Rattle.form.specs.declared.Checked.{Checked}
 use Rattle.form.specs.declared.Checked.the-variants.{Fine, Refused}
-use Rattle.form.proofs.Accepting.{ready-memo, fine-none, refused-is}
+use Rattle.form.proofs.Accepting.{ready-refused, turned, told}
 
 -- ---- answers
 
@@ -100,33 +97,13 @@ module _ (library user : List ℕ) (used : ℕ) (e : presentRefusal library user
         starts = λ c h. getD-values (startOf library (take used user)) 256 0 c (omega (arith, s .few));
       }
 
--- ---- accepted sheets, as the program holds them
+  module _ {s : List ℕ} (q : s ≡ take used user) where
+    pub form-fine : formRefusal library s ≡ none
+    unfolding sheetRefusal
+    form-fine = rw q (first-none _ sheet-fine .1 .1 .1 .1 .1 .0)
 
-module _ (library user : List ℕ) (used : ℕ) {p : Checked} {row memo : List ℕ} (a : Presents library user used p row memo) where
-  pub present-refused : {r : Refusal} → p ≡ Refused r → presentRefusal library user used ≡ some (refusalOf r)
-  present-refused f = refused-is (presentRefusal library user used) _ _ (sym f ∙ a .answered)
-
-  module _ {k : Classes} (f : p ≡ Fine k) where
-    pub told : (presentRefusal library user used ≡ none) × ((k .library ≡ classCount library) × (k .all ≡ total library (take used user)))
-    told = fine-none (presentRefusal library user used) (sym f ∙ a .answered)
-
-    pub fits : Fits (record { from = used; to = used; used = used }) user []
-    fits = plain-fits user used (used-there library user used (told .0))
-
-    module _ {s : List ℕ} (q : s ≡ take used user) where
-      pub indexed : Indexed library s (k .library) (k .all) row
-      indexed = rw (q, told .1 .0, told .1 .1) (a .ready .indexed (told .0))
-
-      pub memo-is : memo ≡ memoOf (group library s) (k .library)
-      memo-is = rw (q, told .1 .0) (ready-memo (a .ready) (told .0))
-
-      pub form-fine : formRefusal library s ≡ none
-      unfolding sheetRefusal
-      form-fine = rw q (first-none _ (sheet-fine library user used (told .0)) .1 .1 .1 .1 .1 .0)
-
-      pub lower-numbers : Falls (group library s)
-      lower-numbers =
-          rw q (falls (classCount library) (total library (take used user)) (group library (take used user)) (sound library (take used user) (sheet-fine library user used (told .0)) .fits))
+    pub lower-numbers : Falls (group library s)
+    lower-numbers = rw q (falls (classCount library) (total library (take used user)) (group library (take used user)) (sound library (take used user) sheet-fine .fits))
 
 -- the used bytes, as a part of the buffer
 pub used-part : (user : List ℕ) (used : ℕ) → take (used - 0) user ≡ take used user
@@ -134,21 +111,40 @@ used-part user used = ap (λ (k : ℕ). take k user) (sub-zero used)
 
 -- ---- a class of them
 
-module _ (library user : List ℕ) (used c : ℕ) {p : Checked} {row memo : List ℕ} (a : Presents library user used p row memo) where
+module _ (library user : List ℕ) (used c : ℕ) {p : Checked} {row memo : List ℕ} (a : Checks (presentRefusal library user used) library (take used user) p row memo) where
+  -- what a question promises
+  abbrev Asks : Checked → Type 0
+  Asks q = Checks (queryRefusal library user used c) library (take used user) q row memo
+
   -- the sheets are refused
-  pub sheets-refused : {r : Refusal} → p ≡ Refused r → queryRefusal library user used c ≡ some (refusalOf r)
+  pub sheets-refused : {r : Refusal} → p ≡ Refused r → Asks p
   unfolding queryRefusal
-  sheets-refused f = first-some _ (present-refused library user used a f)
+  sheets-refused f =
+      let o : queryRefusal library user used c ≡ _ = first-some _ (turned a f) in
+      record { answered = f ∙ rw o; ready = ready-refused (a .ready) o }
 
   module _ {k : Classes} (f : p ≡ Fine k) where
     unused : (b : Bool) → leb (total library (take used user)) c ≡ b → queryRefusal library user used c ≡ refusePlain b 13
     unfolding queryRefusal unusedRefusal
-    unused b e = first-past _ _ (told library user used a f .0) ∙ ap (λ (x : Bool). refusePlain x 13) e
+    unused b e = first-past _ _ (told a f .0) ∙ ap (λ (x : Bool). refusePlain x 13) e
 
-    pub class-unused : k .all ≤ c → queryRefusal library user used c ≡ some (record { number = 13; sheet = 0; byte = 0 })
+    pub class-unused : k .all ≤ c → Asks (refuse 13 0 0)
     unfolding refusePlain refuseIf
-    class-unused h = unused true (le-leb (total library (take used user)) c (omega (arith, told library user used a f .1 .1)))
+    class-unused h =
+        let o = unused true (le-leb (total library (take used user)) c (omega (arith, told a f .1 .1))) in
+        record { answered = rw o; ready = ready-refused (a .ready) o }
 
-    pub class-used : (k .all ≤ c → ⊥) → queryRefusal library user used c ≡ none
+    pub class-used : (k .all ≤ c → ⊥) → Asks (Fine k)
     unfolding refusePlain refuseIf
-    class-used h = unused false (lt-leb (total library (take used user)) c (omega (arith, told library user used a f .1 .1)))
+    class-used h =
+        let o : queryRefusal library user used c ≡ none = unused false (lt-leb (total library (take used user)) c (omega (arith, told a f .1 .1))) in
+        record { answered = sym f ∙ a .answered ∙ rw (told a f .0, o); ready = rw (o ∙ sym (told a f .0)) (a .ready) }
+
+module _ (library user : List ℕ) (used c : ℕ) (e : queryRefusal library user used c ≡ none) where
+  pub asked-sheets : presentRefusal library user used ≡ none
+  unfolding queryRefusal
+  asked-sheets = first-none _ e .0
+
+  pub asked-class : c < total library (take used user)
+  unfolding queryRefusal unusedRefusal refusePlain
+  asked-class = leb-false (total library (take used user)) c (t-false _ (if-none (leb (total library (take used user)) c) 13 0 0 (first-none _ e .1 .0)))

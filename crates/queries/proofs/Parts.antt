@@ -2,13 +2,14 @@
 -- Assumes nothing.
 use mathlib.Core.Path.{_≡_, refl, sym, ap, _∙_, subst}
 use mathlib.Core.Bool.{Bool, true, false}
-use mathlib.Core.List.{List, []}
+use mathlib.Core.List.{List, [], map}
 use mathlib.Core.Option.{none}
 use Prim.Native.Nat.{ℕ, _+_, _-_, _≤_, _<_}
 use native.Mathlib.Omega.{arith}
 use lib.Dec.{leb, ltb}
 use lib.ListN.{length, take, drop, length-take}
 use borrow.Author.Tests.{leb-false}
+use Rattle.spec.specs.Lists.{span}
 use Rattle.spec.specs.Record.{u16}
 use Rattle.spec.specs.Sheet.{classCount, total, group, classRecord, groupStart}
 use Rattle.spec.specs.Refusals.{refusePlain, presentRefusal, unusedRefusal, queryRefusal}
@@ -22,7 +23,7 @@ use Rattle.form.specs.declared.Refusal.{Refusal}
 use Rattle.queries.specs.Answers.{placedAnswer}
 use Rattle.queries.specs.declared.Placed.{Placed}
 use Rattle.queries.specs.declared.Placed.the-variants.{At, Refused}
-use Rattle.queries.proofs.Asking.{told-fine, told-refused, some-row}
+use Rattle.queries.proofs.Asking.{told-fine, told-refused, some-row, asked-sheets, asked-class}
 
 -- the part by the class's sheet and start
 part-is : (library user : List ℕ) (c : ℕ)
@@ -71,17 +72,14 @@ module _ (library user : List ℕ) (used c : ℕ) {p : Placed} (e : Places libra
     told : (queryRefusal library user used c ≡ none) × (record { sheet = sheet; start = start; size = size } ≡ namePart library (take used user) c)
     told = told-fine (queryRefusal library user used c) (namePart library (take used user) c) (ap placedAnswer (sym f) ∙ e .answered)
 
-    accepted-class : (presentRefusal library user used ≡ none) × (c < total library (take used user))
-    unfolding queryRefusal unusedRefusal refusePlain
-    accepted-class =
-        let q = first-none _ (told .0) in
-        (q .0, leb-false (total library (take used user)) c (t-false _ (if-none (leb (total library (take used user)) c) 13 0 0 (q .1 .0))))
+    row-of : Indexed library (take used user) (classCount library) (total library (take used user)) (map (startOf library (take used user)) (span 0 256))
+    row-of = some-row library user used (asked-sheets library user used c (told .0))
 
     within : start + size ≤ length (sheetOf library (take used user) sheet)
-    within = rw (ap (λ q. q .start) (told .1), ap (λ q. q .size) (told .1), ap (λ q. q .sheet) (told .1)) (part-within (some-row library user used (accepted-class .0)) (accepted-class .1))
+    within = rw (ap (λ q. q .start) (told .1), ap (λ q. q .size) (told .1), ap (λ q. q .sheet) (told .1)) (part-within row-of (asked-class library user used c (told .0)))
 
     pub small : start + size ≤ 32768
-    small = rw (ap (λ q. q .start) (told .1), ap (λ q. q .size) (told .1)) (part-small (some-row library user used (accepted-class .0)) (accepted-class .1))
+    small = rw (ap (λ q. q .start) (told .1), ap (λ q. q .size) (told .1)) (part-small row-of (asked-class library user used c (told .0)))
 
     pub library-within : sheet ≡ 0 → start + size ≤ length library
     library-within z = subst (λ (s : List ℕ). start + size ≤ length s) (library-sheet library (take used user) sheet z) within

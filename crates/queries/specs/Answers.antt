@@ -2,15 +2,11 @@
 -- Assumes nothing.
 use Prim.Native.Nat.{ℕ}
 use Rattle.spec.specs.Promises.{Answer, refused, accepted, Part}
-use Rattle.spec.specs.Refusals.{Refusal}
 use Rattle.form.specs.Form.{refusalOf}
 use Rattle.queries.specs.declared.Marked.{Marked}
 use Rattle.queries.specs.declared.Marked.the-variants as M
 use Rattle.queries.specs.declared.Placed.{Placed}
 use Rattle.queries.specs.declared.Placed.the-variants as P
-
-abbrev pub noClass : Refusal
-noClass = record { number = 13; sheet = 0; byte = 0 }
 
 abbrev pub markedAnswer : Marked → Answer ℕ
 markedAnswer (M.Fine m) = accepted m

@@ -1,15 +1,19 @@
 // What is asked of one class: its overlay markers and its name.
 use form::Checked;
 pub use form::Refusal;
+use form::plain;
 use form::present;
 use groups::class_word;
 use groups::sheet_of;
 use overlay::overlay_in_turn;
+use records::NAME_AT;
 use records::wide;
 ghost use mathlib.Core.Path.{_≡_};
+ghost use lib.ListN.{length, take, replicate};
+ghost use Rattle.spec.specs.Refusals.{queryRefusal};
 ghost use Rattle.spec.specs.Promises.{Marks, Places, Names};
-ghost use Rattle.form.specs.Form.{refusalOf};
-ghost use Rattle.queries.specs.Answers.{noClass, markedAnswer, placedAnswer};
+ghost use Rattle.form.specs.Form.{Checks};
+ghost use Rattle.queries.specs.Answers.{markedAnswer, placedAnswer};
 
 // The overlay markers of a class, or the refusal.
 pub enum Marked {
@@ -23,15 +27,27 @@ pub enum Placed {
     Refused(Refusal),
 }
 
-// 13: the class is not there.
-fn no_class() -> Refusal
-    ensures { λ r. ⌜ refusalOf r ≡ noClass ⌝ }
+// The classes of accepted sheets, if the one that is asked for is among them; else the refusal.
+fn asked<'a>(
+    library: &'a [u8],
+    user: &'a [u8],
+    used: usize,
+    class: usize,
+    starts: &mut [u16],
+    memo: &mut [u16],
+) -> Checked
+    requires { ⌜ (length (now starts) ≡ 256) × (now memo ≡ replicate 256 65535) ⌝ }
+    ensures { λ r. ⌜ Checks (queryRefusal (now (library .entry)) (now (user .entry)) used class)
+        (now (library .entry)) (take used (now (user .entry))) r (now (starts .exit)) (now (memo .exit)) ⌝ }
 {
-    Refusal {
-        number: 13,
-        sheet: 0,
-        byte: 0,
+    let checked = present(library, user, used, starts, memo);
+    let Checked::Fine(classes) = checked else {
+        return checked;
+    };
+    if classes.all <= class {
+        return Checked::Refused(plain(13));
     }
+    checked
 }
 
 // The overlay markers of a class of either sheet; `used` bytes of the user buffer are its sheet.
@@ -40,13 +56,10 @@ pub fn marks<'a>(library: &'a [u8], user: &'a [u8], used: usize, class: usize) -
 {
     let mut starts = [0u16; 256];
     let mut memo = [65535u16; 256];
-    let checked = present(library, user, used, &mut starts, &mut memo);
-    match checked {
+    let found = asked(library, user, used, class, &mut starts, &mut memo);
+    match found {
         Checked::Refused(refusal) => Marked::Refused(refusal),
         Checked::Fine(classes) => {
-            if classes.all <= class {
-                return Marked::Refused(no_class());
-            }
             let sheet = &user[0..used];
             let set = overlay_in_turn(library, sheet, &starts, classes, class, &mut memo);
             Marked::Fine(set)
@@ -60,17 +73,14 @@ pub fn name_place<'a>(library: &'a [u8], user: &'a [u8], used: usize, class: usi
 {
     let mut starts = [0u16; 256];
     let mut memo = [65535u16; 256];
-    let checked = present(library, user, used, &mut starts, &mut memo);
-    match checked {
+    let found = asked(library, user, used, class, &mut starts, &mut memo);
+    match found {
         Checked::Refused(refusal) => Placed::Refused(refusal),
         Checked::Fine(classes) => {
-            if classes.all <= class {
-                return Placed::Refused(no_class());
-            }
             let sheet = sheet_of(classes.library, class);
             let at = wide(starts[class]);
             let len = class_word(library, &user[0..used], &starts, classes, class, 0);
-            Placed::At(sheet, at + 12, wide(len) - 12)
+            Placed::At(sheet, at + NAME_AT, wide(len) - NAME_AT)
         }
     }
 }

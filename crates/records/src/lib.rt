@@ -24,6 +24,9 @@ pub const MEMBER: u16 = 7;
 
 pub const REFERS: u16 = 8;
 
+// The length and the kind that each record begins with.
+pub const HEAD_BYTES: usize = 4;
+
 // Where a record has its kind, and then its flags or the class that it names; and the index after that class.
 pub const KIND_AT: usize = 2;
 
@@ -38,8 +41,12 @@ pub const FIELD_TYPE_AT: usize = 6;
 
 pub const LOCAL_TYPE_AT: usize = 4;
 
-// Where a CLASS record has its own markers, superclass, encloser and name.
+// Where a type has its code, and then its class.
+pub const CODE_AT: usize = 1;
 
+pub const TYPE_CLASS_AT: usize = 2;
+
+// Where a CLASS record has its own markers, superclass, encloser and name.
 pub const MARKERS_AT: usize = 6;
 
 pub const SUPERCLASS_AT: usize = 8;
@@ -63,6 +70,11 @@ pub const SHEET_LIMIT: usize = 32768;
 pub const CLASS_LIMIT: usize = 256;
 
 pub const NONE: usize = 65535;
+
+// A verdict in the flat row, and the scratch that a call takes.
+pub const VERDICT_BYTES: usize = 2;
+
+pub const SCRATCH_BYTES: usize = 65536;
 
 fn low(x: u8) -> u16
     ensures { λ r. ⌜ (r ≡ x) × (r < 256) ⌝ }
@@ -93,7 +105,7 @@ pub fn count_in(bytes: &[u8], kind: u16) -> usize
     let mut at = 0;
     let mut m = 0;
     while at < bytes.len() {
-        if word_in(bytes, at + 2) == kind {
+        if word_in(bytes, at + KIND_AT) == kind {
             m += 1;
         }
         at += wide(word_in(bytes, at));
@@ -109,7 +121,7 @@ pub fn nth_in(bytes: &[u8], kind: u16, i: usize) -> usize
     let mut at = 0;
     let mut left = i;
     while at < bytes.len() {
-        if word_in(bytes, at + 2) == kind {
+        if word_in(bytes, at + KIND_AT) == kind {
             if left == 0 {
                 return at;
             }
@@ -128,11 +140,11 @@ pub fn whole_length(bytes: &[u8], at: usize) -> usize
         return 0;
     }
     let left = bytes.len() - at;
-    if left < 4 {
+    if left < HEAD_BYTES {
         return 0;
     }
     let len = wide(word_in(bytes, at));
-    if len < 4 {
+    if len < HEAD_BYTES {
         return 0;
     }
     if left < len {

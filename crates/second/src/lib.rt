@@ -6,6 +6,10 @@ use naming::name_met;
 use numbers::class_number;
 use numbers::other_number;
 use pass::Pass;
+use records::ENCLOSER_AT;
+use records::FLAGS_AT;
+use records::LOCAL;
+use records::MEMBER;
 use records::count_in;
 use records::wide;
 use records::word_in;
@@ -29,7 +33,7 @@ ghost use Rattle.second.specs.Second.{Heads, Enclosing, countedKind, hea
 fn counted_kind(nlib: usize, c: usize) -> u16
     ensures { λ r. ⌜ r ≡ countedKind nlib c ⌝ }
 {
-    if c < nlib { 7 } else { 4 }
+    if c < nlib { MEMBER } else { LOCAL }
 }
 
 // What others ask of class c: twice the number of those records, and one more if it is an interface.
@@ -50,7 +54,7 @@ fn head_of<'a>(
     let classes = view.classes;
     let bytes = view_bytes(library, user, group, starts, view, c);
     let m = count_in(bytes, counted_kind(classes.library, c)) as u16;
-    2 * m + word_in(bytes, 4) % 2
+    2 * m + word_in(bytes, FLAGS_AT) % 2
 }
 
 // Fills a row with the head of each class, so that a record asks another class by one comparison; what stands past them is kept.
@@ -100,7 +104,7 @@ fn mark_enclosers<'a>(
     let mut e = c;
     let mut left = c + 1;
     while 0 < left {
-        let up = wide(view_word(library, user, group, starts, view, e, 10));
+        let up = wide(view_word(library, user, group, starts, view, e, ENCLOSER_AT));
         if n <= up {
             return;
         }

@@ -1,5 +1,6 @@
 // Whether a name is new.
 use fingerprints::met;
+use records::NAME_AT;
 use records::wide;
 use records::word_in;
 use view::View;
@@ -24,7 +25,7 @@ fn same_name(a: &[u8], b: &[u8]) -> bool
     if wide(word_in(a, 0)) != len {
         return false;
     }
-    let mut j = 12;
+    let mut j = NAME_AT;
     while j < len {
         if a[j] != b[j] {
             return false;

@@ -1,5 +1,24 @@
 // The number that refuses a record: what it asks of other classes stands in the row of heads, so no sheet is read.
 use groups::Classes;
+use records::CODE_AT;
+use records::ENCLOSER_AT;
+use records::FIELD;
+use records::FIELD_TYPE_AT;
+use records::FLAGS_AT;
+use records::IMPLEMENTS;
+use records::INDEX_AT;
+use records::INNER;
+use records::KIND_AT;
+use records::LOCAL;
+use records::LOCAL_TYPE_AT;
+use records::MEMBER;
+use records::NONE;
+use records::REFERS;
+use records::STATIC;
+use records::SUPERCLASS_AT;
+use records::TARGET_AT;
+use records::TYPE_CLASS_AT;
+use records::USES;
 use records::wide;
 use records::word_in;
 ghost use mathlib.Core.Path.{_≡_};
@@ -20,8 +39,8 @@ fn type_absent(bytes: &[u8], n: usize, i: usize) -> bool
     requires { ⌜ i + 3 < length (now bytes) ⌝ }
     ensures { λ r. ⌜ r ≡ not (typeThere n (tyAt (now (bytes .entry)) i)) ⌝ }
 {
-    if bytes[i + 1] == 0 {
-        return n <= wide(word_in(bytes, i + 2));
+    if bytes[i + CODE_AT] == 0 {
+        return n <= wide(word_in(bytes, i + TYPE_CLASS_AT));
     }
     false
 }
@@ -30,7 +49,7 @@ fn type_absent(bytes: &[u8], n: usize, i: usize) -> bool
 fn absent(n: usize, d: usize) -> bool
     ensures { λ r. ⌜ r ≡ not (thereOrNone n d) ⌝ }
 {
-    if d == 65535 {
+    if d == NONE {
         return false;
     }
     n <= d
@@ -62,7 +81,7 @@ fn superclass_breaks(heads: &[u16], c: usize, flags: u16, up: usize) -> bool
     ensures { λ r. ⌜ ((g : ℕ → Group) (k : Classes) → Heads g k (now (heads .entry)) → c < k .all → r ≡ not (superclassOk g c flags up)) ⌝ }
 {
     if bare(c, flags) {
-        return up != 65535;
+        return up != NONE;
     }
     if up < c {
         return heads[up] % 2 == 1;
@@ -74,8 +93,8 @@ fn superclass_breaks(heads: &[u16], c: usize, flags: u16, up: usize) -> bool
 fn encloser_breaks(nlib: usize, c: usize, flags: u16, outer: usize) -> bool
     ensures { λ r. ⌜ r ≡ not (encloserOk nlib c flags outer) ⌝ }
 {
-    if outer == 65535 {
-        return flags / 2 % 2 == 1;
+    if outer == NONE {
+        return flags / INNER % 2 == 1;
     }
     if c < nlib {
         return true;
@@ -94,15 +113,15 @@ pub fn class_number(heads: &[u16], classes: Classes, c: usize, bytes: &[u8]) -> 
         → r ≡ classNumber g (classes .library) (classes .all) c (recordAt (now (bytes .entry)) 0) 0) ⌝ }
 {
     let n = classes.all;
-    let up = wide(word_in(bytes, 8));
+    let up = wide(word_in(bytes, SUPERCLASS_AT));
     if absent(n, up) {
         return 9;
     }
-    let outer = wide(word_in(bytes, 10));
+    let outer = wide(word_in(bytes, ENCLOSER_AT));
     if absent(n, outer) {
         return 9;
     }
-    let flags = word_in(bytes, 4);
+    let flags = word_in(bytes, FLAGS_AT);
     if zero_breaks(c, flags) {
         return 8;
     }
@@ -137,11 +156,11 @@ fn field_number(bytes: &[u8], n: usize, face: bool, at: usize) -> u8
     requires { ⌜ at + 9 < length (now bytes) ⌝ }
     ensures { λ r. ⌜ r ≡ fieldNumber n face (bit 2 (u16 (now (bytes .entry)) (at + 4))) (tyAt (now (bytes .entry)) (at + 6)) ⌝ }
 {
-    if type_absent(bytes, n, at + 6) {
+    if type_absent(bytes, n, at + FIELD_TYPE_AT) {
         return 9;
     }
     if face {
-        if word_in(bytes, at + 4) / 4 % 2 != 1 {
+        if word_in(bytes, at + FLAGS_AT) / STATIC % 2 != 1 {
             return 8;
         }
     }
@@ -217,28 +236,28 @@ pub fn other_number(
     ensures { λ r. ⌜ ((g : ℕ → Group) → Heads g classes (now (heads .entry)) → Enclosing g (classes .all) c (now (marks .entry))
         → r ≡ formNumber g (classes .library) (classes .all) c (recordAt (now (bytes .entry)) at)) ⌝ }
 {
-    let kind = word_in(bytes, at + 2);
-    if kind == 7 {
+    let kind = word_in(bytes, at + KIND_AT);
+    if kind == MEMBER {
         return 0;
     }
-    if kind == 3 {
+    if kind == FIELD {
         return field_number(bytes, classes.all, heads[c] % 2 == 1, at);
     }
-    if kind == 4 {
-        if type_absent(bytes, classes.all, at + 4) {
+    if kind == LOCAL {
+        if type_absent(bytes, classes.all, at + LOCAL_TYPE_AT) {
             return 9;
         }
         return 0;
     }
-    let t = wide(word_in(bytes, at + 4));
-    if kind == 2 {
+    let t = wide(word_in(bytes, at + TARGET_AT));
+    if kind == IMPLEMENTS {
         return implements_number(heads, classes, c, t);
     }
-    if kind == 5 {
-        return uses_number(heads, marks, classes, t, wide(word_in(bytes, at + 6)));
+    if kind == USES {
+        return uses_number(heads, marks, classes, t, wide(word_in(bytes, at + INDEX_AT)));
     }
-    if kind == 8 {
-        return refers_number(heads, classes, t, wide(word_in(bytes, at + 6)));
+    if kind == REFERS {
+        return refers_number(heads, classes, t, wide(word_in(bytes, at + INDEX_AT)));
     }
     if classes.all <= t {
         return 9;

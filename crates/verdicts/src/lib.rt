@@ -1,5 +1,6 @@
 // The verdict row as a slice of structs: the report over it, and a flat row's lines written into it. The functions that
 // hold the slice are walked by hand; the others are covered.
+use records::VERDICT_BYTES;
 ghost use mathlib.Core.Path.{_≡_};
 ghost use Prim.Native.Nat.{_<_, _+_, _/_, _^_, min};
 ghost use lib.ListN.{length};
@@ -11,9 +12,6 @@ pub struct Verdict {
     pub rule: u8,
     pub record: u8,
 }
-
-// The bytes of a line in a flat row.
-const BYTES: usize = 2;
 
 // One more if the verdict is faulted.
 fn tally(count: usize, verdict: Verdict) -> usize
@@ -55,8 +53,8 @@ fn line(flat: &[u8], i: usize) -> Verdict
     ensures { λ r. ⌜ r ≡ lineOf (flatAt (now (flat .entry)) i) ⌝ }
 {
     Verdict {
-        rule: flat[BYTES * i],
-        record: flat[BYTES * i + 1],
+        rule: flat[VERDICT_BYTES * i],
+        record: flat[VERDICT_BYTES * i + 1],
     }
 }
 
@@ -64,7 +62,7 @@ fn line(flat: &[u8], i: usize) -> Verdict
 fn shared(n: usize, lines: usize, bytes: usize) -> usize
     ensures { λ r. ⌜ r ≡ min (min n lines) (bytes / verdictBytes) ⌝ }
 {
-    least(least(n, lines), bytes / BYTES)
+    least(least(n, lines), bytes / VERDICT_BYTES)
 }
 
 // Line i becomes line i of the flat row, for the first n lines as far as both rows have them; every other line stays.

@@ -6,24 +6,26 @@ use mathlib.Core.List.{List}
 use mathlib.Core.Option.{Option, none, some}
 use Prim.Native.Nat.{ℕ, _+_, _*_, _-_, _/_, _≤_, _<_, min}
 use native.Mathlib.Omega.{arith}
-use lib.Dec.{eqb, ltb, lt→ltb}
+use lib.Dec.{T, eqb, ltb, lt→ltb, nltb→le}
 use lib.ListN.{length, getD, take}
 use borrow.Author.Tests.{lt-ltb, le-ltb, ltb-true, ltb-false}
 use Rattle.spec.specs.Sheet.{classCount, total, group}
 use Rattle.spec.specs.Rules.{Verdict, verdictOf}
 use Rattle.spec.specs.Verdicts.{verdictBytes, verdictAt, userVerdict, faulted, faultedCount, flatLines, flatAt, bytesOf, flatRewritten, flat}
-use Rattle.spec.specs.Refusals.{Refusal, scratchLength, refuseIf, refusePlain, shortRefusal, judgeRefusal}
+use Rattle.spec.specs.Refusals.{Refusal, scratchLength, refuseIf, refusePlain, shortRefusal, presentRefusal, judgeRefusal}
 use Rattle.spec.specs.Promises.{countsOf, afterwards, refused, accepted, cleared, judgedRow, Judges}
 use Rattle.theory.proofs.Answers.{first-past, first-some}
+use Rattle.laws.proofs.Bools.{not-or-l, not-or-r}
 use Rattle.laws.proofs.Count.{count-same}
 use Rattle.theory.proofs.FlatRow.{at-new, rewritten-lines, rewritten-same}
 use Rattle.groups.specs.declared.Classes.{Classes}
 use Rattle.form.specs.declared.Refusal.{Refusal as Turned}
-use Rattle.form.specs.Form.{refusalOf, Presents}
+use Rattle.form.specs.Form.{refusalOf, Checks}
 use Rattle.form.specs.declared.Checked.{Checked}
 use Rattle.form.specs.declared.Checked.the-variants.{Fine, Refused}
 use Rattle.flat.specs.Row.{chosen, faultedIn}
-use Rattle.queries.proofs.Asking.{answer-refused, answer-fine, present-refused, told}
+use Rattle.form.proofs.Accepting.{turned, told}
+use Rattle.queries.proofs.Asking.{answer-refused, answer-fine}
 
 -- ---- what a buffer holds
 
@@ -82,76 +84,62 @@ module _ (library sheet : List ℕ) {nlib n : ℕ} (el : nlib ≡ classCount lib
         ∙ ap (faultedIn after) (let w : min (n - nlib) (flatLines after) ≡ classCount sheet = omega (arith, room, same-lines, classes-are) in w)
         ∙ count-same (λ i. not (eqb (flatAt after i .rule) 0)) (λ i. not (eqb (userVerdict library sheet i .rule) 0)) (classCount sheet) (λ i h. ap (λ (k : ℕ). not (eqb k 0)) (rule-is i h))
 
--- ---- what refuses a judging
-
-module _ (library user : List ℕ) (used lines scratch : ℕ) {p : Checked} {row memo : List ℕ} (a : Presents library user used p row memo) where
-  pub judge-refused : {r : Turned} → p ≡ Refused r → judgeRefusal library user used lines scratch ≡ some (refusalOf r)
-  unfolding judgeRefusal
-  judge-refused f = first-some _ (present-refused library user used a f)
-
-  module _ {k : Classes} (f : p ≡ Fine k) where
-    needed : k .all - k .library ≡ classCount (take used user)
-    unfolding total
-    needed = omega (arith, told library user used a f .1)
-
-    short : (b : Bool) → (ltb lines (k .all - k .library) || ltb scratch scratchLength) ≡ b → judgeRefusal library user used lines scratch ≡ refusePlain b 12
-    unfolding judgeRefusal shortRefusal
-    short b e = first-past _ _ (told library user used a f .0) ∙ ap (λ (x : Bool). refusePlain x 12) (ap (λ (j : ℕ). ltb lines j || ltb scratch scratchLength) (sym needed) ∙ e)
-
-    pub row-short : lines < k .all - k .library → judgeRefusal library user used lines scratch ≡ some (record { number = 12; sheet = 0; byte = 0 })
-    unfolding refusePlain refuseIf
-    row-short h = short true (rw (lt-ltb lines (k .all - k .library) h))
-
-    pub scratch-short : k .all - k .library ≤ lines → scratch < scratchLength → judgeRefusal library user used lines scratch ≡ some (record { number = 12; sheet = 0; byte = 0 })
-    unfolding refusePlain refuseIf
-    scratch-short l h = short true (rw (le-ltb lines (k .all - k .library) l, lt-ltb scratch scratchLength h))
-
-    pub judge-fine : k .all - k .library ≤ lines → scratchLength ≤ scratch → judgeRefusal library user used lines scratch ≡ none
-    unfolding refusePlain refuseIf
-    judge-fine l h = short false (rw (le-ltb lines (k .all - k .library) l, le-ltb scratch scratchLength h))
-
 -- ---- the promise of a judging, at each of its ends
 
-module _ (library user : List ℕ) (used : ℕ) (verdicts scratch : List ℕ) {p : Checked} {row memo : List ℕ} (a : Presents library user used p row memo) where
+module _ (library user : List ℕ) (used : ℕ) (verdicts scratch : List ℕ) {p : Checked} {row memo : List ℕ} (a : Checks (presentRefusal library user used) library (take used user) p row memo) where
+  abbrev refusal : Option Refusal
+  refusal = judgeRefusal library user used (flatLines verdicts) (length scratch)
+
   -- nothing was touched
-  stop : {r : Refusal} → judgeRefusal library user used (flatLines verdicts) (length scratch) ≡ some r → Judges flat library user used verdicts scratch (refused r) verdicts scratch
+  stop : {r : Refusal} → refusal ≡ some r → Judges flat library user used verdicts scratch (refused r) verdicts scratch
   stop e = record { answered = answer-refused _ e; verdicts-are = kept-refused _ _ e; scratch-is = kept-refused _ _ e }
 
   pub sheets-stop : {r : Turned} → p ≡ Refused r → Judges flat library user used verdicts scratch (refused (refusalOf r)) verdicts scratch
-  sheets-stop f = stop (judge-refused library user used (flatLines verdicts) (length scratch) a f)
+  unfolding judgeRefusal
+  sheets-stop f = stop (first-some _ (turned a f))
 
-  module _ {k : Classes} (f : p ≡ Fine k) where
-    pub classes-ordered : k .library ≤ k .all
-    unfolding total
-    classes-ordered = omega (arith, told library user used a f .1)
+  module _ {k : Classes} (f : p ≡ Fine k) {x : Bool} (e : x ≡ (ltb (length verdicts / verdictBytes) (k .all - k .library) || ltb (length scratch) scratchLength)) where
+    short : refusal ≡ refusePlain x 12
+    unfolding judgeRefusal shortRefusal flatLines total
+    short =
+        first-past _ _ (told a f .0)
+        ∙ ap (λ (m : ℕ). refusePlain (ltb (length verdicts / verdictBytes) m || ltb (length scratch) scratchLength) 12)
+        (let q : classCount (take used user) ≡ k .all - k .library = omega (arith, told a f .1) in q)
+        ∙ ap (λ (y : Bool). refusePlain y 12) (sym e)
 
-    pub row-stop : length verdicts / verdictBytes < k .all - k .library → Judges flat library user used verdicts scratch (refused (record { number = 12; sheet = 0; byte = 0 })) verdicts scratch
-    row-stop h = stop (row-short library user used (flatLines verdicts) (length scratch) a f (unfold flatLines in h))
+    pub short-stop : x ≡ true → Judges flat library user used verdicts scratch (refused (record { number = 12; sheet = 0; byte = 0 })) verdicts scratch
+    unfolding refusePlain refuseIf
+    short-stop t = stop (short ∙ ap (λ (y : Bool). refusePlain y 12) t)
 
-    pub scratch-stop : k .all - k .library ≤ length verdicts / verdictBytes → length scratch < scratchLength
-        → Judges flat library user used verdicts scratch (refused (record { number = 12; sheet = 0; byte = 0 })) verdicts scratch
-    scratch-stop l h = stop (scratch-short library user used (flatLines verdicts) (length scratch) a f (unfold flatLines in l) h)
+    module _ (t : x ≡ false) where
+      long : T (not (ltb (length verdicts / verdictBytes) (k .all - k .library) || ltb (length scratch) scratchLength))
+      long = rw (sym e ∙ t) tt
 
-    pub room-is : k .all - k .library ≤ length verdicts / verdictBytes → k .all - k .library ≤ flatLines verdicts
-    unfolding flatLines
-    room-is l = l
+      pub room : k .all - k .library ≤ flatLines verdicts
+      unfolding flatLines
+      room = nltb→le _ _ (not-or-l (ltb (length verdicts / verdictBytes) (k .all - k .library)) (ltb (length scratch) scratchLength) long)
 
-    pub judged-all : k .all - k .library ≤ length verdicts / verdictBytes → scratchLength ≤ length scratch → {s : List ℕ} → s ≡ take used user → (marks : List ℕ) → ((i : ℕ) → getD marks i 0 ≡ 0)
-        → {after cleaned : List ℕ} {m : ℕ}
-        → after ≡ flatRewritten (chosen (k .library) (k .all) marks) (λ i. verdictOf (k .library) (group library s) (k .library + i)) verdicts → cleaned ≡ cleared scratch → m
-        ≡ faultedIn after (min (k .all - k .library) (flatLines after))
-        → Judges flat library user used verdicts scratch (accepted (record { classes = k .all - k .library; faulted = m })) after cleaned
-    unfolding countsOf judgedRow
-    judged-all l h q marks z {after} ea es em =
-        let o = judge-fine library user used (flatLines verdicts) (length scratch) a f (unfold flatLines in l) h in
-        let t = told library user used a f .1 in
-        let e = row-is library (take used user) (t .0) (t .1) marks z verdicts
-        (ea ∙ ap (λ (x : List ℕ). flatRewritten (chosen (k .library) (k .all) marks) (λ i. verdictOf (k .library) (group library x) (k .library + i)) verdicts) q) in
-        record {
-          answered =
-              ap₂ (λ (i j : ℕ). accepted (record { classes = i; faulted = j })) (classes-are library (take used user) (t .0) (t .1) marks z verdicts)
-              (count-is library (take used user) (t .0) (t .1) marks z verdicts (unfold flatLines in l) e em)
-              ∙ answer-fine _ o;
-          verdicts-are = e ∙ new-fine _ _ o;
-          scratch-is = es ∙ new-fine _ _ o;
-        }
+      pub enough : scratchLength ≤ length scratch
+      enough = nltb→le _ _ (not-or-r (ltb (length verdicts / verdictBytes) (k .all - k .library)) (ltb (length scratch) scratchLength) long)
+
+      fine : refusal ≡ none
+      unfolding refusePlain refuseIf
+      fine = short ∙ ap (λ (y : Bool). refusePlain y 12) t
+
+      pub judged-all : {s : List ℕ} → s ≡ take used user → (marks : List ℕ) → ((i : ℕ) → getD marks i 0 ≡ 0) → {after cleaned : List ℕ} {m : ℕ}
+          → after ≡ flatRewritten (chosen (k .library) (k .all) marks) (λ i. verdictOf (k .library) (group library s) (k .library + i)) verdicts → cleaned ≡ cleared scratch
+          → m ≡ faultedIn after (min (k .all - k .library) (flatLines after))
+          → Judges flat library user used verdicts scratch (accepted (record { classes = k .all - k .library; faulted = m })) after cleaned
+      unfolding countsOf judgedRow
+      judged-all q marks z {after} ea es em =
+          let n = told a f .1 in
+          let j = row-is library (take used user) (n .0) (n .1) marks z verdicts
+          (ea ∙ ap (λ (x : List ℕ). flatRewritten (chosen (k .library) (k .all) marks) (λ i. verdictOf (k .library) (group library x) (k .library + i)) verdicts) q) in
+          record {
+            answered =
+                ap₂ (λ (i j : ℕ). accepted (record { classes = i; faulted = j })) (classes-are library (take used user) (n .0) (n .1) marks z verdicts)
+                (count-is library (take used user) (n .0) (n .1) marks z verdicts room j em)
+                ∙ answer-fine _ fine;
+            verdicts-are = j ∙ new-fine _ _ fine;
+            scratch-is = es ∙ new-fine _ _ fine;
+          }

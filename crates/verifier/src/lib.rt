@@ -1,13 +1,13 @@
 // The operations over flat rows of numbers: the public interface.
 use admit::admit;
+use admit::short;
 use edit::write;
-pub use flat::SCRATCH_BYTES;
-pub use flat::VERDICT_BYTES;
 use flat::faulted;
 use flat::marked;
 use flat::rejudge;
 use form::Checked;
 pub use form::Refusal;
+use form::plain;
 use form::present;
 use groups::Classes;
 use groups::group_end;
@@ -17,6 +17,8 @@ pub use queries::marks;
 pub use queries::name;
 pub use queries::name_place;
 use reach::dependents;
+pub use records::SCRATCH_BYTES;
+pub use records::VERDICT_BYTES;
 use records::wide;
 use view::Cut;
 use view::view_len;
@@ -39,17 +41,6 @@ pub enum Judged {
     Refused(Refusal),
 }
 
-// A refusal that is no record's.
-fn plain(number: u8) -> Refusal
-    ensures { λ r. ⌜ r ≡ record { number = number; sheet = 0; byte = 0 } ⌝ }
-{
-    Refusal {
-        number: number,
-        sheet: 0,
-        byte: 0,
-    }
-}
-
 // A verdict for each user class in the row: rule and record, 0 and 0 where it is clean.
 pub fn judge<'a>(
     library: &'a [u8],
@@ -67,11 +58,7 @@ pub fn judge<'a>(
     match checked {
         Checked::Refused(refusal) => Judged::Refused(refusal),
         Checked::Fine(classes) => {
-            let own = classes.all - classes.library;
-            if verdicts.len() / VERDICT_BYTES < own {
-                return Judged::Refused(plain(12));
-            }
-            if scratch.len() < SCRATCH_BYTES {
+            if short(classes, verdicts.len() / VERDICT_BYTES, scratch.len()) {
                 return Judged::Refused(plain(12));
             }
             let sheet = &user[0..used];
@@ -86,6 +73,7 @@ pub fn judge<'a>(
                 verdicts,
                 scratch,
             );
+            let own = classes.all - classes.library;
             Judged::Fine(own, faulted(verdicts, own))
         }
     }

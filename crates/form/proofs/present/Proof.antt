@@ -10,7 +10,7 @@ use Rattle.form.proofs.present.Statement.{statement}
 use Rattle.form.proofs.present.Tie as tie
 
 returns : tie.Need-returns
-returns c = library-long _ _ _ (c .before .before .before .before .before .pre) (omega arith)
+returns c = rw (c .plain .ensures) (library-long _ _ _ (c .before .before .before .before .before .before .pre) (omega arith))
 
 returns-2 : tie.Need-returns-2
 returns-2 c = used-long _ _ _ (omega arith) (c .before .before .before .before .before .before .pre) (omega arith)
@@ -35,6 +35,7 @@ pub present-spec : {M : Type 1} → statement M
 present-spec =
     tie.close
     (tie.spec
+    (λ c κs. search needs)
     returns
     returns-2
     returns-3

@@ -2,7 +2,8 @@
 -- Assumes nothing.
 use mathlib.Core.Path.{sym, _∙_}
 use Rattle.theory.proofs.Answers.{some≢none}
-use Rattle.queries.proofs.Asking.{used-there, used-part, present-refused, indexed}
+use Rattle.form.proofs.Accepting.{turned, indexed}
+use Rattle.queries.proofs.Asking.{used-there, used-part}
 use borrow.Author.Needs.{needs}
 use Rattle.listing_text.proofs.accepted_lines.Statement.{statement}
 use Rattle.listing_text.proofs.accepted_lines.Tie as tie
@@ -23,8 +24,7 @@ found c = c .before .before .before
 returns : tie.Need-returns
 returns c =
     let p = c .before .before .before .before in
-    let a = start p .args in
-    absurd (some≢none _ (sym (present-refused (a .library .now) (a .user .now) (a .used) (p .present .ensures) (c .enum-told .given .1)) ∙ start p .pre .0))
+    absurd (some≢none _ (sym (turned (p .present .ensures) (c .enum-told .given .1)) ∙ start p .pre .0))
 
 part-sheet-end : tie.Need-part-sheet-end
 part-sheet-end c = let s = start (present c) in used-there (s .args .library .now) (s .args .user .now) (s .args .used) (s .pre .0)
@@ -35,7 +35,7 @@ class-lines-requires c κs =
     let s = start (present k) in
     let a = s .args in
     let q = used-part (a .user .now) (a .used) in
-    (indexed (a .library .now) (a .user .now) (a .used) (present k .present .ensures) (k .before .checked .given .1) q, (rw q (s .pre .1 .0), s .pre .1 .1))
+    (indexed (present k .present .ensures) (k .before .checked .given .1) q, (rw q (s .pre .1 .0), s .pre .1 .1))
 
 returns-2 : tie.Need-returns-2
 returns-2 c =

@@ -1,75 +1,52 @@
--- What `present` tells of the sheets, then the class's overlay markers.
+-- What `asked` tells of the sheets, then the class's overlay markers.
 -- Assumes nothing.
-use mathlib.Core.Path.{_≡_, sym, ap, _∙_}
-use mathlib.Core.Option.{none, some}
-use Prim.Native.Nat.{_-_}
+use mathlib.Core.Path.{_≡_, ap, _∙_}
+use mathlib.Core.Option.{none}
 use native.Mathlib.Omega.{arith}
 use borrow.Author.Needs.{needs}
-use lib.ListN.{take}
 use Rattle.spec.specs.Sheet.{group as groupOf}
 use Rattle.spec.specs.Promises.{accepted}
-use Rattle.spec.specs.Refusals.{presentRefusal, queryRefusal}
+use Rattle.spec.specs.Refusals.{queryRefusal}
 use Rattle.spec.specs.Classes.{overlay as overlayOf}
-use Rattle.groups.specs.Groups.{Indexed}
-use Rattle.form.specs.Form.{refusalOf}
-use Rattle.queries.specs.Answers.{noClass}
-use Rattle.queries.proofs.Asking.{answer-refused, answer-fine, sheets-refused, class-unused, class-used, told, used-there, used-part, indexed, memo-is, lower-numbers}
+use Rattle.form.proofs.Accepting.{turned, told, indexed, memo-is}
+use Rattle.queries.proofs.Asking.{answer-refused, answer-fine, used-there, used-part, lower-numbers, asked-sheets, asked-class}
 use Rattle.queries.proofs.marks.Statement.{statement}
 use Rattle.queries.proofs.marks.Tie as tie
 
--- ---- places: the start, the check of the sheets, and what it found
+-- ---- places: the start, the question, and what it found
 
-abbrev start : tie.After-present → tie.Start
+abbrev start : tie.After-asked → tie.Start
 start c = c .before .before .before .before .before
 
-abbrev present : tie.After-checked2 → tie.After-present
-present c = c .before .before .before .before
+abbrev asked : tie.After-found2 → tie.After-asked
+asked c = c .before .before .before .before
 
-abbrev entry : tie.After-checked2 → tie.Start
-entry c = start (present c)
-
-refused-by : (c : tie.After-checked) → let a = start (c .before .before .before .before) .args in
-    queryRefusal (a .library .now) (a .user .now) (a .used) (a .class) ≡ some (refusalOf (c .checked .given .0 .0))
-refused-by c = let w = c .before .before .before .before in let a = start w .args in sheets-refused (a .library .now) (a .user .now) (a .used) (a .class) (w .present .ensures) (c .checked .given .1)
-
-none-by : (c : tie.After-struct-known) → presentRefusal (entry (c .before .before) .args .library .now) (entry (c .before .before) .args .user .now) (entry (c .before .before) .args .used) ≡ none
-none-by c = let k = c .before .before in let a = entry k .args in told (a .library .now) (a .user .now) (a .used) (present k .present .ensures) (k .checked2 .given .1) .0
-
-indexed-by : (c : tie.After-checked2) → let a = entry c .args in
-    Indexed (a .library .now) (take (a .used - 0) (a .user .now)) (c .checked2 .given .0 .0 .library) (c .checked2 .given .0 .0 .all) (present c .present .last .1 .1 .1 .0)
-indexed-by c =
-    let a = entry c .args in
-    indexed (a .library .now) (a .user .now) (a .used) (present c .present .ensures) (c .checked2 .given .1) (used-part (a .user .now) (a .used))
-
-unused : (c : tie.Then1) → let a = entry (c .before .before .before) .args in queryRefusal (a .library .now) (a .user .now) (a .used) (a .class) ≡ some noClass
-unused c =
-    let k = c .before .before .before in
-    let a = entry k .args in
-    class-unused (a .library .now) (a .user .now) (a .used) (a .class) (present k .present .ensures) (k .checked2 .given .1) (omega arith)
-
-asked : (c : tie.Else1) → let a = entry (c .before .before .before) .args in queryRefusal (a .library .now) (a .user .now) (a .used) (a .class) ≡ none
-asked c =
-    let k = c .before .before .before in
-    let a = entry k .args in
-    class-used (a .library .now) (a .user .now) (a .used) (a .class) (present k .present .ensures) (k .checked2 .given .1) (omega arith)
+none-by : (c : tie.After-found2) → let a = start (asked c) .args in queryRefusal (a .library .now) (a .user .now) (a .used) (a .class) ≡ none
+none-by c = told (asked c .asked .ensures) (c .found2 .given .1) .0
 
 -- ---- the needs
 
 overlay-in-turn-requires : tie.Need-overlay-in-turn-requires
 overlay-in-turn-requires c κs =
-    let k = c .before .before .before .before .before .before in
-    let a = entry k .args in
-    let e = present k .present .ensures in
-    let f = k .checked2 .given .1 in
+    let k = c .before .before .before .before in
+    let a = start (asked k) .args in
+    let e = asked k .asked .ensures in
+    let f = k .found2 .given .1 in
     let q = used-part (a .user .now) (a .used) in
-    (indexed-by k, (lower-numbers (a .library .now) (a .user .now) (a .used) e f q, (omega arith, memo-is (a .library .now) (a .user .now) (a .used) e f q)))
+    let o = none-by k in (
+      indexed e f q,
+      (
+        lower-numbers (a .library .now) (a .user .now) (a .used) (asked-sheets (a .library .now) (a .user .now) (a .used) (a .class) o) q,
+        (omega (arith, told e f .1 .1, asked-class (a .library .now) (a .user .now) (a .used) (a .class) o), memo-is e f q),
+      ),
+    )
 
-returns-3 : tie.Need-returns-3
-returns-3 c =
-    let e = c .before .before .before .before .before in
-    let a = entry (e .before .before .before) .args in
+returns-2 : tie.Need-returns-2
+returns-2 c =
+    let k = c .before .before .before .before .before .before in
+    let a = start (asked k) .args in
     let s = ap (λ s. overlayOf (groupOf (a .library .now) s) (a .class)) (used-part (a .user .now) (a .used)) in
-    record { answered = ap accepted (c .before .overlay-in-turn .ensures .0 ∙ s) ∙ answer-fine _ (asked e) }
+    record { answered = ap accepted (c .before .overlay-in-turn .ensures .0 ∙ s) ∙ answer-fine _ (none-by k) }
 
 pub marks-spec : {M : Type 1} → statement M
 marks-spec =
@@ -80,13 +57,11 @@ marks-spec =
     (λ c κs. search needs)
     (λ c. search needs)
     (λ c. search needs)
-    (λ c κs. search needs)
-    (λ c. record { answered = answer-refused _ (unused (c .before) ∙ ap some (sym (c .no-class .ensures))) })
     (λ c. search needs)
     (λ c. search needs)
-    (λ c. used-there _ _ _ (none-by (c .before)))
+    (λ c. let k = c .before in let a = start (asked k) .args in used-there _ _ _ (asked-sheets (a .library .now) (a .user .now) (a .used) (a .class) (none-by k)))
     (λ c. search needs)
     (λ c. search needs)
     overlay-in-turn-requires
-    (λ c. record { answered = answer-refused _ (refused-by (c .before)) })
-    returns-3)
+    (λ c. record { answered = answer-refused _ (turned (c .before .before .before .before .before .asked .ensures) (c .before .found .given .1)) })
+    returns-2)

@@ -1,81 +1,65 @@
--- What `present` tells of the sheets, then the place that the row of starts gives.
+-- What `asked` tells of the sheets, then the place that the row of starts gives.
 -- Assumes nothing.
-use mathlib.Core.Path.{_≡_, sym, ap, _∙_}
-use mathlib.Core.Option.{none, some}
+use mathlib.Core.Path.{_≡_, ap, _∙_}
+use mathlib.Core.Option.{none}
 use Prim.Native.Nat.{_-_, _<_}
 use native.Mathlib.Omega.{arith}
 use borrow.Author.Needs.{needs}
 use lib.ListN.{take}
 use Rattle.spec.specs.Promises.{accepted, namePart}
-use Rattle.spec.specs.Refusals.{presentRefusal, queryRefusal}
+use Rattle.spec.specs.Refusals.{queryRefusal}
 use Rattle.groups.specs.Groups.{Indexed}
 use Rattle.groups.proofs.Held.{class-long, size-read}
-use Rattle.form.specs.Form.{refusalOf}
-use Rattle.queries.specs.Answers.{noClass}
-use Rattle.queries.proofs.Asking.{answer-refused, answer-fine, sheets-refused, class-unused, class-used, told, used-there, used-part, indexed}
+use Rattle.form.proofs.Accepting.{turned, told, indexed}
+use Rattle.queries.proofs.Asking.{answer-refused, answer-fine, used-there, used-part, asked-sheets, asked-class}
 use Rattle.queries.proofs.Parts.{part-read}
 use Rattle.queries.proofs.name_place.Statement.{statement}
 use Rattle.queries.proofs.name_place.Tie as tie
 
--- ---- places: the start, the check of the sheets, and what it found
+-- ---- places: the start, the question, and what it found
 
-abbrev start : tie.After-present → tie.Start
+abbrev start : tie.After-asked → tie.Start
 start c = c .before .before .before .before .before
 
-abbrev present : tie.After-checked2 → tie.After-present
-present c = c .before .before .before .before
+abbrev asked : tie.After-found2 → tie.After-asked
+asked c = c .before .before .before .before
 
-abbrev entry : tie.After-checked2 → tie.Start
-entry c = start (present c)
+none-by : (c : tie.After-found2) → let a = start (asked c) .args in queryRefusal (a .library .now) (a .user .now) (a .used) (a .class) ≡ none
+none-by c = told (asked c .asked .ensures) (c .found2 .given .1) .0
 
-refused-by : (c : tie.After-checked) → let a = start (c .before .before .before .before) .args in
-    queryRefusal (a .library .now) (a .user .now) (a .used) (a .class) ≡ some (refusalOf (c .checked .given .0 .0))
-refused-by c = let w = c .before .before .before .before in let a = start w .args in sheets-refused (a .library .now) (a .user .now) (a .used) (a .class) (w .present .ensures) (c .checked .given .1)
+row : (c : tie.After-found2) → let a = start (asked c) .args in
+    Indexed (a .library .now) (take (a .used - 0) (a .user .now)) (c .found2 .given .0 .0 .library) (c .found2 .given .0 .0 .all) (asked c .asked .last .1 .1 .1 .1 .0)
+row c = let a = start (asked c) .args in indexed (asked c .asked .ensures) (c .found2 .given .1) (used-part (a .user .now) (a .used))
 
-none-by : (c : tie.After-struct-known) → presentRefusal (entry (c .before .before) .args .library .now) (entry (c .before .before) .args .user .now) (entry (c .before .before) .args .used) ≡ none
-none-by c = let k = c .before .before in let a = entry k .args in told (a .library .now) (a .user .now) (a .used) (present k .present .ensures) (k .checked2 .given .1) .0
-
-indexed-by : (c : tie.After-checked2) → let a = entry c .args in
-    Indexed (a .library .now) (take (a .used - 0) (a .user .now)) (c .checked2 .given .0 .0 .library) (c .checked2 .given .0 .0 .all) (present c .present .last .1 .1 .1 .0)
-indexed-by c =
-    let a = entry c .args in
-    indexed (a .library .now) (a .user .now) (a .used) (present c .present .ensures) (c .checked2 .given .1) (used-part (a .user .now) (a .used))
-
-unused : (c : tie.Then1) → let a = entry (c .before .before .before) .args in queryRefusal (a .library .now) (a .user .now) (a .used) (a .class) ≡ some noClass
-unused c =
-    let k = c .before .before .before in
-    let a = entry k .args in
-    class-unused (a .library .now) (a .user .now) (a .used) (a .class) (present k .present .ensures) (k .checked2 .given .1) (omega arith)
-
-asked : (c : tie.Else1) → let a = entry (c .before .before .before) .args in queryRefusal (a .library .now) (a .user .now) (a .used) (a .class) ≡ none
-asked c =
-    let k = c .before .before .before in
-    let a = entry k .args in
-    class-used (a .library .now) (a .user .now) (a .used) (a .class) (present k .present .ensures) (k .checked2 .given .1) (omega arith)
-
-there : (c : tie.Else1) → entry (c .before .before .before) .args .class < c .before .before .before .checked2 .given .0 .0 .all
-there c = omega arith
+there : (c : tie.After-found2) → start (asked c) .args .class < c .found2 .given .0 .0 .all
+there c =
+    let a = start (asked c) .args in
+    omega (arith, told (asked c .asked .ensures) (c .found2 .given .1) .1 .1, asked-class (a .library .now) (a .user .now) (a .used) (a .class) (none-by c))
 
 -- ---- the needs
 
-sub-t30 : tie.Need-sub-t30
-sub-t30 c =
-    let e = c .before .before .before .before .before .before in
-    let x = indexed-by (e .before .before .before) in
-    omega (arith, c .wide2 .ensures .0, size-read x (there e) (c .before .class-word .ensures), class-long x (there e))
+low : (c : tie.After-sheet-of) → start (asked (c .before .before)) .args .class < 256
+low c = let k = c .before .before in omega (arith, there k, row k .few)
 
-returns-3 : tie.Need-returns-3
-returns-3 c =
+class-word-requires : tie.Need-class-word-requires
+class-word-requires c κs = let k = c .before .before .before .before .before in (row k, (there k, omega arith))
+
+sub-t28 : tie.Need-sub-t28
+sub-t28 c =
+    let k = c .before .before .before .before .before .before .before in
+    omega (arith, c .wide2 .ensures .0, size-read (row k) (there k) (c .before .class-word .ensures), class-long (row k) (there k))
+
+returns-2 : tie.Need-returns-2
+returns-2 c =
     let w = c .before in
     let s = w .before .before .before .before in
-    let e = s .before in
-    let k = e .before .before .before in
-    let a = entry k .args in
-    let x = indexed-by k in
+    let k = s .before .before in
+    let a = start (asked k) .args in
+    let x = row k in
     record {
-      answered = ap accepted (part-read x (there e) (s .sheet-of .ensures) (w .before .before .before .wide .ensures .0 ∙ x .starts _ (there e)) (c .wide2 .ensures .0 ∙ w .class-word .ensures))
+      answered = ap accepted (part-read x (there k) (s .sheet-of .ensures) (w .before .before .before .wide .ensures .0 ∙ x .starts _ (there k)) (c .wide2 .ensures .0 ∙ w .class-word .ensures))
           ∙ ap (λ s. accepted (namePart (a .library .now) s (a .class))) (used-part (a .user .now) (a .used))
-          ∙ answer-fine _ (asked e);
+          ∙ answer-fine _ (none-by k);
     }
 
 pub name-place-spec : {M : Type 1} → statement M
@@ -88,18 +72,16 @@ name-place-spec =
     (λ c. search needs)
     (λ c. search needs)
     (λ c κs. search needs)
-    (λ c. record { answered = answer-refused _ (unused (c .before) ∙ ap some (sym (c .no-class .ensures))) })
-    (λ c κs. search needs)
-    (λ c. let x = indexed-by (c .before .before .before .before) in omega (arith, x .few, there (c .before)))
-    (λ c. let x = indexed-by (c .before .before .before .before) in omega (arith, x .few, there (c .before)))
+    (λ c. omega (arith, low c))
+    low
     (λ c κs. search needs)
     (λ c. search needs)
     (λ c. search needs)
-    (λ c. used-there _ _ _ (none-by (c .before .before .before)))
+    (λ c. let k = c .before .before .before in let a = start (asked k) .args in used-there _ _ _ (asked-sheets (a .library .now) (a .user .now) (a .used) (a .class) (none-by k)))
     (λ c. search needs)
-    (λ c κs. (indexed-by (c .before .before .before .before .before .before .before), (there (c .before .before .before .before), omega arith)))
+    class-word-requires
     (λ c. search needs)
     (λ c κs. search needs)
-    sub-t30
-    (λ c. record { answered = answer-refused _ (refused-by (c .before)) })
-    returns-3)
+    sub-t28
+    (λ c. record { answered = answer-refused _ (turned (c .before .before .before .before .before .asked .ensures) (c .before .found .given .1)) })
+    returns-2)

@@ -9,7 +9,8 @@ use Rattle.spec.specs.Sheet.{group as groupOf}
 use Rattle.spec.specs.Verdicts.{flatLines}
 use Rattle.groups.specs.declared.Classes.{Classes}
 use Rattle.view.specs.View.{spliced}
-use Rattle.admit.proofs.Turning.{Admitted, admit-turned, admit-facts, admitted-fits}
+use Rattle.form.proofs.Accepting.{turned}
+use Rattle.admit.proofs.Turning.{Admitted, admit-facts, admitted-fits}
 use Rattle.queries.proofs.Asking.{used-part}
 use Rattle.verifier.specs.Changing.{Touched}
 use Rattle.verifier.proofs.Editing.{written-sheet, put-refused, put-made}
@@ -43,7 +44,7 @@ module _ (c : tie.After-admitted2) where
       (length (start .args .scratch .now)) (classes .library) (classes .all) (c .before .before .before .before .admit .last .1 .1 .1 .1 .1 .1 .0)
       (c .before .before .before .before .admit .last .1 .1 .1 .1 .1 .1 .1 .0)
   unfolding flatLines
-  admitted = admit-facts _ _ _ _ _ _ (start .pre .plain) (c .before .before .before .before .admit .ensures) (c .admitted2 .given .1)
+  admitted = admit-facts (start .pre .plain) (c .before .before .before .before .admit .ensures) (c .admitted2 .given .1)
 
   there : start .args .class < classes .all
   there = omega (arith, start .pre .there (admitted .whole), admitted .n-is)
@@ -100,7 +101,7 @@ returns : tie.Need-returns
 unfolding flatLines
 returns c =
     let s = c .before .before .before .before .before .before .before .before .before .before .before .before .before .before in
-    put-refused _ _ _ _ _ _ _ _ (admit-turned _ _ _ _ _ _ (s .pre .plain) (c .before .before .before .before .before .admit .ensures) (c .before .admitted .given .1))
+    put-refused _ _ _ _ _ _ _ _ (turned (c .before .before .before .before .before .admit .ensures) (c .before .admitted .given .1))
 
 returns-2 : tie.Need-returns-2
 returns-2 c =

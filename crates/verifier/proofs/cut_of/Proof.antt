@@ -8,7 +8,8 @@ use native.Mathlib.Omega.{arith}
 use lib.ListN.{take, length-take}
 use Rattle.spec.specs.Refusals.{presentRefusal}
 use Rattle.groups.specs.Groups.{Indexed}
-use Rattle.queries.proofs.Asking.{present-refused, told, indexed, used-there}
+use Rattle.form.proofs.Accepting.{turned, told, indexed}
+use Rattle.queries.proofs.Asking.{used-there}
 use Rattle.verifier.proofs.Replacing.{found-refused, found-missing, found-at}
 use borrow.Author.Needs.{needs}
 use Rattle.verifier.proofs.cut_of.Statement.{statement}
@@ -19,12 +20,12 @@ abbrev start : tie.After-checked2 → tie.Start
 start c = c .before .before .before .before .before .before .before .before .before
 
 present : (c : tie.After-checked2) → presentRefusal (start c .args .library .now) (start c .args .user .now) (start c .args .used) ≡ none
-present c = let a = start c .args in told (a .library .now) (a .user .now) (a .used) (c .before .before .before .before .present .ensures) (c .checked2 .given .1) .0
+present c = told (c .before .before .before .before .present .ensures) (c .checked2 .given .1) .0
 
 row : (c : tie.After-checked2)
     → Indexed (start c .args .library .now) (take (start c .args .used) (start c .args .user .now)) (c .checked2 .given .0 .0 .library) (c .checked2 .given .0 .0 .all)
     (c .before .before .before .before .present .last .1 .1 .1 .0)
-row c = let a = start c .args in indexed (a .library .now) (a .user .now) (a .used) (c .before .before .before .before .present .ensures) (c .checked2 .given .1) refl
+row c = indexed (c .before .before .before .before .present .ensures) (c .checked2 .given .1) refl
 
 returns : tie.Need-returns
 returns c = let k = c .before .before .before .before in rw (c .plain .ensures) (found-missing _ _ _ _ (present k) (row k) (inl (c .before .if1 .taken)))
@@ -42,8 +43,7 @@ group-end-requires : tie.Need-group-end-requires
 group-end-requires c κs = let x = row (c .before .before .before .before .before .before .before) in (c .before .before .if2 .left, omega (arith, x .few, x .long))
 
 returns-3 : tie.Need-returns-3
-returns-3 c = let a = c .before .before .before .before .before .before .before .before .before .before .args in
-    found-refused _ _ _ _ (present-refused (a .library .now) (a .user .now) (a .used) (c .before .before .before .before .before .present .ensures) (c .before .checked .given .1))
+returns-3 c = found-refused _ _ _ _ (turned (c .before .before .before .before .before .present .ensures) (c .before .checked .given .1))
 
 returns-4 : tie.Need-returns-4
 returns-4 c =

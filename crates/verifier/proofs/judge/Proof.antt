@@ -4,67 +4,73 @@ use mathlib.Core.List.{List}
 use Prim.Native.Nat.{ℕ}
 use native.Mathlib.Omega.{arith}
 use Rattle.lanes.proofs.Rows.{zeros}
-use Rattle.queries.proofs.Asking.{used-part, used-there, told, indexed, memo-is, form-fine}
-use Rattle.verifier.proofs.Verdicts.{sheets-stop, classes-ordered, row-stop, scratch-stop, room-is, judged-all}
+use Rattle.form.proofs.Accepting.{told, ordered, indexed, memo-is}
+use Rattle.queries.proofs.Asking.{used-part, used-there, form-fine}
+use Rattle.verifier.proofs.Verdicts.{sheets-stop, short-stop, room, enough, judged-all}
 use borrow.Author.Needs.{needs}
 use Rattle.verifier.proofs.judge.Statement.{statement}
 use Rattle.verifier.proofs.judge.Tie as tie
 
-abbrev start : tie.After-checked2 → tie.Start
-start k = k .before .before .before .before .before .before .before .before .before .before .before
+-- ---- places: the start, the check of the sheets, and what it found
 
-sub-own : tie.Need-sub-own
-sub-own c =
-    let k = c .before .before in
-    let a = start k .args in omega (
-      arith,
-      classes-ordered (a .library .now) (a .user .now) (a .used) (a .verdicts .now) (a .scratch .now) (k .before .before .before .before .present .ensures)
-          (k .checked2 .given .1),
-    )
+abbrev start : tie.After-present → tie.Start
+start c = c .before .before .before .before .before .before .before
+
+abbrev present : tie.After-checked2 → tie.After-present
+present c = c .before .before .before .before
+
+abbrev found : tie.After-short → tie.After-checked2
+found c = c .before .before
+
+abbrev long : tie.After-rejudge → tie.Else1
+long c = c .before .before .before .before .before .before .before
+
+-- ---- the needs
 
 returns : tie.Need-returns
-returns c = let k = c .before .before .before .before in rw (c .plain .ensures)
-    (row-stop _ _ _ _ _ (k .before .before .before .before .present .ensures) (k .checked2 .given .1) (c .before .if1 .taken))
-
-returns-2 : tie.Need-returns-2
-returns-2 c =
-    let k = c .before .before .before .before .before in
-    rw (c .plain2 .ensures)
-    (scratch-stop _ _ _ _ _ (k .before .before .before .before .present .ensures) (k .checked2 .given .1) (c .before .before .if1 .left) (c .before .if2 .taken))
+returns c =
+    let s = c .before .before in
+    let k = found s in
+    rw (c .plain .ensures) (short-stop _ _ _ _ _ (present k .present .ensures) (k .checked2 .given .1) (s .short .ensures) (c .before .if1 .taken))
 
 part-sheet-end : tie.Need-part-sheet-end
-part-sheet-end c =
-    let k = c .before .before .before .before in
-    let a = start k .args in used-there (a .library .now) (a .user .now) (a .used)
-    (told (a .library .now) (a .user .now) (a .used) (k .before .before .before .before .present .ensures) (k .checked2 .given .1) .0)
+part-sheet-end c = let k = found (c .before) in used-there _ _ _ (told (present k .present .ensures) (k .checked2 .given .1) .0)
 
 rejudge-requires : tie.Need-rejudge-requires
 rejudge-requires c κs =
-    let k = c .before .before .before .before .before .before .before .before .before .before in
-    let a = start k .args in
-    let e = k .before .before .before .before .present .ensures in
+    let w = c .before .before .before .before .before .before in
+    let s = w .before in
+    let k = found s in
+    let a = start (present k) .args in
+    let e = present k .present .ensures in
     let f = k .checked2 .given .1 in
     let q = used-part (a .user .now) (a .used) in
-    let room = room-is (a .library .now) (a .user .now) (a .used) (a .verdicts .now) (a .scratch .now) e f (c .before .before .before .before .before .before .before .if1 .left) in (
-      indexed (a .library .now) (a .user .now) (a .used) e f q,
+    let l = w .if1 .left in (
+      indexed e f q,
       (
-        form-fine (a .library .now) (a .user .now) (a .used) e f q,
-        (memo-is (a .library .now) (a .user .now) (a .used) e f q, ((omega arith, room), c .before .before .before .before .before .before .if2 .left)),
+        form-fine (a .library .now) (a .user .now) (a .used) (told e f .0) q,
+        (
+          memo-is e f q,
+          (
+            (omega arith, room (a .library .now) (a .user .now) (a .used) (a .verdicts .now) (a .scratch .now) e f (s .short .ensures) l),
+            enough (a .library .now) (a .user .now) (a .used) (a .verdicts .now) (a .scratch .now) e f (s .short .ensures) l,
+          ),
+        ),
       ),
     )
 
-returns-3 : tie.Need-returns-3
-returns-3 c = sheets-stop _ _ _ _ _ (c .before .before .before .before .before .present .ensures) (c .before .checked .given .1)
+sub-own : tie.Need-sub-own
+sub-own c = let k = found (long (c .before .before .before .before .before .before) .before) in ordered (present k .present .ensures) (k .checked2 .given .1)
 
-returns-4 : tie.Need-returns-4
-returns-4 c =
-    let k = c .before .before .before .before .before .before .before .before .before .before .before .before .before .before .before .before .before .before in
-    let a = start k .args in
-    let judged = c .before .before .before .before .before .before .before .rejudge .ensures in
-    judged-all (a .library .now) (a .user .now) (a .used) (a .verdicts .now) (a .scratch .now) (k .before .before .before .before .present .ensures) (k .checked2 .given .1)
-    (c .before .before .before .before .before .before .before .before .before .before .before .before .before .before .before .if1 .left)
-    (c .before .before .before .before .before .before .before .before .before .before .before .before .before .before .if2 .left) (used-part (a .user .now) (a .used)) _ (zeros 256) (judged .1 .0)
-    (judged .1 .1) (c .faulted .ensures)
+returns-3 : tie.Need-returns-3
+returns-3 c =
+    let j = c .before .before .before .before .before .before .before .before in
+    let w = long j in
+    let s = w .before in
+    let k = found s in
+    let a = start (present k) .args in
+    judged-all (a .library .now) (a .user .now) (a .used) (a .verdicts .now) (a .scratch .now) (present k .present .ensures) (k .checked2 .given .1) (s .short .ensures) (w .if1 .left)
+    (used-part (a .user .now) (a .used)) _ (zeros 256) (j .rejudge .ensures .1 .0) (j .rejudge .ensures .1 .1) (c .faulted .ensures)
 
 pub judge-spec : {M : Type 1} → statement M
 judge-spec =
@@ -75,11 +81,9 @@ judge-spec =
     (λ c κs. search needs)
     (λ c. search needs)
     (λ c. search needs)
-    sub-own
+    (λ c κs. let k = c .before in ordered (present k .present .ensures) (k .checked2 .given .1))
     (λ c κs. search needs)
     returns
-    (λ c κs. search needs)
-    returns-2
     (λ c. search needs)
     (λ c. search needs)
     part-sheet-end
@@ -87,8 +91,9 @@ judge-spec =
     (λ c. search needs)
     (λ c. search needs)
     rejudge-requires
+    sub-own
     (λ c κs. search needs)
-    returns-3
+    (λ c. sheets-stop _ _ _ _ _ (c .before .before .before .before .before .present .ensures) (c .before .checked .given .1))
     (λ c. search needs)
     (λ c. search needs)
-    returns-4)
+    returns-3)
