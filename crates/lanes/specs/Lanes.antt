@@ -9,7 +9,13 @@ use mathlib.Core.List.{List, [], _∷_, List·Memᴰ}
 use mathlib.Core.Logic.{_⊎_}
 use Prim.Native.Nat.{ℕ, zero, suc, _+_, _*_, _-_, _≤_, _<_}
 use lib.Dec.{eqb, ltb}
-use lib.ListN.{getD, set}
+use lib.ListN.{length, getD, set}
+
+-- a lane has room for the n classes, and the row for that many lanes
+pub record Room (n lanes : ℕ) (row : List ℕ) : Type 0 where
+  pub few : n ≤ 256
+  pub lanes-few : lanes ≤ 256
+  pub long : lanes * 256 ≤ length row
 
 -- ---- enclosers
 

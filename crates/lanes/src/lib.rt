@@ -1,9 +1,9 @@
 // Rows of owners, 256 entries a lane, and how a class draws an owner from one other class. Dependents and captured variables are both found so.
 ghost use mathlib.Core.Path.{_≡_};
-ghost use Prim.Native.Nat.{_*_, _≤_, _<_};
+ghost use Prim.Native.Nat.{_≤_, _<_};
 ghost use mathlib.Core.List.{_++_};
 ghost use lib.ListN.{length, getD, drop, replicate};
-ghost use Rattle.lanes.specs.Lanes.{eitherOf, fitsRow, drawn, drew, drawnLanes, drewLanes, lanesOf, sweptOf};
+ghost use Rattle.lanes.specs.Lanes.{Room, eitherOf, fitsRow, drawn, drew, drawnLanes, drewLanes, lanesOf, sweptOf};
 
 fn wide(x: u8) -> usize
     ensures { λ r. ⌜ (r ≡ x) × (r < 256) ⌝ }
@@ -50,7 +50,8 @@ fn fits(marks: &[u8], y: usize) -> bool
 
 // Class m takes in lane k what t has there, if that is lower and fits m. Answers 0 where nothing changes, so that a search knows when to end.
 fn draw(marks: &[u8], n: usize, lanes: usize, k: usize, m: usize, t: usize, row: &mut [u8]) -> usize
-    requires { ⌜ (n ≤ 256) × (lanes ≤ 256) × (lanes * 256 ≤ length (now row)) × (256 ≤ length (now marks)) × (k < lanes) × (m < n) × (t < n) ⌝ }
+    requires { ⌜ Room n lanes (now row) ⌝ }
+    requires { ⌜ (256 ≤ length (now marks)) × (k < lanes) × (m < n) × (t < n) ⌝ }
     ensures row { λ r. ⌜ now (row .exit) ≡ drawn (now (marks .entry)) m t k (now (row .entry)) ⌝ }
     ensures answer { λ r. ⌜ r ≡ drew (now (marks .entry)) m t k (now (row .entry)) ⌝ }
 {
@@ -68,7 +69,8 @@ fn draw(marks: &[u8], n: usize, lanes: usize, k: usize, m: usize, t: usize, row:
 
 // The same in each lane. A record may name a class that is not there: nothing is drawn from it.
 pub fn draw_lanes(marks: &[u8], n: usize, lanes: usize, m: usize, t: usize, row: &mut [u8]) -> usize
-    requires { ⌜ (n ≤ 256) × (lanes ≤ 256) × (lanes * 256 ≤ length (now row)) × (256 ≤ length (now marks)) × (m < n) ⌝ }
+    requires { ⌜ Room n lanes (now row) ⌝ }
+    requires { ⌜ (256 ≤ length (now marks)) × (m < n) ⌝ }
     ensures row { λ r. ⌜ now (row .exit) ≡ drawnLanes (now (marks .entry)) m t (lanesOf n lanes t) (now (row .entry)) ⌝ }
     ensures answer { λ r. ⌜ r ≡ drewLanes (now (marks .entry)) m t (lanesOf n lanes t) (now (row .entry)) ⌝ }
 {

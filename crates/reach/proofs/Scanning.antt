@@ -16,7 +16,7 @@ use Rattle.records.proofs.Between.{tiled-end}
 use Rattle.records.proofs.Walks.{walk-here, walk-next}
 use Rattle.records.proofs.Nth.{nth-record}
 use Rattle.named.specs.Named.{firstNamed, secondNamed, namedBy}
-use Rattle.lanes.specs.Lanes.{Settled, Run, SettledAt, Enclosers, eitherOf}
+use Rattle.lanes.specs.Lanes.{Room, Settled, Run, SettledAt, Enclosers, eitherOf}
 use Rattle.lanes.proofs.Rows.{getD-any}
 use Rattle.lanes.proofs.Runs.{run-none, Offered}
 use Rattle.lanes.proofs.Drawing.{Drawn, offered}
@@ -69,16 +69,15 @@ Scans bytes marks builds m step outer = (step m ≡ namedIn builds (between byte
 
 pub record ScanAt (bytes marks : List ℕ) (builds : Bool) (n lanes m : ℕ) (row₀ row : List ℕ) (a at : ℕ) : Type 0 where
   pub place : AtRecord bytes (length bytes) at
-  pub few : n ≤ 256
+  pub room : Room n lanes row₀
   pub there : m < n
-  pub room : lanes * 256 ≤ length row₀
   pub long : length row ≡ length row₀
   pub visit : (step : ℕ → List ℕ) (outer : ℕ → ℕ) → Scans bytes marks builds m step outer → VisitAt step outer n lanes m marks row₀ row (namedIn builds (between bytes at (length bytes))) a
 
 pub scan-start : {bytes marks : List ℕ} (builds : Bool) (n lanes m : ℕ) (row : List ℕ) → AtRecord bytes (length bytes) 0
-    → (n ≤ 256) × (lanes ≤ 256) × (lanes * 256 ≤ length row) × (length marks ≡ 256) × (m < n) → ScanAt bytes marks builds n lanes m row row 0 0
-scan-start {marks = marks} builds n lanes m row p z =
-    record { place = p; few = z .0; there = z .4; room = z .2; long = refl; visit = λ step outer h. visit-start step outer n lanes m marks row (z .3) (h .1) _ (sym (h .0)) }
+    → Room n lanes row → (length marks ≡ 256) × (m < n) → ScanAt bytes marks builds n lanes m row row 0 0
+scan-start {marks = marks} builds n lanes m row p r z =
+    record { place = p; room = r; there = z .1; long = refl; visit = λ step outer h. visit-start step outer n lanes m marks row (z .0) (h .1) _ (sym (h .0)) }
 
 module _ {bytes marks : List ℕ} {builds : Bool} {n lanes m : ℕ} {row₀ row : List ℕ} {a at : ℕ} (f : ScanAt bytes marks builds n lanes m row₀ row a at) where
   pub scan-next : {row₁ row₂ : List ℕ} {t u l b c x y : ℕ} → at < length bytes → t ≡ firstNamed builds (recordAt bytes at) → Drawn marks n lanes m t row row₁ b → x ≡ eitherOf a b
@@ -89,9 +88,8 @@ module _ {bytes marks : List ℕ} {builds : Bool} {n lanes m : ℕ} {row₀ row 
       rw el
       (record {
         place = walk-next (f .place) h;
-        few = f .few;
-        there = f .there;
         room = f .room;
+        there = f .there;
         long = q′ ∙ q ∙ f .long;
         visit = λ step outer r.
             visit-next
@@ -103,7 +101,7 @@ module _ {bytes marks : List ℕ} {builds : Bool} {n lanes m : ℕ} {row₀ row 
       })
     where
       from : (s : List ℕ) → length s ≡ length row₀ → {t b : ℕ} {s′ : List ℕ} → Drawn marks n lanes m t s s′ b → Offered marks n lanes m t (λ j. j < lanes) s s′ b
-      from s l d = offered (f .few) (f .there) s (omega (arith, f .room, l)) d
+      from s l d = offered (f .room .few) (f .there) s (omega (arith, f .room .long, l)) d
 
   pub scan-end : length bytes ≤ at → Scanned bytes marks builds n lanes m row₀ row a
   scan-end h = record { run = λ step outer e g. visit-end (f .visit step outer (e, g)) (ap (namedIn builds) (tiled-end bytes at (length bytes) h) ∙ named-nil builds) }

@@ -17,12 +17,12 @@ use records::word_in;
 ghost use mathlib.Core.Path.{_≡_};
 ghost use mathlib.Core.Option.{none};
 ghost use mathlib.Core.List.{[], _∷_};
-ghost use Prim.Native.Nat.{ℕ, _*_, _≤_, _<_};
+ghost use Prim.Native.Nat.{ℕ, _≤_, _<_};
 ghost use lib.ListN.{length};
 ghost use Rattle.spec.specs.Sheet.{Group, group as groupOf};
 ghost use Rattle.spec.specs.Refusals.{formRefusal};
 ghost use Rattle.groups.specs.Groups.{Indexed};
-ghost use Rattle.lanes.specs.Lanes.{markedUp, Run, SettledAt, AllSettled, SeedsFit, Least};
+ghost use Rattle.lanes.specs.Lanes.{Room, markedUp, Run, SettledAt, AllSettled, SeedsFit, Least};
 ghost use Rattle.reach.specs.Reach.{namedIn, stepsOf, outerOf, Scanned, Content, dependentRow};
 ghost use Rattle.records.specs.Records.{between, AtRecord};
 
@@ -62,7 +62,8 @@ fn scan(
     row: &mut [u8],
 ) -> usize
     requires { ⌜ AtRecord (now bytes) (length (now bytes)) 0 ⌝ }
-    requires { ⌜ (n ≤ 256) × (lanes ≤ 256) × (lanes * 256 ≤ length (now row)) × (length (now marks) ≡ 256) × (m < n) ⌝ }
+    requires { ⌜ Room n lanes (now row) ⌝ }
+    requires { ⌜ (length (now marks) ≡ 256) × (m < n) ⌝ }
     ensures { λ r. ⌜ Scanned (now (bytes .entry)) (now (marks .entry)) builds n lanes m (now (row .entry)) (now (row .exit)) r ⌝ }
 {
     let mut at = 0;
@@ -86,7 +87,8 @@ fn scan(
 
 // Whether class t has in some lane a lower owner than m. A class that is not there has none.
 fn has_lower(row: &[u8], n: usize, lanes: usize, m: usize, t: usize) -> bool
-    requires { ⌜ (n ≤ 256) × (lanes ≤ 256) × (lanes * 256 ≤ length (now row)) × (m < n) ⌝ }
+    requires { ⌜ Room n lanes (now row) ⌝ }
+    requires { ⌜ m < n ⌝ }
     ensures { λ r. ⌜ Content (now (row .entry)) n lanes m (t ∷ []) r ⌝ }
 {
     if n <= t {
@@ -105,7 +107,8 @@ fn has_lower(row: &[u8], n: usize, lanes: usize, m: usize, t: usize) -> bool
 // Whether class m, whose bytes these are, names a class that has in some lane a lower owner.
 fn wants(bytes: &[u8], n: usize, builds: bool, lanes: usize, m: usize, row: &[u8]) -> bool
     requires { ⌜ AtRecord (now bytes) (length (now bytes)) 0 ⌝ }
-    requires { ⌜ (n ≤ 256) × (lanes ≤ 256) × (lanes * 256 ≤ length (now row)) × (m < n) ⌝ }
+    requires { ⌜ Room n lanes (now row) ⌝ }
+    requires { ⌜ m < n ⌝ }
     ensures { λ r. ⌜ Content (now (row .entry)) n lanes m (namedIn builds (between (now (bytes .entry)) 0 (length (now (bytes .entry))))) r ⌝ }
 {
     let mut at = 0;
@@ -136,7 +139,8 @@ fn visit<'a>(
     ghost { ℕ → Group }
     requires { λ g. ⌜ groupOf (now library) (now user) ≡ g ⌝ }
     requires { λ g. ⌜ Indexed (now library) (now user) (classes .library) (classes .all) (now starts) ⌝ }
-    requires { λ g. ⌜ (m < classes .all) × (lanes ≤ 256) × (lanes * 256 ≤ length (now row)) ⌝ }
+    requires { λ g. ⌜ Room (classes .all) lanes (now row) ⌝ }
+    requires { λ g. ⌜ m < classes .all ⌝ }
     ensures { λ g r. ⌜ Run (stepsOf g builds) (outerOf g) (classes .all) lanes
         (SettledAt (stepsOf g builds) (outerOf g) (classes .all) lanes m) (now (row .entry)) (now (row .exit)) r ⌝ }
 {
@@ -178,7 +182,7 @@ fn sweep<'a>(
     ghost { ℕ → Group }
     requires { λ g. ⌜ groupOf (now library) (now user) ≡ g ⌝ }
     requires { λ g. ⌜ Indexed (now library) (now user) (classes .library) (classes .all) (now starts) ⌝ }
-    requires { λ g. ⌜ (lanes ≤ 256) × (lanes * 256 ≤ length (now row)) ⌝ }
+    requires { λ g. ⌜ Room (classes .all) lanes (now row) ⌝ }
     ensures { λ g r. ⌜ Run (stepsOf g builds) (outerOf g) (classes .all) lanes
         (AllSettled (stepsOf g builds) (outerOf g) (classes .all) lanes) (now (row .entry)) (now (row .exit)) r ⌝ }
 {
@@ -206,7 +210,7 @@ pub fn close<'a>(
     ghost { ℕ → Group }
     requires { λ g. ⌜ groupOf (now library) (now user) ≡ g ⌝ }
     requires { λ g. ⌜ Indexed (now library) (now user) (classes .library) (classes .all) (now starts) ⌝ }
-    requires { λ g. ⌜ (lanes ≤ 256) × (lanes * 256 ≤ length (now row)) ⌝ }
+    requires { λ g. ⌜ Room (classes .all) lanes (now row) ⌝ }
     requires { λ g. ⌜ SeedsFit (outerOf g) (classes .all) lanes (now row) ⌝ }
     ensures { λ g r. ⌜ Least (stepsOf g builds) (outerOf g) (classes .all) lanes (now (row .entry)) (now (row .exit)) ⌝ }
 {

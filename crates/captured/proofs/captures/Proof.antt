@@ -33,8 +33,13 @@ close-requires c κs =
     let p = c .before .before .before .before .before .before .before .before .before .before .before .before .before .before .pre in
     let e = emptied (c .before .before .before .before .before .before .before .before .before .before .before .before .before .before .args .row .now) (p .1 .1 .1)
     (c .before .before .before .before .before .before .before .fill .ensures) in
-    let f = c .before .before .before .seed .ensures in
-    (p .0, (omega (arith, p .1 .1 .1, e .long, f .long), captures-fit (p .0) (p .1 .0) e f))
+    let f = c .before .before .before .seed .ensures in (
+      p .0,
+      (
+        record { few = p .0 .few; lanes-few = omega arith; long = omega (arith, p .1 .1 .1, e .long, f .long) },
+        captures-fit (p .0) (p .1 .0) e f,
+      ),
+    )
 
 same-length : tie.Need-same-length
 same-length c = search needs

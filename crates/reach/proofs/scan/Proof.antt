@@ -19,7 +19,7 @@ abbrev μ-loop : tie.MeasureT-loop
 μ-loop bytes marks n builds lanes m row₀ at₀ added₀ row at added = length bytes - at
 
 loop-holds : tie.Need-loop-holds Inv-loop μ-loop
-loop-holds c = scan-start _ _ _ _ _ (c .before .before .before .pre .0) (c .before .before .before .pre .1)
+loop-holds c = let p = c .before .before .before .pre in scan-start _ _ _ _ _ (p .0) (p .1 .0) (p .1 .1)
 
 first-named-requires : tie.Need-first-named-requires Inv-loop μ-loop
 first-named-requires c κs = (walk-sized (c .before .loop .inv .place) (c .loop-test .taken), c .before .loop .inv .place .small)

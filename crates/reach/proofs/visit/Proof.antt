@@ -14,8 +14,7 @@ slice-read-if2 : tie.Need-slice-read-if2
 slice-read-if2 c = search needs
 
 returns : tie.Need-returns
-returns c = visit-marked _ (c .before .before .if1 .taken) (omega
-    (arith, c .before .before .before .before .before .before .before .pre .1, c .before .before .before .before .before .before .before .pre .0 .few)) (c .if2 .taken)
+returns c = visit-marked _ (c .before .before .if1 .taken) (omega (arith, c .before .before .before .before .before .before .before .pre .1)) (c .if2 .taken)
 
 returns-2 : tie.Need-returns-2
 returns-2 c = rw (c .before .before .if3 .taken) (visit-none _ _ (omega (arith, c .before .before .before .before .before .before .before .before .pre .0 .few))
@@ -46,7 +45,7 @@ slice-aggregate-enclosers c = search needs
 enclosers-requires : tie.Need-enclosers-requires
 enclosers-requires c κs =
     let p = c .before .before .before .before .before .before .before .before .before .before .before .before .pre in
-    (p .0, (p .1 .0, omega (arith, p .1 .0, p .0 .few)))
+    (p .0, (p .1 .1, omega (arith, p .1 .1, p .1 .0 .few)))
 
 slice-aggregate-scan : tie.Need-slice-aggregate-scan
 slice-aggregate-scan c = search needs
@@ -54,8 +53,7 @@ slice-aggregate-scan c = search needs
 scan-requires : tie.Need-scan-requires
 scan-requires c κs = let p = c .before .before .before .before .before .before .before .before .before .before .before .before .before .before .before .before .pre in (
   c .before .before .before .before .before .before .before .before .before .class-bytes .ensures .place,
-  omega
-      (arith, p .0 .few, p .1, c .before .before .before .enclosers .kept .1 .1 .1 .1 .1 .0),
+  omega (arith, p .1, c .before .before .before .enclosers .kept .1 .1 .1 .1 .1 .0),
 )
 
 same-length-2 : tie.Need-same-length-2
@@ -66,7 +64,7 @@ returns-5 c =
     let marked = c .before .before .before .before .before .before in
     let read = marked .before .before .before .before .before .before in
     let p = read .before .before .before .before .before .before .before .pre in
-    scanned _ (c .before .before .scan .ensures) (read .class-bytes .ensures) (marks-enclosers 256 (omega (arith, p .1 .0, p .0 .few)) (marked .enclosers .ensures))
+    scanned _ (c .before .before .scan .ensures) (read .class-bytes .ensures) (marks-enclosers 256 (omega (arith, p .1 .1, p .1 .0 .few)) (marked .enclosers .ensures))
 
 pub visit-spec : {M : Type 1} → statement M
 visit-spec =
