@@ -3,14 +3,14 @@
 use mathlib.Core.Path.{_≡_, refl, sym, ap, _∙_}
 use mathlib.Core.Bool.{Bool, true, false, not, _&&_, _||_, and-false, or-false}
 use mathlib.Core.List.{List}
-use Prim.Native.Nat.{ℕ, _/_, _%_, _^_, _≤_, _<_}
+use Prim.Native.Nat.{ℕ, _/_, _%_, _^_, _≤_}
 use native.Mathlib.Omega.{arith}
 use lib.Dec.{eqb, ltb}
-use borrow.Author.Tests.{eq-eqb, ne-eqb, lt-ltb, le-ltb}
+use borrow.Author.Tests.{eq-eqb, ne-eqb, le-ltb}
 use Rattle.spec.specs.Record.{bit}
 use Rattle.spec.specs.Sheet.{Group}
 use Rattle.spec.specs.Classes.{fieldSlot}
-use Rattle.slots.specs.Slots.{ruleMarker, slotFits, rootBreaks, fixedBreaks, baseBreaks, fieldBreaks, headSlots, FieldSet}
+use Rattle.slots.specs.Slots.{ruleMarker, slotFits, rootBreaks, baseBreaks, fieldBreaks, headSlots, FieldSet}
 use Rattle.slots.proofs.Sets.{twice}
 use Rattle.breaks.specs.Breaking.{FieldBreaks, headBreaks}
 

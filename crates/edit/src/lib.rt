@@ -47,7 +47,7 @@ fn shift(buffer: &mut [u8], from: usize, to: usize, n: usize)
 }
 
 // Copies the group to a place.
-pub fn copy(buffer: &mut [u8], to: usize, group: &[u8])
+fn copy(buffer: &mut [u8], to: usize, group: &[u8])
     requires { ⌜ to + length (now group) ≤ length (now buffer) ⌝ }
     ensures { λ r. ⌜ now (buffer .exit) ≡ paste (now (buffer .entry)) to (now (group .entry)) (length (now (group .entry))) ⌝ }
 {
@@ -59,7 +59,7 @@ pub fn copy(buffer: &mut [u8], to: usize, group: &[u8])
 }
 
 // Makes the bytes from `from` up to `to` zero, none if `to` is not above.
-pub fn clear(buffer: &mut [u8], from: usize, to: usize)
+fn clear(buffer: &mut [u8], from: usize, to: usize)
     requires { ⌜ (from ≤ length (now buffer)) × (to ≤ length (now buffer)) ⌝ }
     ensures { λ r. ⌜ now (buffer .exit) ≡ paste (now (buffer .entry)) from (replicate (to - from) 0) (to - from) ⌝ }
 {

@@ -18,7 +18,7 @@ use Rattle.spec.specs.Promises.{Answer, refused, accepted, answerOf, Counts, co
 use Rattle.theory.specs.Claims.{sheetOf, Blames, size, torn, at, noClass, plain, BlamesEdit, present, made}
 use Rattle.laws.proofs.Bools.{not-or-l, not-or-r}
 use Rattle.laws.proofs.All.{All}
-use Rattle.theory.proofs.Cut.{concat-append, front-low}
+use Rattle.theory.proofs.Cut.{front-low}
 use Rattle.laws.proofs.Count.{step, count-none, count-more}
 use Rattle.theory.proofs.Answers.{first-none, first-some, first-append, skip-none, Gives, gives-first, if-none, plain-none}
 use Rattle.theory.proofs.Accept.{sound}

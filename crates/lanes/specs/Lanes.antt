@@ -14,7 +14,6 @@ use lib.ListN.{length, getD, set}
 -- a lane has room for the n classes, and the row for that many lanes
 pub record Room (n lanes : ℕ) (row : List ℕ) : Type 0 where
   pub few : n ≤ 256
-  pub lanes-few : lanes ≤ 256
   pub long : lanes * 256 ≤ length row
 
 -- ---- enclosers

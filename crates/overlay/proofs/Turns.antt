@@ -6,7 +6,7 @@ use Prim.Native.Nat.{ℕ, _+_, _≤_, _<_, min, max}
 use native.Mathlib.Nat.{le-refl}
 use native.Mathlib.Omega.{arith}
 use lib.ListN.{length, set}
-use Rattle.spec.specs.Sheet.{Group, group, total}
+use Rattle.spec.specs.Sheet.{Group, total}
 use Rattle.groups.specs.Groups.{Indexed}
 use Rattle.overlay.specs.Memo.{raw, memoOf, Knows}
 use Rattle.overlay.proofs.Memos.{memo-length, memo-asks, memo-asked}

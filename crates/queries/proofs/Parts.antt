@@ -6,17 +6,14 @@ use mathlib.Core.List.{List, [], map}
 use mathlib.Core.Option.{none}
 use Prim.Native.Nat.{ℕ, _+_, _-_, _≤_, _<_}
 use native.Mathlib.Omega.{arith}
-use lib.Dec.{leb, ltb}
+use lib.Dec.{ltb}
 use lib.ListN.{length, take, drop, length-take}
-use borrow.Author.Tests.{leb-false}
 use Rattle.spec.specs.Lists.{span}
 use Rattle.spec.specs.Record.{u16}
 use Rattle.spec.specs.Sheet.{classCount, total, group, classRecord, groupStart}
-use Rattle.spec.specs.Refusals.{refusePlain, presentRefusal, unusedRefusal, queryRefusal}
+use Rattle.spec.specs.Refusals.{queryRefusal}
 use Rattle.spec.specs.Promises.{Part, namePart, bytesAt, noPart, afterwards, Places, Names}
 use Rattle.theory.specs.Claims.{sheetOf}
-use Rattle.laws.proofs.Bools.{t-false}
-use Rattle.theory.proofs.Answers.{first-none, if-none}
 use Rattle.groups.specs.Groups.{Indexed, sheetNumber, startOf}
 use Rattle.groups.proofs.Held.{library-sheet, user-sheet, size-read, class-room, class-long, end-small, group-tiled}
 use Rattle.form.specs.declared.Refusal.{Refusal}

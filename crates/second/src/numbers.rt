@@ -254,7 +254,13 @@ pub fn other_number(
         return implements_number(heads, classes, c, t);
     }
     if kind == USES {
-        return uses_number(heads, marks, classes, t, wide(word_in(bytes, at + INDEX_AT)));
+        return uses_number(
+            heads,
+            marks,
+            classes,
+            t,
+            wide(word_in(bytes, at + INDEX_AT)),
+        );
     }
     if kind == REFERS {
         return refers_number(heads, classes, t, wide(word_in(bytes, at + INDEX_AT)));

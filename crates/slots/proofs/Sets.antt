@@ -9,7 +9,6 @@ use native.Mathlib.Omega.{arith}
 use lib.Dec.{eqb, ltb}
 use lib.ListN.{getD}
 use borrow.Author.Tests.{eq-eqb, ne-eqb}
-use Rattle.spec.specs.Lists.{any}
 use Rattle.spec.specs.Record.{u16, bit}
 use Rattle.spec.specs.Sheet.{Group}
 use Rattle.spec.specs.Markers.{union}

@@ -19,5 +19,16 @@ use Rattle.spec.specs.Verdicts.{verdictAt, userVerdict, faulted, faulted
 use Rattle.spec.specs.Promises.{answerOf, afterwards, cleared, countsOf, judgedRow, bufferWith, edited, addition, replacement, bytesAt, namePart}
 
 unfoldable pub evaluation : Unit {0}
-unfolding any all keep concat count numbered onlyIf firstOf gather elem sameList span ascending lowest fresh rounds reach u8 u16 bit kind byKind flags ownMarkers zeroByte superclass encloser className target index tyAt fieldTy localTy isFinal isTransient isStatic unlessNone tyReferences references kindFits withName lengthFits nameFits tyFits classFlagsFit bodyFits wholeFirst recordsIn recordsOf wholeEnd splitGroups groupsOf classCount groupStart total group classRecord groupReferences ofKind isInterface isInner isAllowed isStaticField isInstanceField locate locatedIn located markers gives implies isClosed contains union unionAll closures closure sets singles isLeastIn clash superclasses enclosing targets supertypes locals localAt usedIndexes classTy fieldSlot encloserSlot variableSlot gathered overlay hasMarker satisfies enclosersIn enclosers inside buildsInside capturedOf captured encloserSlots fieldSlots capturedSlots ownSlots lineageIn lineage rootIn root slots slotFault faultIf faultsAt memberAllowed judgedFor rootFits baseFits baseFaults forbidden slotFaults rootFaults rule1 rule2 rule3 rule4 rule5 rule6 rule7 rule8 rule9 rule10 rules placeIn firstBroken verdictOf dependencies refuseIf refusePlain refuseRecord sizeRefusal tornRefusal recordTests recordRefusal noClassRefusal noSuchClass encloserFits noSuchIndex superclassFits implementsFits usesFits nameMet formTests deemedTests formRefusal deemedRefusal sheetRefusal newRefusal presentRefusal shortRefusal noUserRefusal unusedRefusal oneClass wholeGroup groupRefusal roomRefusal addedSheet replacedSheet judgeRefusal addRefusal replaceRefusal queryRefusal judgeNumbers addNumbers replaceNumbers queryNumbers verdictAt userVerdict faulted faultedCount dependsOn dependentCount flatLines flatAt bytesOf mapFrom flatByte flatRewritten answerOf afterwards cleared countsOf judgedRow bufferWith edited addition replacement bytesAt namePart
+unfolding any all keep concat count numbered onlyIf firstOf gather elem sameList span ascending lowest fresh rounds reach u8 u16 bit kind byKind flags ownMarkers zeroByte
+    superclass encloser className target index tyAt fieldTy localTy isFinal isTransient isStatic unlessNone tyReferences references kindFits withName lengthFits nameFits tyFits
+    classFlagsFit bodyFits wholeFirst recordsIn recordsOf wholeEnd splitGroups groupsOf classCount groupStart total group classRecord groupReferences ofKind isInterface isInner
+    isAllowed isStaticField isInstanceField locate locatedIn located markers gives implies isClosed contains union unionAll closures closure sets singles isLeastIn clash
+    superclasses enclosing targets supertypes locals localAt usedIndexes classTy fieldSlot encloserSlot variableSlot gathered overlay hasMarker satisfies enclosersIn enclosers
+    inside buildsInside capturedOf captured encloserSlots fieldSlots capturedSlots ownSlots lineageIn lineage rootIn root slots slotFault faultIf faultsAt memberAllowed judgedFor
+    rootFits baseFits baseFaults forbidden slotFaults rootFaults rule1 rule2 rule3 rule4 rule5 rule6 rule7 rule8 rule9 rule10 rules placeIn firstBroken verdictOf dependencies
+    refuseIf refusePlain refuseRecord sizeRefusal tornRefusal recordTests recordRefusal noClassRefusal noSuchClass encloserFits noSuchIndex superclassFits implementsFits usesFits
+    nameMet formTests deemedTests formRefusal deemedRefusal sheetRefusal newRefusal presentRefusal shortRefusal noUserRefusal unusedRefusal oneClass wholeGroup groupRefusal
+    roomRefusal addedSheet replacedSheet judgeRefusal addRefusal replaceRefusal queryRefusal judgeNumbers addNumbers replaceNumbers queryNumbers verdictAt userVerdict faulted
+    faultedCount dependsOn dependentCount flatLines flatAt bytesOf mapFrom flatByte flatRewritten answerOf afterwards cleared countsOf judgedRow bufferWith edited addition
+    replacement bytesAt namePart
 evaluation = tt

@@ -42,7 +42,7 @@ pub record VerdictRow : Type 1 where
   pub at : Row → ℕ → Verdict
   pub rewritten : (ℕ → Bool) → (ℕ → Verdict) → Row → Row
 
--- ---- the flat row: "rule then place", two bytes a user class; an odd last byte belongs to no verdict
+-- ---- the flat row: "rule then place", `verdictBytes` bytes a user class; bytes after the last whole verdict belong to none
 
 abbrev pub verdictBytes : ℕ
 verdictBytes = 2
@@ -61,7 +61,7 @@ unfoldable pub mapFrom : (ℕ → ℕ → ℕ) → ℕ → List ℕ → List ℕ
 mapFrom f i [] = []
 mapFrom f i (x ∷ xs) = f i x ∷ mapFrom f (suc i) xs
 
--- byte j belongs to verdict j / 2
+-- byte j belongs to verdict j / verdictBytes
 unfoldable pub flatByte : (ℕ → Bool) → (ℕ → Verdict) → ℕ → ℕ → ℕ → ℕ
 flatByte changed v n j x =
     let i = j / verdictBytes in

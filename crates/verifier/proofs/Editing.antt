@@ -4,32 +4,25 @@ use mathlib.Core.Path.{_≡_, refl, sym, ap, ap₂, _∙_}
 use mathlib.Core.Bool.{Bool, true, false, _&&_}
 use mathlib.Core.List.{List, _++_}
 use mathlib.Core.Option.{Option, none, some}
-use Prim.Native.Nat.{ℕ, _+_, _-_, _/_, _≤_, _<_}
-use native.Mathlib.Decide.{ℕ-discrete}
+use Prim.Native.Nat.{ℕ, _+_, _-_, _≤_, _<_}
 use native.Mathlib.Omega.{arith}
 use lib.Dec.{eqb, ltb}
 use lib.ListN.{length, getD, take, drop, replicate}
 use lib.Seq.{take-at}
 use borrow.Author.Tests.{ne-eqb, le-ltb, ltb-true, ltb-false}
 use Rattle.spec.specs.Lists.{count, span}
-use Rattle.spec.specs.Sheet.{groupsOf, classCount, total, group}
+use Rattle.spec.specs.Sheet.{classCount, total, group}
 use Rattle.spec.specs.Rules.{Verdict, verdictOf}
 use Rattle.spec.specs.Verdicts.{verdictAt, userVerdict, flatLines, flatRewritten, flat, dependsOn}
 use Rattle.spec.specs.Refusals.{Refusal}
 use Rattle.spec.specs.Promises.{Answer, answerOf, afterwards, refused, accepted, cleared, bufferWith, State, Edit, edited, Makes}
-use Rattle.theory.proofs.Answers.{first-some, skip-none, first-none}
-use Rattle.theory.proofs.Accept.{Sound, sound}
-use Rattle.theory.proofs.Cut.{IsGroup, sheet-grouped, sheet-groups}
-use Rattle.theory.proofs.New.{new-sheets, added-count}
 use Rattle.theory.proofs.FlatRow.{rewritten-same}
 use Rattle.laws.proofs.Count.{count-same}
 use Rattle.view.specs.View.{spliced}
-use Rattle.view.proofs.Splice.{added}
-use Rattle.lanes.proofs.Filling.{getD-replicate}
-use Rattle.admit.specs.Admitting.{admitRefusal, Plain}
+use Rattle.admit.specs.Admitting.{admitRefusal}
 use Rattle.admit.proofs.Turning.{Admitted}
 use Rattle.flat.specs.Row.{chosen, markedIn}
-use Rattle.queries.proofs.Asking.{used-there, answer-refused, answer-fine}
+use Rattle.queries.proofs.Asking.{answer-refused, answer-fine}
 use Rattle.view.specs.declared.Cut.{Cut}
 use Rattle.verifier.specs.Changing.{touches, Touched, putting}
 use Rattle.verifier.proofs.Verdicts.{kept-refused, new-fine}

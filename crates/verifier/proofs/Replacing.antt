@@ -2,19 +2,18 @@
 -- Assumes nothing.
 use mathlib.Core.Path.{_≡_, refl, sym, ap, ap₂, _∙_}
 use mathlib.Core.Logic.{_⊎_, inl, inr}
-use mathlib.Core.Bool.{Bool, true, false, _&&_, _||_}
+use mathlib.Core.Bool.{Bool, true, false, _||_}
 use mathlib.Core.List.{List, [], _∷_, _++_, map}
 use mathlib.Core.Option.{Option, none, some}
-use Prim.Native.Nat.{ℕ, suc, _+_, _-_, _/_, _≤_, _<_}
+use Prim.Native.Nat.{ℕ, suc, _+_, _-_, _≤_, _<_}
 use native.Mathlib.Omega.{arith}
 use lib.Dec.{eqb, leb, ltb, nltb→le, nleb→lt}
-use lib.ListN.{length, getD, set, take, drop, length-take, List·getD-append}
+use lib.ListN.{length, getD, take, drop, length-take, List·getD-append}
 use lib.Seq.{take-take}
 use borrow.Author.Tests.{ne-eqb, lt-ltb, le-ltb, le-leb, lt-leb}
 use Rattle.spec.specs.Lists.{firstOf, concat, count, span}
 use Rattle.spec.specs.Sheet.{groupsOf, classCount, groupStart, total, group}
-use Rattle.spec.specs.Rules.{verdictOf}
-use Rattle.spec.specs.Verdicts.{userVerdict, flatLines, flatRewritten, flat, dependsOn, dependentCount}
+use Rattle.spec.specs.Verdicts.{flatLines, flat, dependsOn, dependentCount}
 use Rattle.spec.specs.Refusals.{Refusal, refuseIf, refusePlain, presentRefusal, noUserRefusal, replacedSheet, replaceRefusal}
 use Rattle.spec.specs.Promises.{Answer, answerOf, refused, State, Edit, Makes, replacement}
 use Rattle.laws.proofs.Rows.{length-values, getD-values}
@@ -29,9 +28,7 @@ use Rattle.groups.specs.Groups.{Indexed, startOf, endOf}
 use Rattle.groups.proofs.Held.{Held, in-user, group-tiled, class-there}
 use Rattle.groups.proofs.Few.{classes-ordered}
 use Rattle.reach.specs.Reach.{dependentRow}
-use Rattle.admit.specs.Admitting.{admitRefusal, Plain}
-use Rattle.admit.proofs.Turning.{Admitted}
-use Rattle.flat.specs.Row.{chosen, markedIn}
+use Rattle.admit.specs.Admitting.{admitRefusal}
 use Rattle.queries.proofs.Asking.{used-there, some-row}
 use Rattle.form.specs.declared.Refusal.{Refusal as Turned}
 use Rattle.form.specs.Form.{refusalOf}

@@ -4,14 +4,14 @@ use mathlib.Core.Path.{_≡_, refl, sym, ap, ap₂, _∙_}
 use mathlib.Core.Bool.{Bool, true, false, not, _&&_, _||_}
 use mathlib.Core.List.{List}
 use mathlib.Core.Option.{Option, none, some}
-use Prim.Native.Nat.{ℕ, _+_, _*_, _-_, _/_, _≤_, _<_, min}
+use Prim.Native.Nat.{ℕ, _+_, _-_, _/_, _≤_, _<_, min}
 use native.Mathlib.Omega.{arith}
 use lib.Dec.{T, eqb, ltb, lt→ltb, nltb→le}
 use lib.ListN.{length, getD, take}
 use borrow.Author.Tests.{lt-ltb, le-ltb, ltb-true, ltb-false}
 use Rattle.spec.specs.Sheet.{classCount, total, group}
 use Rattle.spec.specs.Rules.{Verdict, verdictOf}
-use Rattle.spec.specs.Verdicts.{verdictBytes, verdictAt, userVerdict, faulted, faultedCount, flatLines, flatAt, bytesOf, flatRewritten, flat}
+use Rattle.spec.specs.Verdicts.{verdictBytes, verdictAt, userVerdict, faulted, faultedCount, flatLines, flatAt, flatRewritten, flat}
 use Rattle.spec.specs.Refusals.{Refusal, scratchLength, refuseIf, refusePlain, shortRefusal, presentRefusal, judgeRefusal}
 use Rattle.spec.specs.Promises.{countsOf, afterwards, refused, accepted, cleared, judgedRow, Judges}
 use Rattle.theory.proofs.Answers.{first-past, first-some}

@@ -1,7 +1,6 @@
 -- Too few lines, else the scratch decides.
 -- Assumes nothing.
 use mathlib.Core.Path.{refl}
-use native.Mathlib.Omega.{arith}
 use borrow.Author.Needs.{needs}
 use borrow.Author.Tests.{lt-ltb, le-ltb}
 use Rattle.admit.proofs.short.Statement.{statement}

@@ -36,7 +36,7 @@ close-requires c κs =
     let f = c .before .before .before .seed .ensures in (
       p .0,
       (
-        record { few = p .0 .few; lanes-few = omega arith; long = omega (arith, p .1 .1 .1, e .long, f .long) },
+        record { few = p .0 .few; long = omega (arith, p .1 .1 .1, e .long, f .long) },
         captures-fit (p .0) (p .1 .0) e f,
       ),
     )

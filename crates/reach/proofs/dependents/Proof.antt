@@ -20,7 +20,7 @@ close-requires c κs =
     let f = emptied (c .before .before .before .before .before .before .before .before .before .args .row .now) (p .1 .1 .1) (c .before .before .before .fill .ensures) in (
       p .0,
       (
-        record { few = p .0 .few; lanes-few = omega arith; long = simp length-set (omega (arith, f .long, p .1 .1)) },
+        record { few = p .0 .few; long = simp length-set (omega (arith, f .long, p .1 .1)) },
         seeds-fit f (omega (arith, p .0 .few, p .1 .1)) (p .1 .1 .1) (λ h. omega arith) _ _ (p .0 .few),
       ),
     )

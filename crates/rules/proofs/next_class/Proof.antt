@@ -2,8 +2,7 @@
 -- Assumes nothing.
 use mathlib.Core.Path.{_∙_}
 use native.Mathlib.Omega.{arith}
-use Rattle.groups.proofs.Held.{class-long}
-use Rattle.records.proofs.Carried.{class-within, class-word-in}
+use Rattle.records.proofs.Carried.{class-word-in}
 use Rattle.rules.proofs.Stepping.{next-none, next-own, next-up}
 use borrow.Author.Needs.{needs}
 use Rattle.rules.proofs.next_class.Statement.{statement}

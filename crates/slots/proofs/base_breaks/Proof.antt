@@ -1,10 +1,6 @@
 -- The superclass is Selfless, or is class 0 and the flags are right.
 -- Assumes nothing.
-use mathlib.Core.Path.{_≡_, _∙_}
-use lib.ListN.{getD}
-use Rattle.spec.specs.Record.{u16}
 use Rattle.slots.proofs.Base.{base-selfless, base-other, base-zero}
-use denote.Ref.{now}
 use borrow.Author.Needs.{needs}
 use Rattle.slots.proofs.base_breaks.Statement.{statement}
 use Rattle.slots.proofs.base_breaks.Tie as tie

@@ -2,7 +2,6 @@
 -- Assumes nothing.
 use native.Mathlib.Omega.{arith}
 use Prim.Native.Nat.{_-_}
-use mathlib.Core.Path.{sym, _∙_}
 use Rattle.spec.specs.Sheet.{group as groupOf}
 use Rattle.survey.proofs.Lines.{Filling, fill-start, fill-next, fill-end, keeps-facts}
 use Rattle.survey.proofs.passes.Statement.{statement}

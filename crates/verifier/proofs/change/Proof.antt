@@ -1,11 +1,10 @@
 -- A refused group changes nothing; an admitted one is written, and what it touches is judged in the buffer.
 -- Assumes nothing.
-use mathlib.Core.Path.{_≡_, refl, sym, ap, _∙_}
+use mathlib.Core.Path.{_≡_, refl, _∙_}
 use mathlib.Core.List.{List}
-use Prim.Native.Nat.{ℕ, _-_, _≤_, _<_}
+use Prim.Native.Nat.{ℕ, _-_, _<_}
 use native.Mathlib.Omega.{arith}
 use lib.ListN.{length, take}
-use Rattle.spec.specs.Sheet.{group as groupOf}
 use Rattle.spec.specs.Verdicts.{flatLines}
 use Rattle.groups.specs.declared.Classes.{Classes}
 use Rattle.view.specs.View.{spliced}

@@ -1,7 +1,5 @@
 -- What `present` tells of the sheets, then every verdict.
 -- Assumes nothing.
-use mathlib.Core.List.{List}
-use Prim.Native.Nat.{ℕ}
 use native.Mathlib.Omega.{arith}
 use Rattle.lanes.proofs.Rows.{zeros}
 use Rattle.form.proofs.Accepting.{told, ordered, indexed, memo-is}

@@ -1,12 +1,6 @@
 -- The class's place, then the frame.
 -- Assumes nothing.
-use mathlib.Core.Path.{_≡_, sym, _∙_}
-use mathlib.Core.Option.{none}
-use mathlib.Core.List.{[], _∷_}
-use lib.ListN.{take}
-use Rattle.spec.specs.Lists.{firstOf}
-use Rattle.spec.specs.Refusals.{presentRefusal, noUserRefusal}
-use Rattle.verifier.specs.Changing.{cutAt}
+use mathlib.Core.Path.{sym, _∙_}
 use Rattle.verifier.proofs.Replacing.{found-none, found-some, replace-stopped, replace-puts, replace-made}
 use borrow.Author.Needs.{needs}
 use Rattle.verifier.proofs.replace.Statement.{statement}

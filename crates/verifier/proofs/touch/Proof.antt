@@ -1,8 +1,8 @@
 -- One mark, or those of a search.
 -- Assumes nothing.
-use mathlib.Core.Path.{ap, sym, _∙_}
+use mathlib.Core.Path.{ap}
 use native.Mathlib.Omega.{arith}
-use lib.ListN.{length, length-set}
+use lib.ListN.{length}
 use Rattle.verifier.proofs.Touching.{touched-one, touched-all}
 use borrow.Author.Needs.{needs}
 use Rattle.verifier.proofs.touch.Statement.{statement}
