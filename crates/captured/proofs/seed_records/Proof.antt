@@ -1,13 +1,15 @@
 -- `captured::seed_records`: record after record.
 -- Assumes nothing.
 use borrow.Author.Needs.{needs}
-use Prim.Native.Nat.{_-_}
+use Prim.Native.Nat.{_+_, _-_, _≤_, _<_}
 use mathlib.Core.Path.{_∙_}
+use mathlib.Core.List.{List·Memᴰ}
 use mathlib.Core.Logic.{⊎-elim}
 use native.Mathlib.Omega.{arith}
 use lib.ListN.{length}
 use Rattle.spec.specs.Record.{USES}
 use Rattle.spec.specs.Sheet.{group as groupOf}
+use Rattle.records.specs.Records.{Sized, recordAt}
 use Rattle.records.proofs.Between.{tiled-room}
 use Rattle.records.proofs.Walks.{walk-on}
 use Rattle.records.proofs.Positions.{walk-sized, room-of}
@@ -22,125 +24,97 @@ Inv-loop library user starts classes markers bytes m row₀ marks at₀ row at =
 abbrev μ-loop : tie.MeasureT-loop
 μ-loop library user starts classes markers bytes m row₀ marks at₀ row at = length bytes - at
 
-slice-aggregate-enclosers : tie.Need-slice-aggregate-enclosers Inv-loop μ-loop
-slice-aggregate-enclosers c = search needs
+-- ---- places: the start, the test of the loop, and of a record its kind and its owner
+
+abbrev entry : tie.After-marks Inv-loop μ-loop → tie.Start Inv-loop μ-loop
+entry c = c .before .before .before .before .before .before .before
+
+abbrev start : tie.At-loop Inv-loop μ-loop → tie.Start Inv-loop μ-loop
+start c = entry (c .before .before .before)
+
+abbrev tested : tie.After-word-in2 Inv-loop μ-loop → tie.In-loop Inv-loop μ-loop
+tested c = c .before .before .before
+
+abbrev sorted : tie.After-wide2 Inv-loop μ-loop → tie.After-word-in2 Inv-loop μ-loop
+sorted c = c .before .before .before
+
+abbrev owned : tie.After-wide3 Inv-loop μ-loop → tie.After-wide2 Inv-loop μ-loop
+owned c = c .before .before
+
+-- ---- what is known of a record
+
+sized : (c : tie.In-loop Inv-loop μ-loop) → Sized (start (c .before) .args .bytes .now) (c .before .loop .at)
+sized c = walk-sized (c .before .loop .inv .place) (c .loop-test .taken)
+
+member : (c : tie.In-loop Inv-loop μ-loop) → let a = start (c .before) .args in
+    List·Memᴰ (recordAt (a .bytes .now) (c .before .loop .at)) (groupOf (a .library .now) (a .user .now) (a .m))
+member c = seed-member (c .before .loop .inv) (c .loop-test .taken)
+
+room : (c : tie.Then1 Inv-loop μ-loop) → let w = tested (c .before) .before in w .loop .at + 8 ≤ length (start w .args .bytes .now)
+room c = omega (arith, room-of (sized (tested (c .before))) (c .before .word-in2 .ensures) USES (c .if1 .taken))
+
+owner : (c : tie.After-wide2 Inv-loop μ-loop) → c .wide2 .result < start (tested (sorted c) .before) .args .classes .all
+owner c =
+    let k = sorted c in
+    let w = tested k in
+    let s = start (w .before) in
+    owner-there (s .pre .0) (s .pre .1 .0) (s .args .m) (sized w) (member w) (k .word-in2 .ensures) (c .before .before .if1 .taken) (c .wide2 .ensures .0) (c .before .word-in3 .ensures)
+
+-- ---- the needs
 
 enclosers-requires : tie.Need-enclosers-requires Inv-loop μ-loop
-enclosers-requires c κs = let p = c .before .before .before .before .before .before .before .pre in (p .0, (p .1 .1 .1 .1 .0, omega (arith, p .1 .1 .1 .1 .0, p .0 .few)))
+enclosers-requires c κs = let p = entry c .pre in (p .0, (p .1 .1 .1 .1 .0, omega (arith, p .1 .1 .1 .1 .0, p .0 .few)))
 
 loop-holds : tie.Need-loop-holds Inv-loop μ-loop
-loop-holds c = seed-start (c .before .before .before .before .before .before .before .before .before .pre .1 .1 .1 .0) _
-
-word-in-requires : tie.Need-word-in-requires Inv-loop μ-loop
-word-in-requires c κs = omega (arith, tiled-room (c .before .loop .inv .place .tiled) (c .loop-test .taken))
-
-wide-requires : tie.Need-wide-requires Inv-loop μ-loop
-wide-requires c κs = search needs
-
-add-word-in : tie.Need-add-word-in Inv-loop μ-loop
-add-word-in c = omega (arith, c .before .before .before .loop .inv .place .small)
-
-word-in-requires-2 : tie.Need-word-in-requires-2 Inv-loop μ-loop
-word-in-requires-2 c κs = omega (arith, tiled-room (c .before .before .before .loop .inv .place .tiled) (c .before .before .loop-test .taken))
-
-add-word-in-2 : tie.Need-add-word-in-2 Inv-loop μ-loop
-add-word-in-2 c = omega (arith, c .before .before .before .before .before .loop .inv .place .small)
-
-word-in-requires-3 : tie.Need-word-in-requires-3 Inv-loop μ-loop
-word-in-requires-3 c κs = omega (
-  arith,
-  room-of (walk-sized (c .before .before .before .before .before .loop .inv .place) (c .before .before .before .before .loop-test .taken))
-      (c .before .word-in2 .ensures) USES (c .if1 .taken),
-)
-
-wide-requires-2 : tie.Need-wide-requires-2 Inv-loop μ-loop
-wide-requires-2 c κs = search needs
-
-add-word-in-3 : tie.Need-add-word-in-3 Inv-loop μ-loop
-add-word-in-3 c = omega (arith, c .before .before .before .before .before .before .before .loop .inv .place .small)
-
-word-in-requires-4 : tie.Need-word-in-requires-4 Inv-loop μ-loop
-word-in-requires-4 c κs = omega (
-  arith,
-  room-of (walk-sized (c .before .before .before .before .before .before .before .loop .inv .place)
-      (c .before .before .before .before .before .before .loop-test .taken)) (c .before .before .before .word-in2 .ensures) USES (c .before .before .if1 .taken),
-)
-
-wide-requires-3 : tie.Need-wide-requires-3 Inv-loop μ-loop
-wide-requires-3 c κs = search needs
+loop-holds c = seed-start (entry (c .before .before) .pre .1 .1 .1 .0) _
 
 variable-markers-requires : tie.Need-variable-markers-requires Inv-loop μ-loop
 variable-markers-requires c κs =
-    let s = c .before .before .before .before .before .before .before .before .before .before .before .before .before .before .before .before .before .before .before in
-    let p = s .pre in
-    let f = c .before .before .before .before .before .before .before .before .before .loop .inv in
-    let low = c .before .before .before .before .before .before .before .before .loop-test .taken in
-    let z = walk-sized (f .place) low in
-    let e = seed-member f low in (
+    let d = owned c in
+    let k = sorted d in
+    let w = tested k in
+    let s = start (w .before) in
+    let p = s .pre in (
       p .0,
       (
         p .1 .1 .0,
         (
-          owner-there (p .0) (p .1 .0) (s .args .m) z e (c .before .before .before .before .before .word-in2 .ensures) (c .before .before .before .before .if1 .taken)
-              (c .before .before .wide2 .ensures .0) (c .before .before .before .word-in3 .ensures),
-          variable-there (p .0) (p .1 .0) (s .args .m) z e
-              (c .before .before .before .before .before .word-in2 .ensures) (c .before .before .before .before .if1 .taken) (c .before .before .wide2 .ensures .0)
-              (c .before .before .before .word-in3 .ensures) (c .wide3 .ensures .0) (c .before .word-in4 .ensures),
+          owner d,
+          variable-there (p .0) (p .1 .0) (s .args .m) (sized w) (member w) (k .word-in2 .ensures) (d .before .before .if1 .taken) (d .wide2 .ensures .0) (d .before .word-in3 .ensures)
+              (c .wide3 .ensures .0) (c .before .word-in4 .ensures),
         ),
       ),
     )
 
-slice-aggregate-offer : tie.Need-slice-aggregate-offer Inv-loop μ-loop
-slice-aggregate-offer c = search needs
-
 offer-requires : tie.Need-offer-requires Inv-loop μ-loop
 offer-requires c κs =
-    let s = c .before .before .before .before .before .before .before .before .before .before .before .before .before .before .before .before .before .before .before .before .before .before in
-    let p = s .pre in
-    let f = c .before .before .before .before .before .before .before .before .before .before .before .before .loop .inv in
-    let low = c .before .before .before .before .before .before .before .before .before .before .before .loop-test .taken in
-    omega (
-      arith,
-      p .1 .1 .1 .1,
-      p .0 .few,
-      c .before .before .before .before .before .before .before .before .before .before .before .before .before .before .enclosers .kept .1 .1 .1 .1 .1 .0,
-      f .lowered .long,
-      owner-there (p .0) (p .1 .0) (s .args .m) (walk-sized (f .place) low) (seed-member f low) (c .before .before .before .before .before .before .before .before .word-in2 .ensures)
-          (c .before .before .before .before .before .before .before .if1 .taken) (c .before .before .before .before .before .wide2 .ensures .0)
-          (c .before .before .before .before .before .before .word-in3 .ensures),
-    )
-
-add-at : tie.Need-add-at Inv-loop μ-loop
-add-at c = omega (arith, c .before .before .before .before .before .loop .inv .place .small, c .before .before .wide .ensures .1)
+    let d = owned (c .before .before .before) in
+    let w = tested (sorted d) .before in
+    let p = start w .pre in
+    omega (arith, p .1 .1 .1 .1, p .0 .few, w .before .before .enclosers .kept .1 .1 .1 .1 .1 .0, w .loop .inv .lowered .long, owner d)
 
 loop-less : tie.Need-loop-less Inv-loop μ-loop
-loop-less c = omega (
-  arith,
-  walk-on (c .before .before .before .before .before .loop .inv .place) (c .before .before .before .before .loop-test .taken) .0,
-  c .before .before .wide .ensures .0,
-  c .before .before .before .word-in .ensures,
-)
+loop-less c =
+    let k = c .before in
+    let w = tested k in
+    omega (arith, walk-on (w .before .loop .inv .place) (w .loop-test .taken) .0, k .before .wide .ensures .0, k .before .before .word-in .ensures)
 
 loop-again : tie.Need-loop-again Inv-loop μ-loop
 loop-again c =
-    let start = c .before .before .before .before .before .before .before .before .before .before .before .before .before .before .before in
-    let p = start .pre in
-    let f = c .before .before .before .before .before .loop .inv in
-    let low = c .before .before .before .before .loop-test .taken in
-    let z = walk-sized (f .place) low in
-    let e = seed-member f low in
-    let kind = c .before .word-in2 .ensures in
-    let size = c .before .before .wide .ensures .0 ∙ c .before .before .before .word-in .ensures in
-    let right = marks-enclosers 256 (omega (arith, p .1 .1 .1 .1 .0, p .0 .few)) (c .before .before .before .before .before .before .before .enclosers .ensures) in
+    let k = c .before in
+    let w = tested k in
+    let s = start (w .before) in
+    let p = s .pre in
+    let f = w .before .loop .inv in
+    let low = w .loop-test .taken in
+    let size = k .before .wide .ensures .0 ∙ k .before .before .word-in .ensures in
+    let right = marks-enclosers 256 (omega (arith, p .1 .1 .1 .1 .0, p .0 .few)) (w .before .before .before .enclosers .ensures) in
     ⊎-elim
-    (λ w. seed-next f low
-    (record-uses (p .0) (p .1 .0) (start .args .m) z e kind (w .0 .taken) (w .2 .ensures .0) (w .1 .ensures) (w .4 .ensures .0)
-    (w .3 .ensures) (w .5 .ensures) right (w .8 .ensures)) (w .11) size)
-    (λ w. seed-next f low (record-other (p .0) (p .1 .0) (start .args .m) z e kind (w .0 .left) _) (w .1) size)
+    (λ u. seed-next f low
+    (record-uses (p .0) (p .1 .0) (s .args .m) (sized w) (member w) (k .word-in2 .ensures) (u .0 .taken) (u .2 .ensures .0) (u .1 .ensures) (u .4 .ensures .0) (u .3 .ensures) (u .5 .ensures)
+    right (u .8 .ensures)) (u .11) size)
+    (λ u. seed-next f low (record-other (p .0) (p .1 .0) (s .args .m) (sized w) (member w) (k .word-in2 .ensures) (u .0 .left) _) (u .1) size)
     (c .if1 .came)
-
-same-length : tie.Need-same-length Inv-loop μ-loop
-same-length c = c .before .loop .inv .lowered .long
 
 returns : tie.Need-returns Inv-loop μ-loop
 returns c = seed-end (c .before .loop .inv) (c .loop-test .left)
@@ -151,24 +125,24 @@ seed-records-spec =
     (tie.spec
     Inv-loop
     μ-loop
-    slice-aggregate-enclosers
+    (λ c. search needs)
     enclosers-requires
     loop-holds
-    word-in-requires
-    wide-requires
-    add-word-in
-    word-in-requires-2
-    add-word-in-2
-    word-in-requires-3
-    wide-requires-2
-    add-word-in-3
-    word-in-requires-4
-    wide-requires-3
+    (λ c κs. omega (arith, tiled-room (c .before .loop .inv .place .tiled) (c .loop-test .taken)))
+    (λ c κs. search needs)
+    (λ c. omega (arith, c .before .before .before .loop .inv .place .small))
+    (λ c κs. let w = c .before .before in omega (arith, tiled-room (w .before .loop .inv .place .tiled) (w .loop-test .taken)))
+    (λ c. omega (arith, tested (c .before) .before .loop .inv .place .small))
+    (λ c κs. omega (arith, room c))
+    (λ c κs. search needs)
+    (λ c. omega (arith, tested (sorted c) .before .loop .inv .place .small))
+    (λ c κs. omega (arith, room (c .before .before)))
+    (λ c κs. search needs)
     variable-markers-requires
-    slice-aggregate-offer
+    (λ c. search needs)
     offer-requires
-    add-at
+    (λ c. let k = c .before in omega (arith, tested k .before .loop .inv .place .small, k .before .wide .ensures .1))
     loop-less
     loop-again
-    same-length
+    (λ c. c .before .loop .inv .lowered .long)
     returns)

@@ -16,37 +16,43 @@ Inv-loop library user starts classes c memo₀ d₀ memo d = InTurn (groupOf lib
 abbrev μ-loop : tie.MeasureT-loop
 μ-loop library user starts classes c memo₀ d₀ memo d = c - d
 
+abbrev start : tie.At-loop Inv-loop μ-loop → tie.Start Inv-loop μ-loop
+start c = c .before .before .before .before .before
+
 loop-holds : tie.Need-loop-holds Inv-loop μ-loop
 loop-holds c = turn-begin (c .before .before .before .before .pre .1 .1 .1)
 
 gathered-requires : tie.Need-gathered-requires Inv-loop μ-loop
 gathered-requires c κs =
-    let p = c .before .before .before .before .before .before .before .pre in
-    (p .0, (p .1 .0, (omega arith, turn-asks (c .before .before .loop .inv) (omega (arith, p .0 .few)) (c .before .loop-test .taken))))
+    let w = c .before in
+    let p = start (w .before) .pre in
+    (p .0, (p .1 .0, (omega arith, turn-asks (w .before .loop .inv) (omega (arith, p .0 .few)) (w .loop-test .taken))))
 
 loop-again : tie.Need-loop-again Inv-loop μ-loop
 loop-again c =
-    let few = c .before .before .before .before .before .before .before .before .before .before .pre .0 .few in
-    turn-next (c .before .before .before .before .before .loop .inv) (omega arith) (c .before .before .before .before .loop-test .taken) (c .before .before .gathered .ensures .1)
+    let w = c .before .before .before .before in
+    turn-next (w .before .loop .inv) (omega (arith, start (w .before) .pre .0 .few)) (w .loop-test .taken) (c .before .before .gathered .ensures .1)
 
 overlay-requires : tie.Need-overlay-requires Inv-loop μ-loop
 overlay-requires c κs =
-    let p = c .before .before .before .before .before .before .before .pre in
+    let p = start (c .before .before) .pre in
     let f = classes-few (p .0) in
     (p .0, (p .1 .0, (p .1 .1 .0, turn-last (c .before .before .loop .inv) (omega arith) (omega arith) (omega arith))))
 
 same-length : tie.Need-same-length Inv-loop μ-loop
 same-length c =
-    let p = c .before .before .before .before .before .before .before .before .before .before .pre in
+    let o = c .before .before in
+    let w = o .before .before .before in
+    let p = start w .pre in
     let f = classes-few (p .0) in
-    ap length (c .before .before .overlay .ensures .1)
-    ∙ simp length-set (turn-long (c .before .before .before .before .before .loop .inv) (omega arith) (omega arith) ∙ sym (memo-length _ _ (p .1 .1 .1) (omega arith)))
+    ap length (o .overlay .ensures .1) ∙ simp length-set (turn-long (w .loop .inv) (omega arith) (omega arith) ∙ sym (memo-length _ _ (p .1 .1 .1) (omega arith)))
 
 returns : tie.Need-returns Inv-loop μ-loop
 returns c =
-    let few = c .before .before .before .before .before .before .before .before .before .before .pre .0 .few in
-    let e = c .before .before .overlay .ensures in
-    (e .0, turn-end (c .before .before .before .before .before .loop .inv) (omega arith) (omega arith) (e .1))
+    let o = c .before .before in
+    let w = o .before .before .before in
+    let few = start w .pre .0 .few in
+    (o .overlay .ensures .0, turn-end (w .loop .inv) (omega arith) (omega arith) (o .overlay .ensures .1))
 
 pub overlay-in-turn-spec : {M : Type 1} → statement M
 overlay-in-turn-spec =

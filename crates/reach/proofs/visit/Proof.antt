@@ -10,78 +10,69 @@ use borrow.Author.Needs.{needs}
 use Rattle.reach.proofs.visit.Statement.{statement}
 use Rattle.reach.proofs.visit.Tie as tie
 
-slice-read-if2 : tie.Need-slice-read-if2
-slice-read-if2 c = search needs
+-- ---- places: the start, the class's bytes, and its enclosers
+
+abbrev start : tie.After-class-bytes → tie.Start
+start c = c .before .before .before .before .before .before .before
+
+abbrev held : tie.After-enclosers → tie.After-class-bytes
+held c = c .before .before .before .before .before .before
+
+abbrev marked : tie.After-scan → tie.After-enclosers
+marked c = c .before .before .before .before
+
+-- ---- the needs
 
 returns : tie.Need-returns
-returns c = visit-marked _ (c .before .before .if1 .taken) (omega (arith, c .before .before .before .before .before .before .before .pre .1)) (c .if2 .taken)
+returns c = let t = c .before .before in visit-marked _ (t .if1 .taken) (omega (arith, t .before .before .before .before .before .pre .1)) (c .if2 .taken)
 
 returns-2 : tie.Need-returns-2
-returns-2 c = rw (c .before .before .if3 .taken) (visit-none _ _ (omega (arith, c .before .before .before .before .before .before .before .before .pre .0 .few))
-    (library-builds-none (c .before .before .before .before .before .before .before .before .pre .0) (c .if4 .taken)) _)
-
-class-bytes-requires : tie.Need-class-bytes-requires
-class-bytes-requires c κs = search needs
-
-nth-in-requires : tie.Need-nth-in-requires
-nth-in-requires c κs = search needs
+returns-2 c =
+    let t = c .before .before in
+    let x = t .before .before .before .before .before .before .pre .0 in
+    rw (t .if3 .taken) (visit-none _ _ (omega (arith, x .few)) (library-builds-none x (c .if4 .taken)) _)
 
 returns-3 : tie.Need-returns-3
-returns-3 c = rw (c .before .before .if5 .taken) (visit-none _ _ (omega (arith, c .before .before .before .before .before .before .before .before .before .before .pre .0 .few))
-    (none-there (c .before .before .before .class-bytes .ensures) BUILDS (c .before .nth-in .ensures) (c .if6 .taken)) _)
-
-wants-requires : tie.Need-wants-requires
-wants-requires c κs = search needs
-
-same-length : tie.Need-same-length
-same-length c = search needs
+returns-3 c =
+    let b = c .before .before .before in
+    rw (c .before .before .if5 .taken)
+    (visit-none _ _ (omega (arith, start b .pre .0 .few)) (none-there (b .class-bytes .ensures) BUILDS (c .before .nth-in .ensures) (c .if6 .taken)) _)
 
 returns-4 : tie.Need-returns-4
 returns-4 c = visit-content _ _ _ (c .before .before .before .before .class-bytes .ensures) (c .before .wants .ensures) (c .if7 .taken)
 
-slice-aggregate-enclosers : tie.Need-slice-aggregate-enclosers
-slice-aggregate-enclosers c = search needs
-
 enclosers-requires : tie.Need-enclosers-requires
-enclosers-requires c κs =
-    let p = c .before .before .before .before .before .before .before .before .before .before .before .before .pre in
-    (p .0, (p .1 .1, omega (arith, p .1 .1, p .1 .0 .few)))
-
-slice-aggregate-scan : tie.Need-slice-aggregate-scan
-slice-aggregate-scan c = search needs
+enclosers-requires c κs = let p = start (c .before .before .before .before .before) .pre in (p .0, (p .1 .1, omega (arith, p .1 .1, p .1 .0 .few)))
 
 scan-requires : tie.Need-scan-requires
-scan-requires c κs = let p = c .before .before .before .before .before .before .before .before .before .before .before .before .before .before .before .before .pre in (
-  c .before .before .before .before .before .before .before .before .before .class-bytes .ensures .place,
-  omega (arith, p .1, c .before .before .before .enclosers .kept .1 .1 .1 .1 .1 .0),
-)
-
-same-length-2 : tie.Need-same-length-2
-same-length-2 c = search needs
+scan-requires c κs =
+    let e = c .before .before .before in
+    let b = held e in
+    (b .class-bytes .ensures .place, omega (arith, start b .pre .1, e .enclosers .kept .1 .1 .1 .1 .1 .0))
 
 returns-5 : tie.Need-returns-5
 returns-5 c =
-    let marked = c .before .before .before .before .before .before in
-    let read = marked .before .before .before .before .before .before in
-    let p = read .before .before .before .before .before .before .before .pre in
-    scanned _ (c .before .before .scan .ensures) (read .class-bytes .ensures) (marks-enclosers 256 (omega (arith, p .1 .1, p .1 .0 .few)) (marked .enclosers .ensures))
+    let s = c .before .before in
+    let e = marked s in
+    let p = start (held e) .pre in
+    scanned _ (s .scan .ensures) (held e .class-bytes .ensures) (marks-enclosers 256 (omega (arith, p .1 .1, p .1 .0 .few)) (e .enclosers .ensures))
 
 pub visit-spec : {M : Type 1} → statement M
 visit-spec =
     tie.close
     (tie.spec
-    slice-read-if2
+    (λ c. search needs)
     returns
     returns-2
-    class-bytes-requires
-    nth-in-requires
+    (λ c κs. search needs)
+    (λ c κs. search needs)
     returns-3
-    wants-requires
-    same-length
+    (λ c κs. search needs)
+    (λ c. search needs)
     returns-4
-    slice-aggregate-enclosers
+    (λ c. search needs)
     enclosers-requires
-    slice-aggregate-scan
+    (λ c. search needs)
     scan-requires
-    same-length-2
+    (λ c. search needs)
     returns-5)

@@ -18,55 +18,32 @@ Inv-loop bytes n builds lanes m row at₀ at = WantsAt bytes builds n lanes m ro
 abbrev μ-loop : tie.MeasureT-loop
 μ-loop bytes n builds lanes m row at₀ at = length bytes - at
 
+-- ---- places: the test of the loop, and the first class named
+
+abbrev tested : tie.Else1 Inv-loop μ-loop → tie.In-loop Inv-loop μ-loop
+tested c = c .before .before .before
+
+abbrev one : tie.Else2 Inv-loop μ-loop → tie.Else1 Inv-loop μ-loop
+one c = c .before .before .before
+
+-- ---- the needs
+
 loop-holds : tie.Need-loop-holds Inv-loop μ-loop
 loop-holds c = wants-start (c .before .before .pre .0)
 
 first-named-requires : tie.Need-first-named-requires Inv-loop μ-loop
 first-named-requires c κs = (walk-sized (c .before .loop .inv .place) (c .loop-test .taken), c .before .loop .inv .place .small)
 
-has-lower-requires : tie.Need-has-lower-requires Inv-loop μ-loop
-has-lower-requires c κs = search needs
-
-returns : tie.Need-returns Inv-loop μ-loop
-returns c = told-true
-
 second-named-requires : tie.Need-second-named-requires Inv-loop μ-loop
-second-named-requires c κs = (
-  walk-sized (c .before .before .before .before .loop .inv .place) (c .before .before .before .loop-test .taken),
-  c .before .before .before .before .loop .inv .place .small,
-)
-
-has-lower-requires-2 : tie.Need-has-lower-requires-2 Inv-loop μ-loop
-has-lower-requires-2 c κs = search needs
-
-returns-2 : tie.Need-returns-2 Inv-loop μ-loop
-returns-2 c = told-true
-
-word-in-requires : tie.Need-word-in-requires Inv-loop μ-loop
-word-in-requires c κs = omega (
-  arith,
-  tiled-room (c .before .before .before .before .before .before .before .loop .inv .place .tiled)
-      (c .before .before .before .before .before .before .loop-test .taken),
-)
-
-wide-requires : tie.Need-wide-requires Inv-loop μ-loop
-wide-requires c κs = search needs
-
-add-at : tie.Need-add-at Inv-loop μ-loop
-add-at c = omega (arith, c .before .before .before .before .before .before .before .before .before .loop .inv .place .small, c .wide .ensures .1)
-
-loop-less : tie.Need-loop-less Inv-loop μ-loop
-loop-less c = omega (
-  arith,
-  walk-on (c .before .before .before .before .before .before .before .before .before .loop .inv .place)
-      (c .before .before .before .before .before .before .before .before .loop-test .taken) .0,
-)
+second-named-requires c κs = let w = tested c in (walk-sized (w .before .loop .inv .place) (w .loop-test .taken), w .before .loop .inv .place .small)
 
 loop-again : tie.Need-loop-again Inv-loop μ-loop
-loop-again c = wants-next (c .before .before .before .before .before .before .before .before .before .loop .inv) (c .before .before .before .before .before .before .before .before .loop-test .taken)
-    (c .before .before .before .before .before .before .before .first-named .ensures) (c .before .before .before .before .before .before .has-lower .ensures)
-    (c .before .before .before .before .before .if1 .left) (c .before .before .before .before .second-named .ensures) (c .before .before .before .has-lower2 .ensures) (c .before .before .if2 .left)
-    (c .wide .ensures .0 ∙ c .before .word-in .ensures)
+loop-again c =
+    let l = c .before .before in
+    let f = one l in
+    let w = tested f in
+    wants-next (w .before .loop .inv) (w .loop-test .taken) (f .before .before .first-named .ensures) (f .before .has-lower .ensures) (f .if1 .left) (l .before .before .second-named .ensures)
+    (l .before .has-lower2 .ensures) (l .if2 .left) (c .wide .ensures .0 ∙ c .before .word-in .ensures)
 
 returns-3 : tie.Need-returns-3 Inv-loop μ-loop
 returns-3 c = wants-end (c .before .loop .inv) (c .loop-test .left)
@@ -79,14 +56,14 @@ wants-spec =
     μ-loop
     loop-holds
     first-named-requires
-    has-lower-requires
-    returns
+    (λ c κs. search needs)
+    (λ c. told-true)
     second-named-requires
-    has-lower-requires-2
-    returns-2
-    word-in-requires
-    wide-requires
-    add-at
-    loop-less
+    (λ c κs. search needs)
+    (λ c. told-true)
+    (λ c κs. let w = tested (one c) in omega (arith, tiled-room (w .before .loop .inv .place .tiled) (w .loop-test .taken)))
+    (λ c κs. search needs)
+    (λ c. omega (arith, tested (one (c .before .before)) .before .loop .inv .place .small, c .wide .ensures .1))
+    (λ c. let w = tested (one (c .before .before)) in omega (arith, walk-on (w .before .loop .inv .place) (w .loop-test .taken) .0))
     loop-again
     returns-3)

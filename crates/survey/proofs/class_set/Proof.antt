@@ -10,52 +10,65 @@ use borrow.Author.Needs.{needs}
 use Rattle.survey.proofs.class_set.Statement.{statement}
 use Rattle.survey.proofs.class_set.Tie as tie
 
+-- ---- places: the start, the class's bytes, its flags, and its superclass
+
+abbrev start : tie.After-class-bytes → tie.Start
+start c = c .before .before .before .before .before .before
+
+abbrev held : tie.After-word-in → tie.After-class-bytes
+held c = c .before .before .before .before .before .before
+
+abbrev flagged : tie.After-wide → tie.After-word-in
+flagged c = c .before .before .before
+
+abbrev raised : tie.After-common → tie.After-wide
+raised c = c .before .before
+
+-- ---- what is known there
+
 long : (c : tie.After-class-bytes) → 13 ≤ length (c .class-bytes .result .now)
-long c = let s = c .before .before .before .before .before .before in class-within (c .class-bytes .ensures) (class-long (s .pre .0 .indexed) (s .pre .1 .0))
+long c = let p = start c .pre in class-within (c .class-bytes .ensures) (class-long (p .0 .indexed) (p .1 .0))
+
+-- the superclass is lower
+above : (c : tie.After-wide) → c .wide .result < start (held (flagged c)) .args .t
+above c =
+    let w = flagged c in
+    let p = start (held w) .pre in
+    above-low (p .0 .indexed) (p .0 .formed) (w .before .if1 .left) (p .1 .0) (held w .class-bytes .ensures) (w .word-in .ensures) (c .before .before .if2 .left)
+    (c .wide .ensures .0) (c .before .word-in2 .ensures) .1
+
+-- ---- the needs
 
 head-set-requires : tie.Need-head-set-requires
-head-set-requires c κs = let s = c .before .before .before .before .before .before .before .before in (long (c .before .before), omega (arith, s .pre .1 .0, s .pre .0 .indexed .few))
-
-word-in-requires : tie.Need-word-in-requires
-word-in-requires c κs = omega (arith, long (c .before .before .before .before .before))
-
-word-in-requires-2 : tie.Need-word-in-requires-2
-word-in-requires-2 c κs = omega (arith, long (c .before .before .before .before .before .before .before))
+head-set-requires c κs = let b = c .before .before in let p = start b .pre in (long b, omega (arith, p .1 .0, p .0 .indexed .few))
 
 returns : tie.Need-returns
-returns c = let j = c .before .before .before .before .before .before .before .before .before .before .before .pre .0 in
-    class-library (j .indexed) (j .formed) (c .if1 .taken) (j .facts .known) (c .before .before .head-set .ensures)
+returns c =
+    let h = c .before .before in
+    let j = start (h .before .before .before) .pre .0 in
+    class-library (j .indexed) (j .formed) (c .if1 .taken) (j .facts .known) (h .head-set .ensures)
 
 returns-2 : tie.Need-returns-2
 returns-2 c =
-    let s = c .before .before .before .before .before .before .before .before .before .before .before .before .before in
-    let j = s .pre .0 in
-    class-interface (j .indexed) (j .formed) (c .before .before .if1 .left) (s .pre .1 .0) (c .before .before .before .before .before .before .before .class-bytes .ensures)
-    (c .before .word-in .ensures) (c .if2 .taken)
-
--- the superclass is lower
-above : (c : tie.After-wide) → c .wide .result < c .before .before .before .before .before .before .before .before .before .before .before .before .before .before .before .args .t
-above c =
-    let s = c .before .before .before .before .before .before .before .before .before .before .before .before .before .before .before in
-    let j = s .pre .0 in
-    above-low (j .indexed) (j .formed) (c .before .before .before .before .if1 .left) (s .pre .1 .0) (c .before .before .before .before .before .before .before .before .before .class-bytes .ensures)
-    (c .before .before .before .word-in .ensures) (c .before .before .if2 .left)
-    (c .wide .ensures .0) (c .before .word-in2 .ensures) .1
+    let w = c .before in
+    let p = start (held w) .pre in
+    class-interface (p .0 .indexed) (p .0 .formed) (w .before .if1 .left) (p .1 .0) (held w .class-bytes .ensures) (w .word-in .ensures) (c .if2 .taken)
 
 shared-slice-read-common : tie.Need-shared-slice-read-common
-shared-slice-read-common c = let s = c .before .before .before .before .before .before .before .before .before .before .before .before .before .before .before .before .before .before in
-    omega (arith, above (c .before .before .before), s .pre .1 .1 .long, s .pre .0 .indexed .few, s .pre .1 .0)
+shared-slice-read-common c =
+    let u = raised (c .before) in
+    let p = start (held (flagged u)) .pre in
+    omega (arith, above u, p .1 .1 .long, p .0 .indexed .few, p .1 .0)
 
 returns-3 : tie.Need-returns-3
 returns-3 c =
-    let s = c .before .before .before .before .before .before .before .before .before .before .before .before .before .before .before .before .before .before .before in
-    let j = s .pre .0 in
-    class-user (j .indexed) (j .formed) (c .before .before .before .before .before .before .before .before .if1 .left) (s .pre .1 .0)
-    (c .before .before .before .before .before .before .before .before .before .before .before .before .before .class-bytes .ensures)
-    (c .before .before .before .before .before .before .before .word-in .ensures) (c .before .before .before .before .before .before .if2 .left)
-    (j .facts .known) (j .shown) (c .before .before .before .before .before .before .before .before .before .before .head-set .ensures) (c .before .before .before .fields-set .ensures) _
-    (c .before .before .common .ensures)
-    (c .before .before .before .before .wide .ensures .0) (c .before .before .before .before .before .word-in2 .ensures) (s .pre .1 .1) (c .common2 .result) (c .common2 .ensures)
+    let o = c .before .before in
+    let u = raised o in
+    let w = flagged u in
+    let p = start (held w) .pre in
+    class-user (p .0 .indexed) (p .0 .formed) (w .before .if1 .left) (p .1 .0) (held w .class-bytes .ensures) (w .word-in .ensures) (u .before .before .if2 .left) (p .0 .facts .known) (p .0 .shown)
+    (w .before .before .before .head-set .ensures) (o .before .fields-set .ensures) _ (o .common .ensures) (u .wide .ensures .0) (u .before .word-in2 .ensures) (p .1 .1)
+    (c .common2 .result) (c .common2 .ensures)
 
 pub class-set-spec : {M : Type 1} → statement M
 class-set-spec =
@@ -70,9 +83,9 @@ class-set-spec =
     (λ c. search needs)
     head-set-requires
     returns
-    word-in-requires
+    (λ c κs. omega (arith, long (c .before .before .before .before .before)))
     returns-2
-    word-in-requires-2
+    (λ c κs. omega (arith, long (held (c .before))))
     (λ c κs. search needs)
     (λ c κs. search needs)
     (λ c κs. search needs)

@@ -18,79 +18,77 @@ use borrow.Author.Needs.{needs}
 use Rattle.survey.proofs.clean.Statement.{statement}
 use Rattle.survey.proofs.clean.Tie as tie
 
+-- ---- places: the start, the class's bytes, and the test of the CLASS record that was passed
+
+abbrev start : tie.After-class-bytes → tie.Start
+start c = c .before .before .before .before .before
+
+abbrev held : tie.After-head-fine → tie.After-class-bytes
+held c = c .before .before .before .before .before
+
+abbrev headed : tie.After-word-in → tie.Else1
+headed c = c .before .before .before
+
+-- ---- what was passed
+
 long : (c : tie.After-class-bytes) → 13 ≤ length (c .class-bytes .result .now)
-long c = let s = c .before .before .before .before .before in class-within (c .class-bytes .ensures) (class-long (s .pre .0 .indexed) (s .pre .1 .1))
+long c = let s = start c in class-within (c .class-bytes .ensures) (class-long (s .pre .0 .indexed) (s .pre .1 .1))
 
-head-fine-requires : tie.Need-head-fine-requires
-head-fine-requires c κs = long (c .before .before .before .before)
+head-passed : (c : tie.Else1) → let b = held (c .before) in let a = start b .args in headBreaks (b .class-bytes .result .now) (getD (markersIn (a .facts .now)) (a .c) 0) ≡ false
+head-passed c = turned _ (c .before .head-fine .ensures) ∙ c .if1 .left
 
-word-in-requires : tie.Need-word-in-requires
-word-in-requires c κs = omega (arith, long (c .before .before .before .before .before .before .before .before))
+records-passed : (c : tie.Else2) → let b = held (c .before .before .before) in let a = start b .args in let bytes = b .class-bytes .result .now in
+    any (recordBreaks (a .classes .library) (groupOf (a .library .now) (a .user .now))) (between bytes 0 (length bytes)) ≡ false
+records-passed c = turned _ (c .before .records-fine .ensures) ∙ c .if2 .left
 
-base-lacks-requires : tie.Need-base-lacks-requires
-base-lacks-requires c κs = long (c .before .before .before .before .before .before .before .before .before .before)
+-- ---- the needs
 
 returns : tie.Need-returns
 returns c =
-    let s = c .before .before .before .before .before .before .before .before .before .before .before in
-    let j = s .pre .0 in
-    head-faulted (j .indexed) (j .formed) (s .pre .1 .0) (s .pre .1 .1) (j .facts .known) (c .before .before .before .before .before .before .class-bytes .ensures)
-    (turned _ (c .before .head-fine .ensures) ∙ c .if1 .taken)
-
--- the CLASS record passed
-head-passed : (c : tie.Else1) → headBreaks (c .before .before .before .before .before .before .class-bytes .result .now)
-    (getD (markersIn (c .before .before .before .before .before .before .before .before .before .before .before .args .facts .now))
-    (c .before .before .before .before .before .before .before .before .before .before .before .args .c) 0) ≡ false
-head-passed c = turned _ (c .before .head-fine .ensures) ∙ c .if1 .left
+    let b = held (c .before) in
+    let p = start b .pre in
+    head-faulted (p .0 .indexed) (p .0 .formed) (p .1 .0) (p .1 .1) (p .0 .facts .known) (b .class-bytes .ensures) (turned _ (c .before .head-fine .ensures) ∙ c .if1 .taken)
 
 records-fine-requires : tie.Need-records-fine-requires
 records-fine-requires c κs =
-    let s = c .before .before .before .before .before .before .before .before .before .before .before in
-    let j = s .pre .0 in
-    let w = c .before .before .before .before .before .before .class-bytes .ensures in
-    (j .indexed, (j .facts .known, (w .place, (refers-in (j .indexed) (j .formed) (s .args .c) w, j .facts .bans))))
+    let b = held (c .before) in
+    let p = start b .pre in
+    let w = b .class-bytes .ensures in
+    (p .0 .indexed, (p .0 .facts .known, (w .place, (refers-in (p .0 .indexed) (p .0 .formed) _ w, p .0 .facts .bans))))
 
 returns-2 : tie.Need-returns-2
 returns-2 c =
-    let s = c .before .before .before .before .before .before .before .before .before .before .before .before .before in
-    let j = s .pre .0 in
-    records-faulted (j .indexed) (j .formed) (s .pre .1 .0) (s .pre .1 .1) (j .facts .known) (c .before .before .before .before .before .before .before .before .class-bytes .ensures)
-    (head-passed (c .before .before)) (turned _ (c .before .records-fine .ensures) ∙ c .if2 .taken)
-
--- the other records did
-records-passed : (c : tie.Else2)
-    → any (recordBreaks (c .before .before .before .before .before .before .before .before .before .before .before .before .before .args .classes .library)
-    (groupOf (c .before .before .before .before .before .before .before .before .before .before .before .before .before .args .library .now)
-    (c .before .before .before .before .before .before .before .before .before .before .before .before .before .args .user .now)))
-    (between (c .before .before .before .before .before .before .before .before .class-bytes .result .now) 0
-    (length (c .before .before .before .before .before .before .before .before .class-bytes .result .now))) ≡ false
-records-passed c = turned _ (c .before .records-fine .ensures) ∙ c .if2 .left
+    let h = c .before .before in
+    let b = held (h .before) in
+    let p = start b .pre in
+    records-faulted (p .0 .indexed) (p .0 .formed) (p .1 .0) (p .1 .1) (p .0 .facts .known) (b .class-bytes .ensures) (head-passed h)
+    (turned _ (c .before .records-fine .ensures) ∙ c .if2 .taken)
 
 returns-3 : tie.Need-returns-3
 returns-3 c =
-    let s = c .before .before .before .before .before .before .before .before .before .before .before .before .before .before .before in
-    let j = s .pre .0 in
-    interface-clean (j .indexed) (j .formed) (s .pre .1 .0) (s .pre .1 .1) (j .facts .known) (c .before .before .before .before .before .before .before .before .before .before .class-bytes .ensures)
-    (head-passed (c .before .before .before .before)) (records-passed (c .before .before)) (c .before .word-in .ensures) (c .if3 .taken)
+    let w = c .before in
+    let b = held (headed w .before) in
+    let p = start b .pre in
+    interface-clean (p .0 .indexed) (p .0 .formed) (p .1 .0) (p .1 .1) (p .0 .facts .known) (b .class-bytes .ensures) (head-passed (headed w)) (records-passed (w .before))
+    (w .word-in .ensures) (c .if3 .taken)
 
 returns-4 : tie.Need-returns-4
 returns-4 c =
-    let s = c .before .before .before .before .before .before .before .before .before .before .before .before .before .before .before .before .before in
-    let j = s .pre .0 in
-    base-faulted (j .indexed) (j .formed) (s .pre .1 .0) (s .pre .1 .1) (j .facts .known)
-    (c .before .before .before .before .before .before .before .before .before .before .before .before .class-bytes .ensures)
-    (head-passed (c .before .before .before .before .before .before)) (records-passed (c .before .before .before .before)) (c .before .before .before .word-in .ensures) (c .before .before .if3 .left)
-    (c .before .base-lacks .ensures) (c .if4 .taken)
+    let k = c .before in
+    let w = k .before .before in
+    let b = held (headed w .before) in
+    let p = start b .pre in
+    base-faulted (p .0 .indexed) (p .0 .formed) (p .1 .0) (p .1 .1) (p .0 .facts .known) (b .class-bytes .ensures) (head-passed (headed w)) (records-passed (w .before))
+    (w .word-in .ensures) (k .before .if3 .left) (k .base-lacks .ensures) (c .if4 .taken)
 
 returns-5 : tie.Need-returns-5
 returns-5 c =
-    let s = c .before .before .before .before .before .before .before .before .before .before .before .before .before .before .before .before .before .before .before in
-    let j = s .pre .0 in
-    covers-tell (j .indexed) (j .formed) (s .pre .1 .0) (s .pre .1 .1) (j .facts .known)
-    (c .before .before .before .before .before .before .before .before .before .before .before .before .before .before .class-bytes .ensures)
-    (head-passed (c .before .before .before .before .before .before .before .before)) (records-passed (c .before .before .before .before .before .before))
-    (c .before .before .before .before .before .word-in .ensures) (c .before .before .before .before .if3 .left) (c .before .before .before .base-lacks .ensures) (c .before .before .if4 .left)
-    (j .sets .is (s .args .c) (s .pre .1 .1)) (c .covers .ensures)
+    let k = c .before .before .before in
+    let w = k .before .before in
+    let b = held (headed w .before) in
+    let p = start b .pre in
+    covers-tell (p .0 .indexed) (p .0 .formed) (p .1 .0) (p .1 .1) (p .0 .facts .known) (b .class-bytes .ensures) (head-passed (headed w)) (records-passed (w .before))
+    (w .word-in .ensures) (k .before .if3 .left) (k .base-lacks .ensures) (c .before .before .if4 .left) (p .0 .sets .is _ (p .1 .1)) (c .covers .ensures)
 
 pub clean-spec : {M : Type 1} → statement M
 clean-spec =
@@ -107,13 +105,13 @@ clean-spec =
     (λ c. search needs)
     (λ c. search needs)
     (λ c. search needs)
-    head-fine-requires
+    (λ c κs. long (c .before .before .before .before))
     returns
     records-fine-requires
     returns-2
-    word-in-requires
+    (λ c κs. omega (arith, long (held (c .before .before .before))))
     returns-3
-    base-lacks-requires
+    (λ c κs. long (held (headed (c .before) .before)))
     returns-4
     (λ c. search needs)
     (λ c κs. search needs)
