@@ -1,11 +1,11 @@
 -- `breaks::bans`: the library's classes one after the other, over a row of zeros.
 -- Assumes nothing.
 use mathlib.Core.Path.{sym, ap, _∙_}
-use Prim.Native.Nat.{_-_}
+use Prim.Native.Nat.{_-_, _≤_, _<_}
 use native.Mathlib.Omega.{arith}
 use borrow.Author.Needs.{needs}
 use lib.ListN.{length}
-use Rattle.spec.specs.Sheet.{group}
+use Rattle.spec.specs.Sheet.{classRecord, group}
 use Rattle.groups.proofs.Few.{classes-ordered}
 use Rattle.groups.proofs.Held.{class-long}
 use Rattle.records.proofs.Carried.{class-within}
@@ -19,43 +19,34 @@ Inv-loop library user starts classes row₀ end₀ d₀ row d = Banning (classes
 abbrev μ-loop : tie.MeasureT-loop
 μ-loop library user starts classes row₀ end₀ d₀ row d = classes .library - d
 
-loop-holds : tie.Need-loop-holds Inv-loop μ-loop
-loop-holds c = ban-start (c .before .before .before .before .pre .1)
+-- ---- places: the start, and the loop over the library's classes
 
-class-bytes-requires : tie.Need-class-bytes-requires Inv-loop μ-loop
-class-bytes-requires c κs = let p = c .before .before .before .before .before .before .pre in (p .0, omega (arith, classes-ordered (p .0), c .loop-test .taken))
+abbrev start : tie.At-loop Inv-loop μ-loop → tie.Start Inv-loop μ-loop
+start c = c .before .before .before .before .before
 
-word-in-requires : tie.Need-word-in-requires Inv-loop μ-loop
-word-in-requires c κs =
-    let x = c .before .before .before .before .before .before .before .pre .0 in
-    omega (arith, class-within (c .class-bytes .ensures) (class-long x (omega (arith, classes-ordered x, c .before .loop-test .taken))))
+abbrev looped : tie.After-part-closed Inv-loop μ-loop → tie.In-loop Inv-loop μ-loop
+looped c = c .before .before .before .before
 
-part-closed-requires : tie.Need-part-closed-requires Inv-loop μ-loop
-part-closed-requires c κs = c .before .before .class-bytes .ensures .place
+few : (c : tie.At-loop Inv-loop μ-loop) → let n = start c .args .classes .library in (n ≤ start c .args .classes .all) × (n ≤ 256)
+few c = let x = start c .pre .0 in (classes-ordered x, omega (arith, classes-ordered x, x .few))
 
-add-row : tie.Need-add-row Inv-loop μ-loop
-add-row c = omega (arith, ban-small _ _ (c .before .closed .ensures) (c .part-closed .ensures))
+there : (c : tie.In-loop Inv-loop μ-loop) → c .before .loop .d < start (c .before) .args .classes .all
+there c = omega (arith, c .loop-test .taken, few (c .before) .0)
+
+long : (c : tie.In-loop Inv-loop μ-loop) → let a = start (c .before) .args in 13 ≤ length (classRecord (group (a .library .now) (a .user .now) (c .before .loop .d)))
+long c = class-long (start (c .before) .pre .0) (there c)
+
+-- ---- the needs
 
 slice-write-row : tie.Need-slice-write-row Inv-loop μ-loop
-slice-write-row c =
-    let p = c .before .before .before .before .before .before .before .before .before .before .pre in
-    omega (arith, c .before .before .before .before .before .loop .inv .long, classes-ordered (p .0), p .0 .few, c .before .before .before .before .loop-test .taken)
+slice-write-row c = let i = looped c in omega (arith, i .before .loop .inv .long, few (i .before) .1, i .loop-test .taken)
 
 loop-again : tie.Need-loop-again Inv-loop μ-loop
 loop-again c =
-    let x = c .before .before .before .before .before .before .before .before .before .before .pre .0 in
-    let here = c .before .before .before in
-    ban-next (here .before .before .loop .inv) (here .before .loop-test .taken) (omega (arith, classes-ordered x, x .few))
-    (c .before .before .word-in .ensures ∙ flags-in (here .class-bytes .ensures) (class-long x (omega (arith, classes-ordered x, here .before .loop-test .taken)))) (c .before .closed .ensures)
-    (part-in (here .class-bytes .ensures) (c .part-closed .ensures))
-
-same-length : tie.Need-same-length Inv-loop μ-loop
-same-length c = c .before .loop .inv .long ∙ ap length (sym (c .before .before .before .before .before .before .pre .1))
-
-returns : tie.Need-returns Inv-loop μ-loop
-returns c =
-    let p = c .before .before .before .before .before .before .pre in
-    ban-end (c .before .loop .inv) (c .loop-test .left) (omega (arith, classes-ordered (p .0), p .0 .few))
+    let e = c .before .before .before .class-bytes .ensures in
+    let i = looped c in
+    ban-next (i .before .loop .inv) (i .loop-test .taken) (few (i .before) .1) (c .before .before .word-in .ensures ∙ flags-in e (long i)) (c .before .closed .ensures)
+    (part-in e (c .part-closed .ensures))
 
 pub bans-spec : {M : Type 1} → statement M
 bans-spec =
@@ -63,15 +54,15 @@ bans-spec =
     (tie.spec
     Inv-loop
     μ-loop
-    loop-holds
-    class-bytes-requires
-    word-in-requires
+    (λ c. ban-start (c .before .before .before .before .pre .1))
+    (λ c κs. (start (c .before) .pre .0, there c))
+    (λ c κs. omega (arith, class-within (c .class-bytes .ensures) (long (c .before))))
     (λ c κs. search needs)
-    part-closed-requires
-    add-row
+    (λ c κs. c .before .before .class-bytes .ensures .place)
+    (λ c. omega (arith, ban-small _ _ (c .before .closed .ensures) (c .part-closed .ensures)))
     slice-write-row
     (λ c. omega arith)
     (λ c. omega arith)
     loop-again
-    same-length
-    returns)
+    (λ c. c .before .loop .inv .long ∙ ap length (sym (start (c .before) .pre .1)))
+    (λ c. ban-end (c .before .loop .inv) (c .loop-test .left) (few (c .before) .1)))

@@ -9,19 +9,15 @@ use borrow.Author.Needs.{needs}
 use Rattle.breaks.proofs.field_breaks.Statement.{statement}
 use Rattle.breaks.proofs.field_breaks.Tie as tie
 
-returns : tie.Need-returns
-returns c =
-    let s = c .before .before .before .before in
-    record { is = λ g t k w. field-other g (s .pre .0) (c .before .word-in .ensures) (s .args .rule) t k (c .if1 .taken) }
+abbrev start : tie.After-word-in → tie.Start
+start c = c .before .before .before
 
-field-set-requires : tie.Need-field-set-requires
-field-set-requires c κs =
-    let p = c .before .before .before .before .pre in
-    (p .0, (p .1 .0, sym (c .before .word-in .ensures) ∙ c .if1 .left))
+returns : tie.Need-returns
+returns c = let s = start (c .before) in record { is = λ g t k w. field-other g (s .pre .0) (c .before .word-in .ensures) (s .args .rule) t k (c .if1 .taken) }
 
 returns-2 : tie.Need-returns-2
 returns-2 c =
-    let p = c .before .before .before .before .before .before .before .pre in
+    let p = start (c .before .before .before .before) .pre in
     field-told (p .1 .1) (p .1 .2) (c .before .before .field-set .ensures) (c .before .rule-set .ensures .0) (c .has .ensures)
 
 pub field-breaks-spec : {M : Type 1} → statement M
@@ -31,7 +27,7 @@ field-breaks-spec =
     (λ c. omega (arith, room (c .before .before .pre .0)))
     (λ c κs. omega (arith, room (c .before .before .pre .0)))
     returns
-    field-set-requires
+    (λ c κs. let p = start (c .before) .pre in (p .0, (p .1 .0, sym (c .before .word-in .ensures) ∙ c .if1 .left)))
     (λ c κs. search needs)
     (λ c κs. search needs)
     returns-2)

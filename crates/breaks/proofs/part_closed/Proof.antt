@@ -19,34 +19,22 @@ Inv-loop bytes at₀ at = Seeking closedMember bytes at
 abbrev μ-loop : tie.MeasureT-loop
 μ-loop bytes at₀ at = length bytes - at
 
-loop-holds : tie.Need-loop-holds Inv-loop μ-loop
-loop-holds c = seek-start (c .before .pre)
-
-closed-member-requires : tie.Need-closed-member-requires Inv-loop μ-loop
-closed-member-requires c κs = let place = c .before .loop .inv .place in (walk-sized place (c .loop-test .taken), place .small)
+abbrev turn : tie.Else1 Inv-loop μ-loop → tie.In-loop Inv-loop μ-loop
+turn c = c .before .before
 
 returns : tie.Need-returns Inv-loop μ-loop
 unfolding partBy
-returns c = rw (seek-hit (c .before .before .before .loop .inv) (c .before .before .loop-test .taken) (sym (c .before .closed-member .ensures) ∙ c .if1 .taken), partBy)
-
-word-in-requires : tie.Need-word-in-requires Inv-loop μ-loop
-word-in-requires c κs = omega (arith, tiled-room (c .before .before .before .loop .inv .place .tiled) (c .before .before .loop-test .taken))
-
-add-at : tie.Need-add-at Inv-loop μ-loop
-add-at c = omega (arith, c .before .before .before .before .before .loop .inv .place .small, c .wide .ensures .1)
+returns c = let t = c .before .before in rw (seek-hit (t .before .loop .inv) (t .loop-test .taken) (sym (c .before .closed-member .ensures) ∙ c .if1 .taken), partBy)
 
 loop-less : tie.Need-loop-less Inv-loop μ-loop
-loop-less c = omega (
-  arith,
-  walk-on (c .before .before .before .before .before .loop .inv .place) (c .before .before .before .before .loop-test .taken),
-  c .wide .ensures .0
-      ∙ c .before .word-in .ensures,
-)
+loop-less c =
+    let t = turn (c .before .before) in
+    omega (arith, walk-on (t .before .loop .inv .place) (t .loop-test .taken), c .wide .ensures .0 ∙ c .before .word-in .ensures)
 
 loop-again : tie.Need-loop-again Inv-loop μ-loop
 loop-again c =
     let one = c .before .before in
-    seek-next (one .before .before .before .loop .inv) (one .before .before .loop-test .taken) (c .wide .ensures .0 ∙ c .before .word-in .ensures)
+    seek-next (turn one .before .loop .inv) (turn one .loop-test .taken) (c .wide .ensures .0 ∙ c .before .word-in .ensures)
     (sym (one .before .closed-member .ensures) ∙ one .if1 .left)
 
 returns-2 : tie.Need-returns-2 Inv-loop μ-loop
@@ -59,12 +47,12 @@ part-closed-spec =
     (tie.spec
     Inv-loop
     μ-loop
-    loop-holds
-    closed-member-requires
+    (λ c. seek-start (c .before .pre))
+    (λ c κs. let place = c .before .loop .inv .place in (walk-sized place (c .loop-test .taken), place .small))
     returns
-    word-in-requires
+    (λ c κs. omega (arith, tiled-room (turn c .before .loop .inv .place .tiled) (turn c .loop-test .taken)))
     (λ c κs. search needs)
-    add-at
+    (λ c. omega (arith, turn (c .before .before) .before .loop .inv .place .small, c .wide .ensures .1))
     loop-less
     loop-again
     returns-2)

@@ -10,62 +10,57 @@ use borrow.Author.Needs.{needs}
 use Rattle.breaks.proofs.static_breaks.Statement.{statement}
 use Rattle.breaks.proofs.static_breaks.Tie as tie
 
-add-word-in : tie.Need-add-word-in
-add-word-in c = omega (arith, room (c .before .before .pre .0))
+-- ---- places: the start, the kind, and the flags
 
-word-in-requires : tie.Need-word-in-requires
-word-in-requires c κs = omega (arith, room (c .before .before .pre .0))
+abbrev start : tie.After-word-in → tie.Start
+start c = c .before .before .before
 
-returns : tie.Need-returns
-returns c = λ g w. static-other g (c .before .before .before .before .pre .0) (c .before .word-in .ensures) (c .if1 .taken)
+abbrev field : tie.After-word-in2 → tie.Else1
+field c = c .before
 
-add-word-in-2 : tie.Need-add-word-in-2
-add-word-in-2 c = omega (arith, room (c .before .before .before .before .pre .0))
+abbrev flags : tie.Else3 → tie.After-word-in2
+flags c = c .before .before
 
-word-in-requires-2 : tie.Need-word-in-requires-2
-word-in-requires-2 c κs = omega (arith, room (c .before .before .before .before .pre .0))
+-- ---- the needs
 
 returns-2 : tie.Need-returns-2
-returns-2 c = λ g w. static-instance g (c .before .before .before .before .before .before .pre .0) (c .before .before .before .word-in .ensures) (c .before .before .if1 .left)
-    (c .before .word-in2 .ensures) (c .if2 .taken)
+returns-2 c g w =
+    let f = c .before in
+    let k = field f in
+    static-instance g (start (k .before) .pre .0) (k .before .word-in .ensures) (k .if1 .left) (f .word-in2 .ensures) (c .if2 .taken)
 
 returns-3 : tie.Need-returns-3
-returns-3 c = λ g w. static-changing g (c .before .before .before .before .before .before .before .pre .0) (c .before .before .before .before .word-in .ensures) (c .before .before .before .if1 .left)
-    (c .before .before .word-in2 .ensures) (c .before .if2 .left) (c .if3 .taken)
-
-add-type-markers : tie.Need-add-type-markers
-add-type-markers c = omega (arith, room (c .before .before .before .before .before .before .before .pre .0))
+returns-3 c g w =
+    let f = c .before .before in
+    let k = field f in
+    static-changing g (start (k .before) .pre .0) (k .before .word-in .ensures) (k .if1 .left) (f .word-in2 .ensures) (c .before .if2 .left) (c .if3 .taken)
 
 type-markers-requires : tie.Need-type-markers-requires
-type-markers-requires c κs = (
-  omega (
-    arith,
-    room-of (c .before .before .before .before .before .before .before .pre .0) (c .before .before .before .before .word-in .ensures) FIELD
-        (c .before .before .before .if1 .left),
-  ),
-  c .before .before .before .before .before .before .before .pre .1,
-)
-
-has-requires : tie.Need-has-requires
-has-requires c κs = search needs
+type-markers-requires c κs =
+    let k = field (flags c) in
+    let p = start (k .before) .pre in
+    (omega (arith, room-of (p .0) (k .before .word-in .ensures) FIELD (k .if1 .left)), p .1)
 
 returns-4 : tie.Need-returns-4
-returns-4 c = λ g w. static-typed g (c .before .before .before .before .before .before .before .before .before .pre .0) (c .before .before .before .before .before .before .word-in .ensures)
-    (c .before .before .before .before .before .if1 .left) (c .before .before .before .before .word-in2 .ensures) (c .before .before .before .if2 .left) (c .before .before .if3 .left)
+returns-4 c g w =
+    let e = c .before .before in
+    let f = flags e in
+    let k = field f in
+    static-typed g (start (k .before) .pre .0) (k .before .word-in .ensures) (k .if1 .left) (f .word-in2 .ensures) (e .before .if2 .left) (e .if3 .left)
     (c .before .type-markers .ensures ∙ row-markers w _) (c .has .ensures)
 
 pub static-breaks-spec : {M : Type 1} → statement M
 static-breaks-spec =
     tie.close
     (tie.spec
-    add-word-in
-    word-in-requires
-    returns
-    add-word-in-2
-    word-in-requires-2
+    (λ c. omega (arith, room (c .before .before .pre .0)))
+    (λ c κs. omega (arith, room (c .before .before .pre .0)))
+    (λ c g w. static-other g (start (c .before) .pre .0) (c .before .word-in .ensures) (c .if1 .taken))
+    (λ c. omega (arith, room (start (c .before) .pre .0)))
+    (λ c κs. omega (arith, room (start (c .before) .pre .0)))
     returns-2
     returns-3
-    add-type-markers
+    (λ c. omega (arith, room (start (field (flags c) .before) .pre .0)))
     type-markers-requires
-    has-requires
+    (λ c κs. search needs)
     returns-4)

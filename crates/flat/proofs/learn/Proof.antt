@@ -16,7 +16,21 @@ use Rattle.flat.proofs.Learning.{one-long, zeros-left, two-facts}
 use Rattle.flat.proofs.learn.Statement.{statement}
 use Rattle.flat.proofs.learn.Tie as tie
 
--- ---- what is known at the start, and of each part once it is filled
+-- ---- places: the start, then each part once it is filled
+
+abbrev entry : tie.After-overlays-arg → tie.Start
+entry c = c .before .before .before .before .before .before .before
+
+abbrev start : tie.After-overlays → tie.Start
+start c = entry (c .before .before)
+
+abbrev overlaid : tie.After-bans → tie.After-overlays
+overlaid c = c .before .before .before .before .before .before
+
+abbrev barred : tie.After-captures → tie.After-bans
+barred c = c .before .before .before .before .before .before
+
+-- ---- what is known there
 
 module _ (s : tie.Start) where
   abbrev nlib : ℕ
@@ -31,17 +45,11 @@ module _ (s : tie.Start) where
   long : length facts ≡ 768
   long = ap length (s .pre .1 .1 .1 .0)
 
-abbrev start : (c : tie.After-overlays) → tie.Start
-start c = c .before .before .before .before .before .before .before .before .before
-
 abbrev first : tie.After-overlays → List ℕ
 first c = c .overlays .last .1 .1 .1 .1 .1 .0
 
 known : (c : tie.After-overlays) → Known (g (start c)) (first c)
 known c = c .overlays .ensures .0
-
-abbrev overlaid : (c : tie.After-bans) → tie.After-overlays
-overlaid c = c .before .before .before .before .before .before
 
 abbrev second : tie.After-bans → List ℕ
 second c = c .bans .last .1 .1 .1 .1 .0
@@ -59,12 +67,9 @@ learnt c =
 
 -- ---- the calls
 
-part-overlays-end : tie.Need-part-overlays-end
-part-overlays-end c = omega (arith, long (c .before .before .before .before .before .before .before))
-
 overlays-requires : tie.Need-overlays-requires
 overlays-requires c κs =
-    let s = c .before .before .before .before .before .before .before .before in
+    let s = entry (c .before) in
     (s .pre .0, (ground (s .pre .0) (s .pre .1 .0) .falls, (s .pre .1 .1 .0, simp length-take (omega (arith, long s)))))
 
 part-bans-end : tie.Need-part-bans-end
@@ -76,9 +81,6 @@ bans-requires c κs =
     let s = start k in
     (s .pre .0, zeros-left (first k) (facts s) (known k .long) (s .pre .1 .1 .1 .0))
 
-part-captures-end : tie.Need-part-captures-end
-part-captures-end c = omega (arith, learnt (c .before .before .before) .long)
-
 captures-requires : tie.Need-captures-requires
 captures-requires c κs =
     let b = c .before .before .before .before .before in
@@ -87,17 +89,20 @@ captures-requires c κs =
 
 passes-requires : tie.Need-passes-requires
 passes-requires c κs =
-    let b = c .before .before .before .before .before .before .before .before .before .before in
+    let l = c .before .before .before .before in
+    let b = barred l in
     let s = start (overlaid b) in
-    record { indexed = s .pre .0; formed = s .pre .1 .0; facts = learnt b; shown = c .before .before .before .before .captures .ensures .shown }
+    record { indexed = s .pre .0; formed = s .pre .1 .0; facts = learnt b; shown = l .captures .ensures .shown }
 
 returns : tie.Need-returns
 returns c =
-    let b = c .before .before .before .before .before .before .before .before .before .before .before .before .before in
+    let d = c .before .before in
+    let l = d .before .before .before .before .before in
+    let b = barred l in
     let s = start (overlaid b) in
-    let done = c .before .before .passes .ensures in
-    let lanes = c .before .before .before .before .before .before .before .captures .ensures in (
-      (overlaid b) .overlays .ensures .1,
+    let done = d .passes .ensures in
+    let lanes = l .captures .ensures in (
+      overlaid b .overlays .ensures .1,
       (record { indexed = s .pre .0; formed = s .pre .1 .0; facts = keeps-facts (done .1) (learnt b); shown = lanes .shown }, (done .0, lanes)),
     )
 
@@ -107,7 +112,7 @@ learn-spec =
     (tie.spec
     (λ c. search needs)
     (λ c. search needs)
-    part-overlays-end
+    (λ c. omega (arith, long (entry c)))
     overlays-requires
     (λ c. search needs)
     (λ c. search needs)
@@ -115,7 +120,7 @@ learn-spec =
     bans-requires
     (λ c. search needs)
     (λ c. search needs)
-    part-captures-end
+    (λ c. omega (arith, learnt (c .before .before .before) .long))
     captures-requires
     passes-requires
     (λ c. search needs)

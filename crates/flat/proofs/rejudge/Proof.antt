@@ -7,30 +7,29 @@ use borrow.Author.Needs.{needs}
 use Rattle.flat.proofs.rejudge.Statement.{statement}
 use Rattle.flat.proofs.rejudge.Tie as tie
 
-abbrev start : (c : tie.After-learn) → tie.Start
-start c = c .before .before .before .before .before .before .before .before .before .before .before
+-- ---- places: the start, and what was learnt
 
-learn-requires : tie.Need-learn-requires
-learn-requires c κs =
-    let p = c .before .before .before .before .before .before .before .before .before .before .pre in
-    (p .0, (p .1 .0, (p .1 .1 .0, (refl, omega (arith, p .1 .1 .1 .1)))))
+abbrev start : tie.After-learn-arg2 → tie.Start
+start c = c .before .before .before .before .before .before .before .before .before .before
+
+abbrev learnt : tie.After-rewrite → tie.After-learn
+learnt c = c .before .before .before .before .before .before .before .before .before
 
 fill-requires : tie.Need-fill-requires
-fill-requires c κs =
-    let l = c .before .before .before .before .before .before .before .before .before .before .before .before in
-    omega (arith, (start l) .pre .1 .1 .1 .1, l .learn .ensures .1 .1 .1 .long)
+fill-requires c κs = let l = learnt (c .before .before .before) in omega (arith, start (l .before) .pre .1 .1 .1 .1, l .learn .ensures .1 .1 .1 .long)
 
 returns : tie.Need-returns
 returns c =
-    let learnt = c .before .before .before .before .before .before .before .before .before .before .before .before .before .before .before .learn .ensures in
-    (learnt .0, (c .before .before .before .before .before .before .rewrite .ensures, clear-is (learnt .1 .1 .1) (c .before .before .fill .ensures)))
+    let w = c .before .before .before .before .before .before in
+    let e = learnt w .learn .ensures in
+    (e .0, (w .rewrite .ensures, clear-is (e .1 .1 .1) (c .before .before .fill .ensures)))
 
 pub rejudge-spec : {M : Type 1} → statement M
 rejudge-spec =
     tie.close
     (tie.spec
     (λ c. search needs)
-    learn-requires
+    (λ c κs. let p = start c .pre in (p .0, (p .1 .0, (p .1 .1 .0, (refl, omega (arith, p .1 .1 .1 .1))))))
     (λ c. search needs)
     (λ c κs. search needs)
     fill-requires

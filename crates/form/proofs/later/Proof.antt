@@ -17,11 +17,17 @@ use Rattle.form.proofs.later.Tie as tie
 abbrev rows : tie.After-second-pass → tie.After-heads
 rows c = c .before .before .before .before
 
-abbrev first : tie.After-second-pass2 → tie.After-second-pass
-first c = c .before .before .before .before .before
+abbrev first : tie.After-second-pass2 → tie.After-enum-told
+first c = c .before .before .before
+
+abbrev second : tie.After-deemed → tie.After-second-pass2
+second c = c .before .before .before .before
 
 abbrev start : tie.After-heads → tie.Start
 start c = c .before .before .before .before .before .before .before .before .before .before .before
+
+abbrev start2 : tie.After-second-pass2 → tie.Start
+start2 c = start (rows (first c .before .before))
 
 indexed : (s : tie.Start) → let a = s .args in
     Indexed (a .library .now) (spliced (a .user .now) (a .group .now) (a .view .cut)) (a .view .classes .library) (a .view .classes .all) (a .starts .now)
@@ -47,29 +53,33 @@ second-pass-requires-2 c κs = let h = rows (c .before .before .before .before) 
 returns-2 : tie.Need-returns-2
 returns-2 c =
     let v = c .before .before .before in
-    let s = start (rows (first v)) in
-    later-second (indexed s) (first v .second-pass .ensures) (v .before .before .before .enum-told .given .1) (v .second-pass2 .ensures) (c .before .second .given .1) (s .pre .1)
+    let e = first v in
+    let s = start2 v in
+    later-second (indexed s) (e .before .before .second-pass .ensures) (e .enum-told .given .1) (v .second-pass2 .ensures) (c .before .second .given .1) (s .pre .1)
 
 deemed-requires : tie.Need-deemed-requires
 deemed-requires c κs =
     let v = c .before .before .before in
-    let s = start (rows (first v)) in
-    let f = later-alone (indexed s) (first v .second-pass .ensures) (v .before .before .before .enum-told .given .1) (v .second-pass2 .ensures) (c .before .enum-told2 .given .1) in
+    let e = first v in
+    let s = start2 v in
+    let f = later-alone (indexed s) (e .before .before .second-pass .ensures) (e .enum-told .given .1) (v .second-pass2 .ensures) (c .before .enum-told2 .given .1) in
     (alone-here s, (f, s .pre .1))
 
 returns-3 : tie.Need-returns-3
 returns-3 c =
     let o = c .before .before .before .before .before in
-    let v = o .before .before .before .before in
-    let s = start (rows (first v)) in
-    later-deemed (indexed s) (first v .second-pass .ensures) (v .before .before .before .enum-told .given .1) (v .second-pass2 .ensures) (o .before .before .enum-told2 .given .1) (o .deemed .ensures)
-    (c .before .before .if1 .taken) (c .wide .ensures .0 ∙ indexed s .starts _ (omega (arith, classes-ordered (indexed s))))
+    let v = second o in
+    let e = first v in
+    let x = indexed (start2 v) in
+    later-deemed x (e .before .before .second-pass .ensures) (e .enum-told .given .1) (v .second-pass2 .ensures) (o .before .before .enum-told2 .given .1) (o .deemed .ensures)
+    (c .before .before .if1 .taken) (c .wide .ensures .0 ∙ x .starts _ (omega (arith, classes-ordered x)))
 
 returns-4 : tie.Need-returns-4
 returns-4 c =
     let o = c .before .before .before in
-    let v = o .before .before .before .before in
-    later-fine (indexed (start (rows (first v)))) (first v .second-pass .ensures) (v .before .before .before .enum-told .given .1) (v .second-pass2 .ensures) (o .before .before .enum-told2 .given .1)
+    let v = second o in
+    let e = first v in
+    later-fine (indexed (start2 v)) (e .before .before .second-pass .ensures) (e .enum-told .given .1) (v .second-pass2 .ensures) (o .before .before .enum-told2 .given .1)
     (o .deemed .ensures) (omega arith)
 
 pub later-spec : {M : Type 1} → statement M
@@ -93,8 +103,8 @@ later-spec =
     returns-2
     (λ c. search needs)
     deemed-requires
-    (λ c. let s = start (rows (first (c .before .before .before .before .before .before .before))) in omega (arith, alone-here s .few))
-    (λ c. let s = start (rows (first (c .before .before .before .before .before .before .before .before))) in omega (arith, alone-here s .few, alone-here s .long))
+    (λ c. let s = start2 (second (c .before .before .before)) in omega (arith, alone-here s .few))
+    (λ c. let s = start2 (second (c .before .before .before .before)) in omega (arith, alone-here s .few, alone-here s .long))
     (λ c κs. search needs)
     (λ c. search needs)
     returns-3

@@ -9,36 +9,36 @@ use Rattle.form.proofs.Accepting.{library-long, used-long, used-past, p
 use Rattle.form.proofs.present.Statement.{statement}
 use Rattle.form.proofs.present.Tie as tie
 
-returns : tie.Need-returns
-returns c = rw (c .plain .ensures) (library-long _ _ _ (c .before .before .before .before .before .before .pre) (omega arith))
+-- ---- places: the start, also from where the sheets are checked
 
-returns-2 : tie.Need-returns-2
-returns-2 c = used-long _ _ _ (omega arith) (c .before .before .before .before .before .before .pre) (omega arith)
+abbrev start : tie.After-slice-known2 → tie.Start
+start c = c .before .before .before .before
 
-returns-3 : tie.Need-returns-3
-returns-3 c = used-past _ _ _ (omega arith) (omega arith) (c .before .before .before .before .before .before .before .pre) (omega arith)
+abbrev asked : tie.After-check-arg3 → tie.Start
+asked c = start (c .before .before .before .before .before .before)
+
+-- ---- the needs
 
 check-requires : tie.Need-check-requires
 check-requires c κs =
-    let s = c .before .before .before .before .before .before .before .before .before .before in
-    let u = s .args .user .now in
-    let k = s .args .used in
-    (plain-fits _ _ (omega arith), ((omega arith, omega (arith, ap length (plain u k), length-take k u)), s .pre))
+    let u = asked c .args .user .now in
+    let k = asked c .args .used in
+    (plain-fits _ _ (omega arith), ((omega arith, omega (arith, ap length (plain u k), length-take k u)), asked c .pre))
 
 returns-4 : tie.Need-returns-4
 returns-4 c =
     let w = c .before .before .before .before in
-    let s = w .before .before .before .before .before .before .before .before .before .before .before in
-    present-is _ _ _ (omega arith) (omega arith) (omega arith) _ (plain (s .args .user .now) (s .args .used)) (w .check .ensures)
+    let a = asked (w .before) .args in
+    present-is _ _ _ (omega arith) (omega arith) (omega arith) _ (plain (a .user .now) (a .used)) (w .check .ensures)
 
 pub present-spec : {M : Type 1} → statement M
 present-spec =
     tie.close
     (tie.spec
     (λ c κs. search needs)
-    returns
-    returns-2
-    returns-3
+    (λ c. rw (c .plain .ensures) (library-long _ _ _ (start (c .before .before) .pre) (omega arith)))
+    (λ c. used-long _ _ _ (omega arith) (start (c .before .before) .pre) (omega arith))
+    (λ c. used-past _ _ _ (omega arith) (omega arith) (start (c .before .before .before) .pre) (omega arith))
     (λ c. search needs)
     (λ c. search needs)
     (λ c. search needs)

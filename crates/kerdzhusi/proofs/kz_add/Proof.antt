@@ -7,19 +7,16 @@ use borrow.Author.Needs.{needs}
 use Rattle.kerdzhusi.proofs.kz_add.Statement.{statement}
 use Rattle.kerdzhusi.proofs.kz_add.Tie as tie
 
-changed-requires : tie.Need-changed-requires
-changed-requires c κs = record { low = adds-low _ (c .before .before .before .before .before .before .add .ensures) }
-
-returns : tie.Need-returns
-returns c = replies plainValue _ (c .before .before .before .before .before .before .before .add .ensures) (c .changed .ensures)
+abbrev added : tie.After-slice-known6 → tie.After-add
+added c = c .before .before .before .before .before .before
 
 pub kz-add-spec : {M : Type 1} → statement M
 kz-add-spec =
     tie.close
     (tie.spec
     (λ c κs. search needs)
-    changed-requires
+    (λ c κs. record { low = adds-low _ (added c .add .ensures) })
     (λ c. search needs)
     (λ c. search needs)
     (λ c. search needs)
-    returns)
+    (λ c. replies plainValue _ (added (c .before) .add .ensures) (c .changed .ensures)))

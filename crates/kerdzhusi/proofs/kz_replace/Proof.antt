@@ -7,19 +7,16 @@ use borrow.Author.Needs.{needs}
 use Rattle.kerdzhusi.proofs.kz_replace.Statement.{statement}
 use Rattle.kerdzhusi.proofs.kz_replace.Tie as tie
 
-changed-requires : tie.Need-changed-requires
-changed-requires c κs = record { low = replaces-low _ _ (c .before .before .before .before .before .before .replace .ensures) }
-
-returns : tie.Need-returns
-returns c = replies plainValue _ (c .before .before .before .before .before .before .before .replace .ensures) (c .changed .ensures)
+abbrev replaced : tie.After-slice-known6 → tie.After-replace
+replaced c = c .before .before .before .before .before .before
 
 pub kz-replace-spec : {M : Type 1} → statement M
 kz-replace-spec =
     tie.close
     (tie.spec
     (λ c κs. search needs)
-    changed-requires
+    (λ c κs. record { low = replaces-low _ _ (replaced c .replace .ensures) })
     (λ c. search needs)
     (λ c. search needs)
     (λ c. search needs)
-    returns)
+    (λ c. replies plainValue _ (replaced (c .before) .replace .ensures) (c .changed .ensures)))

@@ -23,17 +23,27 @@ entry c = start (c .before .before .before .before)
 abbrev sized : tie.After-put-number → tie.After-wide2
 sized c = c .before .before .before .before .before .before
 
-abbrev numbered : tie.After-put → tie.After-put-number
-numbered c = c .before .before .before .before
+abbrev numbered : tie.After-put-arg → tie.After-put-number
+numbered c = c .before .before .before
 
-abbrev spaced : tie.After-put-part → tie.After-put
-spaced c = c .before .before .before .before
+abbrev spaced : tie.After-put-part-arg → tie.After-put
+spaced c = c .before .before .before
 
-abbrev named : tie.After-put2 → tie.After-put-part
-named c = c .before .before .before .before
+abbrev named : tie.After-put-arg2 → tie.After-put-part
+named c = c .before .before .before
 
-abbrev parted : tie.After-put-verdict → tie.After-put2
-parted c = c .before .before .before .before
+abbrev parted : tie.After-put-verdict-arg → tie.After-put2
+parted c = c .before .before .before
+
+-- the start, from each text
+abbrev start0 : tie.After-put → tie.Start
+start0 c = entry (sized (numbered (c .before)))
+
+abbrev start1 : tie.After-put-part → tie.Start
+start1 c = start0 (spaced (c .before))
+
+abbrev start2 : tie.After-put2 → tie.Start
+start2 c = start1 (named (c .before))
 
 -- ---- the class
 
@@ -55,36 +65,30 @@ name-by c =
 numbered-low : (c : tie.After-put-number) → c .put-number .result ≤ entry (sized c) .args .at + 20
 numbered-low c = let a = entry (sized c) .args in omega (arith, decimal-length (a .classes .library + a .i), c .put-number .ensures .0)
 
-spaced-low : (c : tie.After-put) → c .put .result ≤ entry (sized (numbered c)) .args .at + 21
-spaced-low c = omega (arith, numbered-low (numbered c), c .put .ensures .0)
+spaced-low : (c : tie.After-put) → c .put .result ≤ start0 c .args .at + 21
+spaced-low c = omega (arith, numbered-low (numbered (c .before)), c .put .ensures .0)
 
-named-low : (c : tie.After-put-part) → c .put-part .result ≤ entry (sized (numbered (spaced c))) .args .at + 121
-named-low c = omega (arith, spaced-low (spaced c), name-by (sized (numbered (spaced c))) .short, c .put-part .ensures .0)
+named-low : (c : tie.After-put-part) → c .put-part .result ≤ start1 c .args .at + 121
+named-low c = omega (arith, spaced-low (spaced (c .before)), name-by (sized (numbered (spaced (c .before) .before))) .short, c .put-part .ensures .0)
 
-parted-low : (c : tie.After-put2) → c .put2 .result ≤ entry (sized (numbered (spaced (named c)))) .args .at + 122
-parted-low c = omega (arith, named-low (named c), c .put2 .ensures .0)
+parted-low : (c : tie.After-put2) → c .put2 .result ≤ start2 c .args .at + 122
+parted-low c = omega (arith, named-low (named (c .before)), c .put2 .ensures .0)
 
 -- ---- the needs
 
 put-part-requires : tie.Need-put-part-requires
 put-part-requires c κs =
-    let s = c .before .before .before in
-    let q = name-by (sized (numbered s)) in
-    (omega (arith, spaced-low s, entry (sized (numbered s)) .pre), omega (arith, q .long), q .within, omega (arith, q .low))
-
-put-requires-2 : tie.Need-put-requires-2
-put-requires-2 c κs = let p = c .before .before .before in omega (arith, named-low p, entry (sized (numbered (spaced p))) .pre)
-
-put-verdict-requires : tie.Need-put-verdict-requires
-put-verdict-requires c κs = let d = c .before .before .before in omega (arith, parted-low d, entry (sized (numbered (spaced (named d)))) .pre)
+    let s = spaced c in
+    let q = name-by (sized (numbered (s .before))) in
+    (omega (arith, spaced-low s, start0 s .pre), omega (arith, q .long), q .within, omega (arith, q .low))
 
 returns : tie.Need-returns
 returns c =
     let v = c .before .before in
-    let d = parted v in
-    let p = named d in
-    let s = spaced p in
-    let n = numbered s in
+    let d = parted (v .before) in
+    let p = named (d .before) in
+    let s = spaced (p .before) in
+    let n = numbered (s .before) in
     let z = sized n in
     let e = entry z in
     let q = name-by z in
@@ -113,10 +117,10 @@ class-line-spec =
     (λ c. omega (arith, room (entry (c .before .before .before))))
     (λ c κs. search needs)
     (λ c κs. search needs)
-    (λ c κs. omega (arith, numbered-low (c .before .before .before)))
-    (λ c. omega (arith, name-by (sized (numbered (c .before .before .before))) .low))
+    (λ c κs. omega (arith, numbered-low (numbered c)))
+    (λ c. omega (arith, name-by (sized (numbered (spaced c .before))) .low))
     put-part-requires
-    put-requires-2
-    put-verdict-requires
+    (λ c κs. omega (arith, named-low (named c), start1 (named c) .pre))
+    (λ c κs. omega (arith, parted-low (parted c), start2 (parted c) .pre))
     (λ c. search needs)
     returns)

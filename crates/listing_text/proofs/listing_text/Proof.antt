@@ -21,11 +21,14 @@ judged c = c .before .before .before .before .before
 abbrev counted : tie.After-counts-line → tie.After-judged2
 counted c = c .before .before .before
 
+abbrev lined : tie.After-accepted-lines-arg → tie.After-counts-line
+lined c = c .before .before .before .before
+
 -- ---- the needs
 
 accepted-lines-requires : tie.Need-accepted-lines-requires
 accepted-lines-requires c κs =
-    let w = c .before .before .before .before in
+    let w = lined c in
     let k = counted w in
     let j = judged k in
     let a = start j .args in
@@ -48,7 +51,7 @@ returns c =
 
 returns-2 : tie.Need-returns-2
 returns-2 c =
-    let w = c .before .before .before .before .before .before .before in
+    let w = lined (c .before .before .before) in
     let k = counted w in
     let j = judged k in
     let a = start j .args in

@@ -11,25 +11,28 @@ use borrow.Author.Needs.{needs}
 use Rattle.listing_text.proofs.refusal_line.Statement.{statement}
 use Rattle.listing_text.proofs.refusal_line.Tie as tie
 
--- ---- places: from each text to the one before it
+-- ---- places: the start, and from where each text is written to the one before it
 
-abbrev opened : tie.After-put-number → tie.After-put-word
-opened c = c .before .before .before .before .before
+abbrev start : tie.After-put-word → tie.Start
+start c = c .before .before .before .before
 
-abbrev first : tie.After-put-word2 → tie.After-put-number
-first c = c .before .before .before .before .before
+abbrev opened : tie.After-wide-byte → tie.After-put-word
+opened c = c .before .before .before .before
 
-abbrev on : tie.After-put-number2 → tie.After-put-word2
-on c = c .before .before .before .before .before
+abbrev first : tie.After-put-word-arg4 → tie.After-put-number
+first c = c .before .before .before .before
 
-abbrev second : tie.After-put-word3 → tie.After-put-number2
-second c = c .before .before .before .before .before
+abbrev on : tie.After-wide-byte2 → tie.After-put-word2
+on c = c .before .before .before .before
 
-abbrev further : tie.After-put-number3 → tie.After-put-word3
-further c = c .before .before .before .before
+abbrev second : tie.After-put-word-arg6 → tie.After-put-number2
+second c = c .before .before .before .before
 
-abbrev third : tie.After-put → tie.After-put-number3
-third c = c .before .before .before .before
+abbrev further : tie.After-put-number-arg3 → tie.After-put-word3
+further c = c .before .before .before
+
+abbrev third : tie.After-put-arg → tie.After-put-number3
+third c = c .before .before .before
 
 -- ---- how far each text reaches
 
@@ -37,20 +40,22 @@ opened-low : (c : tie.After-put-word) → c .put-word .result ≤ 8
 opened-low c = omega (arith, c .put-word .ensures .place)
 
 first-low : (c : tie.After-put-number) → c .put-number .result ≤ 28
-first-low c = omega (arith, opened-low (opened c), decimal-length (c .before .wide-byte .result), c .put-number .ensures .0)
+first-low c = omega (arith, opened-low (opened (c .before)), decimal-length (c .before .wide-byte .result), c .put-number .ensures .0)
 
 on-low : (c : tie.After-put-word2) → c .put-word2 .result ≤ 35
-on-low c = omega (arith, first-low (first c), c .put-word2 .ensures .place)
+on-low c = omega (arith, first-low (first (c .before)), c .put-word2 .ensures .place)
 
 second-low : (c : tie.After-put-number2) → c .put-number2 .result ≤ 55
-second-low c = omega (arith, on-low (on c), decimal-length (c .before .wide-byte2 .result), c .put-number2 .ensures .0)
+second-low c = omega (arith, on-low (on (c .before)), decimal-length (c .before .wide-byte2 .result), c .put-number2 .ensures .0)
 
 further-low : (c : tie.After-put-word3) → c .put-word3 .result ≤ 61
-further-low c = omega (arith, second-low (second c), c .put-word3 .ensures .place)
+further-low c = omega (arith, second-low (second (c .before)), c .put-word3 .ensures .place)
 
 third-low : (c : tie.After-put-number3) → c .put-number3 .result ≤ 81
 third-low c =
-    omega (arith, further-low (further c), decimal-length (opened (first (on (second (further c)))) .before .before .before .before .args .refusal .byte), c .put-number3 .ensures .0)
+    let b = on (second (further (c .before) .before) .before) in
+    let o = opened (first (b .before) .before) in
+    omega (arith, further-low (further (c .before)), decimal-length (start o .args .refusal .byte), c .put-number3 .ensures .0)
 
 -- ---- the texts
 
@@ -58,15 +63,15 @@ returns : tie.Need-returns
 unfolding refusedWord sheetWord byteWord refusalText
 returns c =
     let f = c .before .before in
-    let e = third f in
-    let d = further e in
-    let r = second d in
-    let b = on r in
-    let a = first b in
-    let o = opened a in
+    let e = third (f .before) in
+    let d = further (e .before) in
+    let r = second (d .before) in
+    let b = on (r .before) in
+    let a = first (b .before) in
+    let o = opened (a .before) in
     then (o .put-word .ensures) (then (same-text (ap decimal (a .before .wide-byte .ensures)) (a-number _ (a .put-number .ensures)))
     (then (b .put-word2 .ensures) (then (same-text (ap decimal (r .before .wide-byte2 .ensures)) (a-number _ (r .put-number2 .ensures)))
-    (then (d .put-word3 .ensures) (then (a-number (o .before .before .before .before .args .refusal .byte) (e .put-number3 .ensures)) (one-byte (f .put .ensures)))))))
+    (then (d .put-word3 .ensures) (then (a-number (start o .args .refusal .byte) (e .put-number3 .ensures)) (one-byte (f .put .ensures)))))))
 
 pub refusal-line-spec : {M : Type 1} → statement M
 refusal-line-spec =
@@ -75,14 +80,14 @@ refusal-line-spec =
     (λ c. search needs)
     (λ c κs. search needs)
     (λ c κs. search needs)
-    (λ c κs. omega (arith, opened-low (c .before .before .before .before)))
+    (λ c κs. omega (arith, opened-low (opened c)))
     (λ c. search needs)
-    (λ c κs. (omega (arith, first-low (c .before .before .before .before)), omega arith))
+    (λ c κs. (omega (arith, first-low (first c)), omega arith))
     (λ c κs. search needs)
-    (λ c κs. omega (arith, on-low (c .before .before .before .before)))
+    (λ c κs. omega (arith, on-low (on c)))
     (λ c. search needs)
-    (λ c κs. (omega (arith, second-low (c .before .before .before .before)), omega arith))
-    (λ c κs. omega (arith, further-low (c .before .before .before)))
-    (λ c κs. omega (arith, third-low (c .before .before .before)))
+    (λ c κs. (omega (arith, second-low (second c)), omega arith))
+    (λ c κs. omega (arith, further-low (further c)))
+    (λ c κs. omega (arith, third-low (third c)))
     (λ c. search needs)
     returns)

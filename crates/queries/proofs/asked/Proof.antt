@@ -6,17 +6,13 @@ use Rattle.queries.proofs.Asking.{sheets-refused, class-unused, class-u
 use Rattle.queries.proofs.asked.Statement.{statement}
 use Rattle.queries.proofs.asked.Tie as tie
 
-abbrev present : tie.After-checked → tie.After-present
-present c = c .before .before .before .before .before .before
-
-returns : tie.Need-returns
-returns c = sheets-refused _ _ _ _ (c .before .before .before .before .before .before .present .ensures) (c .enum-told .given .1)
+abbrev present : tie.After-slice-known4 → tie.After-present
+present c = c .before .before .before .before
 
 returns-2 : tie.Need-returns-2
-returns-2 c = let d = c .before .before .before .before in rw (c .plain .ensures) (class-unused _ _ _ _ (present d .present .ensures) (d .checked .given .1) (omega arith))
-
-returns-3 : tie.Need-returns-3
-returns-3 c = let d = c .before .before .before in class-used _ _ _ _ (present d .present .ensures) (d .checked .given .1) (omega arith)
+returns-2 c =
+    let d = c .before .before .before .before in
+    rw (c .plain .ensures) (class-unused _ _ _ _ (present (d .before .before) .present .ensures) (d .checked .given .1) (omega arith))
 
 pub asked-spec : {M : Type 1} → statement M
 asked-spec =
@@ -27,11 +23,11 @@ asked-spec =
     (λ c. search needs)
     (λ c. search needs)
     (λ c. search needs)
-    returns
+    (λ c. sheets-refused _ _ _ _ (present (c .before .before) .present .ensures) (c .enum-told .given .1))
     (λ c κs. search needs)
     (λ c. search needs)
     (λ c. search needs)
     returns-2
     (λ c. search needs)
     (λ c. search needs)
-    returns-3)
+    (λ c. let d = c .before .before .before in class-used _ _ _ _ (present (d .before .before) .present .ensures) (d .checked .given .1) (omega arith)))

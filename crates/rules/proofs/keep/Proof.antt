@@ -1,7 +1,9 @@
 -- Upward, a class at a time; the class number falls.
 -- Assumes nothing.
 use mathlib.Core.Path.{sym, _∙_}
+use Prim.Native.Nat.{_<_}
 use native.Mathlib.Omega.{arith}
+use lib.ListN.{set}
 use borrow.Author.Needs.{needs}
 use Rattle.spec.specs.Sheet.{group as groupOf}
 use Rattle.rules.proofs.Verdicts.{ground}
@@ -15,40 +17,29 @@ Inv-loop library user starts classes rule c kept₀ nlib t₀ kept t = Keeping (
 abbrev μ-loop : tie.MeasureT-loop
 μ-loop library user starts classes rule c kept₀ nlib t₀ kept t = t
 
+-- ---- places: the start, and the loop upward
+
+abbrev start : tie.At-loop Inv-loop μ-loop → tie.Start Inv-loop μ-loop
+start c = c .before .before .before .before .before
+
+abbrev looped : tie.After-wide Inv-loop μ-loop → tie.In-loop Inv-loop μ-loop
+looped c = c .before .before .before
+
+goes-up : (c : tie.After-wide Inv-loop μ-loop) → let l = looped c .before in let a = start l .args in let u = c .wide .result in
+    Keeping (a .classes .library) (a .classes .all) (groupOf (a .library .now) (a .user .now)) (a .rule) (set (l .loop .kept) (c .before .before .kept-at .result) 1) u × (u < l .loop .t)
+goes-up c =
+    let i = looped c in
+    let p = start (i .before) .pre in
+    keep-next (ground (p .0) (p .1 .0)) (p .1 .1 .0 .0) (p .1 .1 .0 .1) (p .0 .few) (i .before .loop .inv) (i .loop-test .taken) (c .before .before .kept-at .ensures .0)
+    (c .wide .ensures .0) (c .before .class-word .ensures)
+
+-- ---- the needs
+
 loop-holds : tie.Need-loop-holds Inv-loop μ-loop
 loop-holds c = let p = c .before .before .before .before .pre .1 .1 in record { kept = p .1 .1; there = p .0 .2; empty = p .1 .0 }
 
 kept-at-requires : tie.Need-kept-at-requires Inv-loop μ-loop
-kept-at-requires c κs = let p = c .before .before .before .before .before .before .pre in (p .1 .1 .0 .0, p .1 .1 .0 .1, omega (arith, p .0 .few, c .before .loop .inv .there))
-
-slice-write-kept : tie.Need-slice-write-kept Inv-loop μ-loop
-slice-write-kept c = omega (arith, c .kept-at .ensures .1, c .before .before .loop .inv .kept .long)
-
-class-word-requires : tie.Need-class-word-requires Inv-loop μ-loop
-class-word-requires c κs = let p = c .before .before .before .before .before .before .before .pre in (p .0, (c .before .before .loop .inv .there, omega arith))
-
-wide-requires : tie.Need-wide-requires Inv-loop μ-loop
-wide-requires c κs = search needs
-
-loop-less : tie.Need-loop-less Inv-loop μ-loop
-loop-less c =
-    let p = c .before .before .before .before .before .before .before .before .before .pre in
-    let up = keep-next (ground (p .0) (p .1 .0)) (p .1 .1 .0 .0) (p .1 .1 .0 .1) (p .0 .few) (c .before .before .before .before .loop .inv) (c .before .before .before .loop-test .taken)
-    (c .before .before .kept-at .ensures .0) (c .wide .ensures .0) (c .before .class-word .ensures) in
-    up .1
-
-loop-again : tie.Need-loop-again Inv-loop μ-loop
-loop-again c =
-    let p = c .before .before .before .before .before .before .before .before .before .pre in
-    let up = keep-next (ground (p .0) (p .1 .0)) (p .1 .1 .0 .0) (p .1 .1 .0 .1) (p .0 .few) (c .before .before .before .before .loop .inv) (c .before .before .before .loop-test .taken)
-    (c .before .before .kept-at .ensures .0) (c .wide .ensures .0) (c .before .class-word .ensures) in
-    up .0
-
-same-length : tie.Need-same-length Inv-loop μ-loop
-same-length c = c .before .loop .inv .kept .long ∙ sym (c .before .before .before .before .before .before .pre .1 .1 .1 .1 .long)
-
-returns : tie.Need-returns Inv-loop μ-loop
-returns c = c .before .loop .inv .kept
+kept-at-requires c κs = let p = start (c .before) .pre in (p .1 .1 .0 .0, p .1 .1 .0 .1, omega (arith, p .0 .few, c .before .loop .inv .there))
 
 pub keep-spec : {M : Type 1} → statement M
 keep-spec =
@@ -58,10 +49,10 @@ keep-spec =
     μ-loop
     loop-holds
     kept-at-requires
-    slice-write-kept
-    class-word-requires
-    wide-requires
-    loop-less
-    loop-again
-    same-length
-    returns)
+    (λ c. omega (arith, c .kept-at .ensures .1, c .before .before .loop .inv .kept .long))
+    (λ c κs. let l = c .before .before in (start l .pre .0, (l .loop .inv .there, omega arith)))
+    (λ c κs. search needs)
+    (λ c. goes-up c .1)
+    (λ c. goes-up c .0)
+    (λ c. c .before .loop .inv .kept .long ∙ sym (start (c .before) .pre .1 .1 .1 .1 .long))
+    (λ c. c .before .loop .inv .kept))

@@ -1,11 +1,12 @@
 -- `rules::verdict_of`: what is left of the walk finds what the whole walk finds.
 -- Assumes nothing.
-use Prim.Native.Nat.{_-_}
-use mathlib.Core.Path.{sym, _∙_, subst}
+use Prim.Native.Nat.{ℕ, _-_, _≤_, _<_}
+use mathlib.Core.Path.{_≡_, sym, _∙_, subst}
 use mathlib.Core.Logic.{⊎-elim}
 use native.Mathlib.Omega.{arith}
 use borrow.Author.Needs.{needs}
-use Rattle.spec.specs.Sheet.{group as groupOf}
+use lib.ListN.{length}
+use Rattle.spec.specs.Sheet.{Group, classRecord, group as groupOf}
 use Rattle.records.proofs.Between.{tiled-room}
 use Rattle.records.proofs.Walks.{walk-on}
 use Rattle.groups.proofs.Held.{class-long}
@@ -40,70 +41,110 @@ Inv-judged library user starts classes facts lanes c kept₀ n markers rule₀ k
 abbrev μ-judged : tie.MeasureT-judged
 μ-judged library user starts classes facts lanes c kept₀ n markers rule₀ kept rule = 11 - rule
 
--- ---- what is known from the start
+-- a place or a need, for these invariants
+abbrev At : (tie.InvT-loop2 → tie.MeasureT-loop2 → tie.InvT-loop → tie.MeasureT-loop → tie.InvT-judged → tie.MeasureT-judged → Type 0) → Type 0
+At P = P Inv-loop2 μ-loop2 Inv-loop μ-loop Inv-judged μ-judged
 
-abbrev Start : Type 0
-Start = tie.Start Inv-loop2 μ-loop2 Inv-loop μ-loop Inv-judged μ-judged
+-- ---- places: the start, then the loops over rules, over classes and over records
 
-grounded : (s : Start) → Ground (s .args .classes .library) (s .args .classes .all) (groupOf (s .args .library .now) (s .args .user .now))
+abbrev start : At tie.At-judged → At tie.Start
+start c = c .before .before .before .before .before .before .before .before
+
+abbrev ruled : At tie.At-loop → At tie.At-judged
+ruled c = c .before .before .before .before .before
+
+abbrev classed : At tie.At-loop2 → At tie.At-loop
+classed c = c .before .before .before .before
+
+-- ---- what is known there
+
+abbrev g : At tie.Start → ℕ → Group
+g s = groupOf (s .args .library .now) (s .args .user .now)
+
+grounded : (s : At tie.Start) → Ground (s .args .classes .library) (s .args .classes .all) (g s)
 grounded s = ground (s .pre .0 .indexed) (s .pre .0 .formed)
 
-judged-holds : tie.Need-judged-holds Inv-loop2 μ-loop2 Inv-loop μ-loop Inv-judged μ-judged
-judged-holds c = (rule-start, c .before .before .before .before .before .before .before .pre .1 .1)
+same : (c : At tie.At-judged) → length (c .judged .kept) ≡ length (start c .args .kept .now)
+same c = c .judged .inv .1 .long ∙ sym (start c .pre .1 .1 .long)
 
-first-class-requires :
-    tie.Need-first-class-requires Inv-loop2 μ-loop2 Inv-loop μ-loop Inv-judged μ-judged
-first-class-requires c κs =
-    let s = c .before .before .before .before .before .before .before .before .before in
-    (s .pre .0 .indexed, (s .pre .0 .facts .known, s .pre .1 .0 .1))
+ten : (c : At tie.At-loop) → ruled c .judged .rule ≤ 10
+ten c = c .before .before .before .before .if1 .left
 
-climb-requires : tie.Need-climb-requires Inv-loop2 μ-loop2 Inv-loop μ-loop Inv-judged μ-judged
-climb-requires c κs = (c .before .before .before .judged .inv .1 .long, c .before .before .before .before .before .before .before .before .before .before .before .pre .0 .indexed .few, omega arith)
+long : (c : At tie.In-loop) → 13 ≤ length (classRecord (g (start (ruled (c .before))) (c .before .loop .t)))
+long c = class-long (start (ruled (c .before)) .pre .0 .indexed) (c .loop-test .taken)
 
-loop-holds : tie.Need-loop-holds Inv-loop2 μ-loop2 Inv-loop μ-loop Inv-judged μ-judged
+low : (c : At tie.In-loop2) → c .before .loop2 .k < 255
+low c =
+    let w = c .before in
+    let s = start (ruled (classed w)) in
+    record-low (s .pre .0 .indexed) (grounded s) (s .pre .1 .0 .0) (s .pre .1 .0 .1) (w .loop2 .inv) (c .loop2-test .taken)
+
+begins : (c : At tie.After-first-class) → let j = c .before .before in let s = start j in
+    ClassAt (s .args .classes .library) (s .args .classes .all) (g s) (s .args .c) (j .judged .rule) (c .first-class .result)
+begins c =
+    let j = c .before .before in
+    let s = start j in
+    class-start (grounded s) (s .pre .1 .0 .0) (s .pre .1 .0 .1) (j .judged .inv .0) (c .first-class .ensures)
+
+-- the class after one whose records were all asked
+goes-on : (c : At tie.After-climb2) → let l = classed (c .before .before .before .before) in let j = ruled l in let s = start j in let n = s .args .classes .all in
+    ClassAt (s .args .classes .library) n (g s) (s .args .c) (j .judged .rule) (c .climb2 .result) × (left n (s .args .c) (c .climb2 .result) < left n (s .args .c) (l .loop .t))
+goes-on c =
+    let w = c .before .before .before .before in
+    let i = w .before .before .before in
+    let j = ruled (i .before) in
+    let s = start j in
+    let next = record-end (s .pre .0 .indexed) (grounded s) (s .pre .1 .0 .0) (s .pre .1 .0 .1) (w .loop2 .inv) (i .loop-test .taken) (c .before .before .before .loop2-test .left)
+    (c .before .next-class .ensures .is _ (w .loop2 .inv .carries) (long i)) in
+    let up = climb-at (grounded s) (s .pre .1 .0 .0) (s .pre .1 .0 .1) (j .judged .inv .1) (ten (i .before)) (next .0) (c .climb2 .ensures) in
+    (up .0, omega (arith, next .1, up .1))
+
+-- ---- the needs
+
+first-class-requires : At tie.Need-first-class-requires
+first-class-requires c κs = let s = start (c .before) in (s .pre .0 .indexed, (s .pre .0 .facts .known, s .pre .1 .0 .1))
+
+climb-requires : At tie.Need-climb-requires
+climb-requires c κs = let j = c .before .before .before in (j .judged .inv .1 .long, start j .pre .0 .indexed .few, omega arith)
+
+loop-holds : At tie.Need-loop-holds
 loop-holds c =
-    let s = c .before .before .before .before .before .before .before .before .before .before .before .before in
-    let rules = c .before .before .before .before .judged .inv in
-    climb-at (grounded s) (s .pre .1 .0 .0) (s .pre .1 .0 .1) (rules .1) (omega arith)
-    (class-start (grounded s) (s .pre .1 .0 .0) (s .pre .1 .0 .1) (rules .0) (c .before .before .first-class .ensures)) (c .climb .ensures) .0
+    let f = c .before .before in
+    let j = f .before .before in
+    let s = start j in
+    climb-at (grounded s) (s .pre .1 .0 .0) (s .pre .1 .0 .1) (j .judged .inv .1) (f .before .if1 .left) (begins f) (c .climb .ensures) .0
 
-class-bytes-requires :
-    tie.Need-class-bytes-requires Inv-loop2 μ-loop2 Inv-loop μ-loop Inv-judged μ-judged
-class-bytes-requires c κs = let s = c .before .before .before .before .before .before .before .before .before .before .before .before .before .before in (s .pre .0 .indexed, omega arith)
+asked-end-requires : At tie.Need-asked-end-requires
+asked-end-requires c κs = omega (arith, class-within (c .class-bytes .ensures) (long (c .before)))
 
-asked-end-requires :
-    tie.Need-asked-end-requires Inv-loop2 μ-loop2 Inv-loop μ-loop Inv-judged μ-judged
-asked-end-requires c κs = omega (
-  arith,
-  class-within (c .class-bytes .ensures)
-      (class-long (c .before .before .before .before .before .before .before .before .before .before .before .before .before .before .before .pre .0 .indexed) (omega arith)),
-)
-
-loop2-holds : tie.Need-loop2-holds Inv-loop2 μ-loop2 Inv-loop μ-loop Inv-judged μ-judged
+loop2-holds : At tie.Need-loop2-holds
 loop2-holds c =
-    let s = c .before .before .before .before .before .before .before .before .before .before .before .before .before .before .before .before in
-    record-start (s .pre .0 .indexed) (grounded s) (s .pre .1 .0 .0) (s .pre .1 .0 .1) (c .before .before .before .loop .inv) (omega arith) (c .before .class-bytes .ensures)
-    (c .asked-end .ensures _ (c .before .class-bytes .ensures))
+    let e = c .before .class-bytes .ensures in
+    let i = c .before .before in
+    let s = start (ruled (i .before)) in
+    record-start (s .pre .0 .indexed) (grounded s) (s .pre .1 .0 .0) (s .pre .1 .0 .1) (i .before .loop .inv) (i .loop-test .taken) e (c .asked-end .ensures _ e)
 
-breaks-requires : tie.Need-breaks-requires Inv-loop2 μ-loop2 Inv-loop μ-loop Inv-judged μ-judged
+breaks-requires : At tie.Need-breaks-requires
 breaks-requires c κs =
-    let s = c .before .before .before .before .before .before .before .before .before .before .before .before .before .before .before .before .before .before in
+    let i = c .before .before .before .before in
+    let s = start (ruled (i .before)) in
     let f = c .before .loop2 .inv in
     let user-class = s .pre .1 .0 .0 in
     let there = s .pre .1 .0 .1 in
+    let more = c .loop2-test .taken in
     let standing : Standing _ _ _ _ = record {
       carries = f .carries;
-      is = record-at (s .pre .0 .indexed) (grounded s) user-class there f (omega arith);
-      sized = record-sized (s .pre .0 .indexed) (grounded s) user-class there f (omega arith);
+      is = record-at (s .pre .0 .indexed) (grounded s) user-class there f more;
+      sized = record-sized (s .pre .0 .indexed) (grounded s) user-class there f more;
     } in
-    let first = record-first (s .pre .0 .indexed) (grounded s) user-class there f (omega arith) in (
+    let first = record-first (s .pre .0 .indexed) (grounded s) user-class there f more in (
       s .pre .0,
       record {
         user-class = user-class;
         there = there;
-        asked-there = c .before .before .before .before .loop-test .taken;
+        asked-there = i .loop-test .taken;
         rule-first = f .rules .some;
-        rule-last = c .before .before .before .before .before .before .before .before .before .if1 .left;
+        rule-last = ten (i .before);
         standing = standing;
         third = λ e. first (only-three _ _ _ e);
         sixth = λ e. first (only-six _ _ _ e);
@@ -111,117 +152,69 @@ breaks-requires c κs =
       },
     )
 
-place-requires : tie.Need-place-requires Inv-loop2 μ-loop2 Inv-loop μ-loop Inv-judged μ-judged
-place-requires c κs =
-    let s = c .before .before .before .before .before .before .before .before .before .before .before .before .before .before .before .before .before .before .before .before in
-    omega (arith, record-low (s .pre .0 .indexed) (grounded s) (s .pre .1 .0 .0) (s .pre .1 .0 .1) (c .before .before .before .loop2 .inv) (omega arith))
-
-word-in-requires : tie.Need-word-in-requires Inv-loop2 μ-loop2 Inv-loop μ-loop Inv-judged μ-judged
+word-in-requires : At tie.Need-word-in-requires
 word-in-requires c κs = omega (arith, tiled-room (c .before .before .before .loop2 .inv .place .tiled) (omega arith))
 
-wide-requires : tie.Need-wide-requires Inv-loop2 μ-loop2 Inv-loop μ-loop Inv-judged μ-judged
-wide-requires c κs = search needs
-
-add-at : tie.Need-add-at Inv-loop2 μ-loop2 Inv-loop μ-loop Inv-judged μ-judged
+add-at : At tie.Need-add-at
 add-at c = omega (arith, c .before .before .before .before .before .loop2 .inv .place .small, c .wide .ensures .1)
 
-add-k : tie.Need-add-k Inv-loop2 μ-loop2 Inv-loop μ-loop Inv-judged μ-judged
-add-k c =
-    let s = c .before .before .before .before .before .before .before .before .before .before .before .before .before .before .before .before .before .before .before .before .before .before in
-    omega (arith, record-low (s .pre .0 .indexed) (grounded s) (s .pre .1 .0 .0) (s .pre .1 .0 .1) (c .before .before .before .before .before .loop2 .inv) (omega arith))
-
-loop2-less : tie.Need-loop2-less Inv-loop2 μ-loop2 Inv-loop μ-loop Inv-judged μ-judged
+loop2-less : At tie.Need-loop2-less
 loop2-less c = omega (arith, walk-on (c .before .before .before .before .before .loop2 .inv .place) (omega arith), c .wide .ensures .0 ∙ c .before .word-in .ensures)
 
-loop2-again : tie.Need-loop2-again Inv-loop2 μ-loop2 Inv-loop μ-loop Inv-judged μ-judged
+loop2-again : At tie.Need-loop2-again
 loop2-again c =
-    let s = c .before .before .before .before .before .before .before .before .before .before .before .before .before .before .before .before .before .before .before .before .before .before in
-    record-next (s .pre .0 .indexed) (grounded s) (s .pre .1 .0 .0) (s .pre .1 .0 .1) (c .before .before .before .before .before .loop2 .inv) (omega arith)
-    (c .wide .ensures .0 ∙ c .before .word-in .ensures) (sym (c .before .before .before .breaks .ensures) ∙ c .before .before .if2 .left)
+    let e = c .before .before in
+    let i = e .before .before in
+    let s = start (ruled (classed (i .before))) in
+    record-next (s .pre .0 .indexed) (grounded s) (s .pre .1 .0 .0) (s .pre .1 .0 .1) (i .before .loop2 .inv) (i .loop2-test .taken)
+    (c .wide .ensures .0 ∙ c .before .word-in .ensures) (sym (e .before .breaks .ensures) ∙ e .if2 .left)
 
-next-class-requires :
-    tie.Need-next-class-requires Inv-loop2 μ-loop2 Inv-loop μ-loop Inv-judged μ-judged
-next-class-requires c κs = class-within (c .before .before .loop2 .inv .carries)
-    (class-long (c .before .before .before .before .before .before .before .before .before .before .before .before .before .before .before .before .before .before .before .pre .0 .indexed)
-    (omega arith))
+next-class-requires : At tie.Need-next-class-requires
+next-class-requires c κs = let w = c .before .before in class-within (w .loop2 .inv .carries) (long (w .before .before .before))
 
-climb-requires-2 : tie.Need-climb-requires-2 Inv-loop2 μ-loop2 Inv-loop μ-loop Inv-judged μ-judged
-climb-requires-2 c κs = (
-  c .before .before .before .before .before .before .before .before .before .before .before .before .judged .inv .1 .long,
-  c .before .before .before .before .before .before .before .before .before .before .before .before .before .before .before .before .before .before .before .before .pre .0 .indexed .few,
-  omega
-      arith,
-)
+climb-requires-2 : At tie.Need-climb-requires-2
+climb-requires-2 c κs =
+    let l = classed (c .before .before .before) in
+    let j = ruled l in
+    (j .judged .inv .1 .long, start j .pre .0 .indexed .few, ten l)
 
-loop-less : tie.Need-loop-less Inv-loop2 μ-loop2 Inv-loop μ-loop Inv-judged μ-judged
-loop-less c =
-    let s = c .before .before .before .before .before .before .before .before .before .before .before .before .before .before .before .before .before .before .before .before .before in
-    let next = record-end (s .pre .0 .indexed) (grounded s) (s .pre .1 .0 .0) (s .pre .1 .0 .1) (c .before .before .before .before .loop2 .inv)
-    (c .before .before .before .before .before .before .before .loop-test .taken) (c .before .before .before .loop2-test .left)
-    (c .before .next-class .ensures .is _ (c .before .before .before .before .loop2 .inv .carries)
-    (class-long (s .pre .0 .indexed) (c .before .before .before .before .before .before .before .loop-test .taken))) in
-    omega (
-      arith,
-      next .1,
-      climb-at (grounded s) (s .pre .1 .0 .0) (s .pre .1 .0 .1)
-          (c .before .before .before .before .before .before .before .before .before .before .before .before .before .judged .inv .1)
-          (c .before .before .before .before .before .before .before .before .before .before .before .before .if1 .left) (next .0) (c .climb2 .ensures) .1,
-    )
-
-loop-again : tie.Need-loop-again Inv-loop2 μ-loop2 Inv-loop μ-loop Inv-judged μ-judged
-loop-again c =
-    let s = c .before .before .before .before .before .before .before .before .before .before .before .before .before .before .before .before .before .before .before .before .before in
-    let next = record-end (s .pre .0 .indexed) (grounded s) (s .pre .1 .0 .0) (s .pre .1 .0 .1) (c .before .before .before .before .loop2 .inv)
-    (c .before .before .before .before .before .before .before .loop-test .taken) (c .before .before .before .loop2-test .left)
-    (c .before .next-class .ensures .is _ (c .before .before .before .before .loop2 .inv .carries)
-    (class-long (s .pre .0 .indexed) (c .before .before .before .before .before .before .before .loop-test .taken))) in
-    climb-at (grounded s) (s .pre .1 .0 .0) (s .pre .1 .0 .1) (c .before .before .before .before .before .before .before .before .before .before .before .before .before .judged .inv .1)
-    (c .before .before .before .before .before .before .before .before .before .before .before .before .if1 .left) (next .0) (c .climb2 .ensures) .0
-
-keep-requires : tie.Need-keep-requires Inv-loop2 μ-loop2 Inv-loop μ-loop Inv-judged μ-judged
+keep-requires : At tie.Need-keep-requires
 keep-requires c κs =
-    let s = c .before .before .before .before .before .before .before .before .before .before .before .before .before .before .before .before .before in
-    let rules = c .before .before .before .before .before .before .before .before .before .judged .inv in
-    let asked = c .before .before .before .before .before .before .before .first-class .ensures in
-    let lower = first-lower (grounded s) (s .pre .1 .0 .0) (s .pre .1 .0 .1) (rules .1) (omega arith) (omega arith) asked (omega arith) in
-    let empty = keep-at (grounded s) (s .pre .1 .0 .0) (s .pre .1 .0 .1) (rules .1) (omega arith) (omega arith) (omega arith) lower
-    (class-start (grounded s) (s .pre .1 .0 .0) (s .pre .1 .0 .1) (rules .0) asked) (c .before .before .before .before .loop .inv) (omega arith) in
+    let l = c .before .before .before .before in
+    let f = l .before .before .before in
+    let j = ruled l in
+    let s = start j in
+    let rules = j .judged .inv in
+    let lower = first-lower (grounded s) (s .pre .1 .0 .0) (s .pre .1 .0 .1) (rules .1) (omega arith) (omega arith) (f .first-class .ensures) (omega arith) in
+    let empty = keep-at (grounded s) (s .pre .1 .0 .0) (s .pre .1 .0 .1) (rules .1) (omega arith) (omega arith) (omega arith) lower (begins f) (l .loop .inv) (omega arith) in
     (s .pre .0 .indexed, (s .pre .0 .formed, ((omega arith, omega arith, omega arith), (empty, rules .1))))
 
-add-rule : tie.Need-add-rule Inv-loop2 μ-loop2 Inv-loop μ-loop Inv-judged μ-judged
-add-rule c = omega arith
-
-judged-less : tie.Need-judged-less Inv-loop2 μ-loop2 Inv-loop μ-loop Inv-judged μ-judged
-judged-less c = omega arith
-
-judged-again : tie.Need-judged-again Inv-loop2 μ-loop2 Inv-loop μ-loop Inv-judged μ-judged
+judged-again : At tie.Need-judged-again
 judged-again c =
-    let s = c .before .before .before .before .before .before .before .before .before .before .before .before .before .before .before in (
-      class-end (grounded s) (s .pre .1 .0 .0) (s .pre .1 .0 .1) (omega arith) (c .before .before .loop .inv) (omega arith),
+    let l = c .before .before in
+    let j = ruled l in
+    let s = start j in
+    let kept = j .judged .inv .1 in (
+      class-end (grounded s) (s .pre .1 .0 .0) (s .pre .1 .0 .1) (omega arith) (l .loop .inv) (omega arith),
       ⊎-elim (λ w. subst (Kept _ _ _) (sym (w .6)) (w .3 .ensures))
-          (⊎-elim (λ w. subst (Kept _ _ _) (sym (w .2)) (c .before .before .before .before .before .before .before .judged .inv .1))
-          (λ w. subst (Kept _ _ _) (sym (w .1)) (c .before .before .before .before .before .before .before .judged .inv .1))) (c .if3 .came),
+          (⊎-elim (λ w. subst (Kept _ _ _) (sym (w .2)) kept) (λ w. subst (Kept _ _ _) (sym (w .1)) kept)) (c .if3 .came),
     )
 
-same-length : tie.Need-same-length Inv-loop2 μ-loop2 Inv-loop μ-loop Inv-judged μ-judged
-same-length c = c .before .judged .inv .1 .long ∙ sym (c .before .before .before .before .before .before .before .before .before .pre .1 .1 .long)
-
-returns : tie.Need-returns Inv-loop2 μ-loop2 Inv-loop μ-loop Inv-judged μ-judged
+returns : At tie.Need-returns
 returns c =
-    let s = c .before .before .before .before .before .before .before .before .before in
-    (sym (rule-end (grounded s) (s .pre .1 .0 .0) (s .pre .1 .0 .1) (c .before .judged .inv .0) (omega arith)), c .before .judged .inv .1)
+    let j = c .before in
+    let s = start j in
+    (sym (rule-end (grounded s) (s .pre .1 .0 .0) (s .pre .1 .0 .1) (j .judged .inv .0) (c .if1 .taken)), j .judged .inv .1)
 
-same-length-2 : tie.Need-same-length-2 Inv-loop2 μ-loop2 Inv-loop μ-loop Inv-judged μ-judged
-same-length-2 c = c .before .before .before .before .before .before .before .before .before .before .before .before .before .judged .inv .1 .long
-    ∙ sym (c .before .before .before .before .before .before .before .before .before .before .before .before .before .before .before .before .before .before .before .before .before .pre .1 .1 .long)
-
-returns-2 : tie.Need-returns-2 Inv-loop2 μ-loop2 Inv-loop μ-loop Inv-judged μ-judged
+returns-2 : At tie.Need-returns-2
 returns-2 c =
-    let s = c .before .before .before .before .before .before .before .before .before .before .before .before .before .before .before .before .before .before .before .before .before in
-    let hit = record-hit (s .pre .0 .indexed) (grounded s) (s .pre .1 .0 .0) (s .pre .1 .0 .1) (c .before .before .before .before .loop2 .inv) (c .before .before .before .loop2-test .taken)
-    (c .before .before .before .before .before .before .before .loop-test .taken) (c .before .before .before .before .before .before .before .before .before .before .before .before .if1 .left)
-    (sym (c .before .before .breaks .ensures) ∙ c .before .if2 .taken) (c .place .ensures) in
-    (hit, c .before .before .before .before .before .before .before .before .before .before .before .before .before .judged .inv .1)
+    let w = c .before .before .before .before in
+    let l = classed w in
+    let j = ruled l in
+    let s = start j in
+    let hit = record-hit (s .pre .0 .indexed) (grounded s) (s .pre .1 .0 .0) (s .pre .1 .0 .1) (w .loop2 .inv) (c .before .before .before .loop2-test .taken)
+    (w .before .before .before .loop-test .taken) (ten l) (sym (c .before .before .breaks .ensures) ∙ c .before .if2 .taken) (c .place .ensures) in
+    (hit, j .judged .inv .1)
 
 pub verdict-of-spec : {M : Type 1} → statement M
 verdict-of-spec =
@@ -236,30 +229,30 @@ verdict-of-spec =
     (λ c. search needs)
     (λ c. search needs)
     (λ c. search needs)
-    judged-holds
+    (λ c. (rule-start, search needs))
     first-class-requires
     climb-requires
     loop-holds
-    class-bytes-requires
+    (λ c κs. (start (ruled (c .before)) .pre .0 .indexed, omega arith))
     asked-end-requires
     loop2-holds
     breaks-requires
-    place-requires
+    (λ c κs. omega (arith, low (c .before .before)))
     word-in-requires
-    wide-requires
+    (λ c κs. search needs)
     add-at
-    add-k
+    (λ c. omega (arith, low (c .before .before .before .before)))
     loop2-less
     loop2-again
     next-class-requires
     climb-requires-2
-    loop-less
-    loop-again
+    (λ c. goes-on c .1)
+    (λ c. goes-on c .0)
     keep-requires
-    add-rule
-    judged-less
+    (λ c. omega arith)
+    (λ c. omega arith)
     judged-again
-    same-length
+    (λ c. same (c .before))
     returns
-    same-length-2
+    (λ c. same (ruled (classed (c .before .before .before .before))))
     returns-2)

@@ -32,11 +32,14 @@ abbrev μ-loop : tie.MeasureT-loop
 abbrev Start : Type 0
 Start = tie.Start Inv-loop μ-loop
 
-abbrev first : tie.After-mark-enclosers Inv-loop μ-loop → Start
-first c = c .before .before .before .before .before .before .before .before
+abbrev first : tie.After-marks Inv-loop μ-loop → Start
+first c = c .before .before .before .before .before .before .before
+
+abbrev marked : tie.At-loop Inv-loop μ-loop → tie.After-mark-enclosers Inv-loop μ-loop
+marked c = c .before .before .before .before
 
 abbrev entry : tie.At-loop Inv-loop μ-loop → Start
-entry c = first (c .before .before .before .before)
+entry c = first (marked c .before)
 
 abbrev turn : tie.After-other-number Inv-loop μ-loop → tie.In-loop Inv-loop μ-loop
 turn c = c .before .before .before
@@ -52,15 +55,9 @@ room c = goes-room (c .before .loop .inv) (c .loop-test .taken)
 number-is : (c : tie.After-other-number Inv-loop μ-loop) → let l = turn c .before in let a = entry l .args in
     c .other-number .result ≡ formNumber (groupOf (a .library .now) (spliced (a .user .now) (a .group .now) (a .view .cut))) (a .view .classes .library) (a .view .classes .all) (a .c)
     (recordAt (a .bytes .now) (l .loop .at))
-number-is c = let l = turn c .before in c .other-number .ensures _ (entry l .pre .1 .0) (l .before .before .before .before .mark-enclosers .ensures)
+number-is c = let l = turn c .before in c .other-number .ensures _ (entry l .pre .1 .0) (marked l .mark-enclosers .ensures)
 
 -- ---- the needs
-
-mark-enclosers-requires : tie.Need-mark-enclosers-requires Inv-loop μ-loop
-mark-enclosers-requires c κs = let p = c .before .before .before .before .before .before .before .pre in (p .0, (p .1 .1 .0, refl))
-
-loop-holds : tie.Need-loop-holds Inv-loop μ-loop
-loop-holds c = let p = first (c .before .before .before) .pre in goes-start (p .0 .indexed) (p .1 .1 .0) (p .1 .1 .1) (c .wide .ensures .0) (c .before .word-in .ensures)
 
 other-number-requires : tie.Need-other-number-requires Inv-loop μ-loop
 other-number-requires c κs =
@@ -69,7 +66,7 @@ other-number-requires c κs =
     let p = entry l .pre in
     let inside = l .loop .inv in
     let more = t .loop-test .taken in
-    ((p .1 .0 .long, l .before .before .before .before .mark-enclosers .ensures .long), (p .1 .1 .0, (goes-sized inside more, goes-other inside more refl)))
+    ((p .1 .0 .long, marked l .mark-enclosers .ensures .long), (p .1 .1 .0, (goes-sized inside more, goes-other inside more refl)))
 
 add-t25 : tie.Need-add-t25 Inv-loop μ-loop
 add-t25 c =
@@ -96,10 +93,10 @@ others-pass-spec =
     Inv-loop
     μ-loop
     (λ c. search needs)
-    mark-enclosers-requires
-    (λ c κs. omega (arith, opens (first (c .before))))
+    (λ c κs. let p = first c .pre in (p .0, (p .1 .1 .0, refl)))
+    (λ c κs. omega (arith, opens (first (c .before .before))))
     (λ c κs. search needs)
-    loop-holds
+    (λ c. let p = first (c .before .before .before .before) .pre in goes-start (p .0 .indexed) (p .1 .1 .0) (p .1 .1 .1) (c .wide .ensures .0) (c .before .word-in .ensures))
     (λ c. search needs)
     other-number-requires
     (λ c. omega arith)

@@ -6,16 +6,23 @@ use Rattle.slots.proofs.base_breaks.Statement.{statement}
 use Rattle.slots.proofs.base_breaks.Tie as tie
 
 returns : tie.Need-returns
-returns c = base-selfless _ _ (c .before .before .before .wide .ensures .0) (c .before .before .before .before .word-in .ensures) (c .before .before .known .ensures) (c .before .has .ensures)
-    (c .if1 .taken)
+returns c =
+    let h = c .before in
+    let w = h .before .before in
+    base-selfless _ _ (w .wide .ensures .0) (w .before .word-in .ensures) (h .before .known .ensures) (h .has .ensures) (c .if1 .taken)
 
 returns-2 : tie.Need-returns-2
-returns-2 c = base-other _ _ (c .before .before .before .before .wide .ensures .0) (c .before .before .before .before .before .word-in .ensures) (c .before .before .before .known .ensures)
-    (c .before .before .has .ensures) (c .before .if1 .left) (c .if2 .taken)
+returns-2 c =
+    let h = c .before .before in
+    let w = h .before .before in
+    base-other _ _ (w .wide .ensures .0) (w .before .word-in .ensures) (h .before .known .ensures) (h .has .ensures) (c .before .if1 .left) (c .if2 .taken)
 
 returns-3 : tie.Need-returns-3
-returns-3 c = base-zero _ _ (c .before .before .before .before .before .wide .ensures .0) (c .before .before .before .before .before .before .word-in .ensures)
-    (c .before .before .before .before .known .ensures) (c .before .before .before .has .ensures) (c .before .before .if1 .left) (c .before .if2 .left) (c .word-in2 .ensures)
+returns-3 c =
+    let e = c .before in
+    let h = e .before .before in
+    let w = h .before .before in
+    base-zero _ _ (w .wide .ensures .0) (w .before .word-in .ensures) (h .before .known .ensures) (h .has .ensures) (e .before .if1 .left) (e .if2 .left) (c .word-in2 .ensures)
 
 pub base-breaks-spec : {M : Type 1} → statement M
 base-breaks-spec =

@@ -6,37 +6,24 @@ use borrow.Author.Needs.{needs}
 use Rattle.slots.proofs.encloser_set.Statement.{statement}
 use Rattle.slots.proofs.encloser_set.Tie as tie
 
-word-in-requires : tie.Need-word-in-requires
-word-in-requires c κs = search needs
-
-returns : tie.Need-returns
-returns c = let a = c .before .before .before .before .args in encloser-none (now (a .bytes)) (now (a .markers)) (c .before .word-in .ensures) (c .if1 .taken)
-
-word-in-requires-2 : tie.Need-word-in-requires-2
-word-in-requires-2 c κs = search needs
-
-wide-requires : tie.Need-wide-requires
-wide-requires c κs = search needs
-
-known-requires : tie.Need-known-requires
-known-requires c κs = search needs
-
-union-requires : tie.Need-union-requires
-union-requires c κs = search needs
+abbrev start : tie.After-word-in → tie.Start
+start c = c .before .before .before
 
 returns-2 : tie.Need-returns-2
-returns-2 c = let a = c .before .before .before .before .before .before .before .before .args in
-    encloser-some (now (a .bytes)) (now (a .markers)) (c .before .before .before .before .before .word-in .ensures) (c .before .before .before .before .if1 .left)
-    (c .before .before .wide .ensures .0) (c .before .before .before .word-in2 .ensures) (c .before .known .ensures) (c .union .ensures)
+returns-2 c =
+    let w = c .before .before in
+    let e = w .before .before in
+    let a = start (e .before) .args in
+    encloser-some (now (a .bytes)) (now (a .markers)) (e .before .word-in .ensures) (e .if1 .left) (w .wide .ensures .0) (w .before .word-in2 .ensures) (c .before .known .ensures) (c .union .ensures)
 
 pub encloser-set-spec : {M : Type 1} → statement M
 encloser-set-spec =
     tie.close
     (tie.spec
-    word-in-requires
-    returns
-    word-in-requires-2
-    wide-requires
-    known-requires
-    union-requires
+    (λ c κs. search needs)
+    (λ c. let a = start (c .before) .args in encloser-none (now (a .bytes)) (now (a .markers)) (c .before .word-in .ensures) (c .if1 .taken))
+    (λ c κs. search needs)
+    (λ c κs. search needs)
+    (λ c κs. search needs)
+    (λ c κs. search needs)
     returns-2)

@@ -12,34 +12,35 @@ use borrow.Author.Needs.{needs}
 use Rattle.verifier.proofs.add.Statement.{statement}
 use Rattle.verifier.proofs.add.Tie as tie
 
--- ---- once the present sheets are accepted
+-- ---- places: the start and the present sheets; `rw .. at` needs the frame unnamed
 
-module _ (c : tie.After-checked2) where
-  abbrev start : tie.Start
-  start = c .before .before .before .before .before .before .before .before .before .before
+abbrev start : tie.After-accepted → tie.Start
+start c = c .before .before .before .before .before .before .before .before
 
-  told : (presentRefusal (start .args .library .now) (start .args .user .now) (start .args .used .now) ≡ none)
-      × ((c .checked2 .given .0 .0 .library ≡ classCount (start .args .library .now))
-      × (c .checked2 .given .0 .0 .all ≡ total (start .args .library .now) (take (start .args .used .now) (start .args .user .now))))
-  told = fine-none (presentRefusal (start .args .library .now) (start .args .user .now) (start .args .used .now)) (sym (c .checked2 .given .1) ∙ c .before .before .accepted .ensures)
+abbrev fine : tie.After-change-arg4 → tie.After-checked2
+fine c = c .before .before .before .before .before
 
-change-requires : tie.Need-change-requires
-change-requires c κs = let k = c .before .before .before .before .before in let a = start k .args in rw (told k .1 .1) (add-puts _ _ _ (a .verdicts .now) (a .scratch .now) _ (told k .0))
+-- once the present sheets are accepted
+told : (c : tie.After-checked2) → let a = start (c .before .before) .args in
+    (presentRefusal (a .library .now) (a .user .now) (a .used .now) ≡ none)
+    × ((c .checked2 .given .0 .0 .library ≡ classCount (a .library .now)) × (c .checked2 .given .0 .0 .all ≡ total (a .library .now) (take (a .used .now) (a .user .now))))
+told c = fine-none _ (sym (c .checked2 .given .1) ∙ c .before .before .accepted .ensures)
 
-returns : tie.Need-returns
-returns c = add-present _ _ _ _ _ _ (refused-is _ _ _ (sym (c .before .checked .given .1) ∙ c .before .before .before .accepted .ensures))
+-- ---- the needs
 
 returns-2 : tie.Need-returns-2
 returns-2 c =
-    let k = c .before .before .before .before .before .before .before .before .before .before .before .before .before .before .before in
-    add-turned _ _ _ _ _ _ (told k .0) (rw (told k .1 .1) at (c .before .before .before .before .before .before .before .before .before .change .ensures))
-    (ap changedAnswer (c .before .changed .given .1))
+    let d = c .before .before .before in
+    let f = d .before .before .before .before .before .before in
+    let k = fine (f .before) in
+    add-turned _ _ _ _ _ _ (told k .0) (rw (told k .1 .1) at (f .change .ensures)) (ap changedAnswer (c .before .changed .given .1))
 
 returns-3 : tie.Need-returns-3
 returns-3 c =
-    let k = c .before .before .before .before .before .before .before .before .before .before .before .before .before .before .before in
-    add-made _ _ _ _ _ _ (told k .0) (rw (told k .1 .1) at (c .before .before .before .before .before .before .before .before .before .change .ensures))
-    (ap changedAnswer (c .before .changed2 .given .1)) (told k .1 .1)
+    let d = c .before .before .before in
+    let f = d .before .before .before .before .before .before in
+    let k = fine (f .before) in
+    add-made _ _ _ _ _ _ (told k .0) (rw (told k .1 .1) at (f .change .ensures)) (ap changedAnswer (c .before .changed2 .given .1)) (told k .1 .1)
 
 pub add-spec : {M : Type 1} → statement M
 add-spec =
@@ -48,11 +49,11 @@ add-spec =
     (λ c κs. search needs)
     (λ c. search needs)
     (λ c. search needs)
-    change-requires
+    (λ c κs. let k = fine c in let a = start (k .before .before) .args in rw (told k .1 .1) (add-puts _ _ _ (a .verdicts .now) (a .scratch .now) _ (told k .0)))
     (λ c. search needs)
     (λ c. search needs)
     (λ c. search needs)
-    returns
+    (λ c. add-present _ _ _ _ _ _ (refused-is _ _ _ (sym (c .before .checked .given .1) ∙ c .before .before .before .accepted .ensures)))
     (λ c. search needs)
     (λ c. search needs)
     (λ c. search needs)

@@ -14,41 +14,36 @@ use borrow.Author.Needs.{needs}
 use Rattle.verifier.proofs.cut_of.Statement.{statement}
 use Rattle.verifier.proofs.cut_of.Tie as tie
 
--- the row of starts, once the sheets are accepted
-abbrev start : tie.After-checked2 → tie.Start
-start c = c .before .before .before .before .before .before .before .before .before
+-- ---- places: the start, the check of the sheets, and what it found
 
-present : (c : tie.After-checked2) → presentRefusal (start c .args .library .now) (start c .args .user .now) (start c .args .used) ≡ none
-present c = told (c .before .before .before .before .present .ensures) (c .checked2 .given .1) .0
+abbrev start : tie.After-present → tie.Start
+start c = c .before .before .before .before .before
 
-row : (c : tie.After-checked2)
-    → Indexed (start c .args .library .now) (take (start c .args .used) (start c .args .user .now)) (c .checked2 .given .0 .0 .library) (c .checked2 .given .0 .0 .all)
-    (c .before .before .before .before .present .last .1 .1 .1 .0)
-row c = indexed (c .before .before .before .before .present .ensures) (c .checked2 .given .1) refl
+abbrev asked : tie.After-checked2 → tie.After-present
+asked c = c .before .before .before .before
 
-returns : tie.Need-returns
-returns c = let k = c .before .before .before .before in rw (c .plain .ensures) (found-missing _ _ _ _ (present k) (row k) (inl (c .before .if1 .taken)))
+abbrev found : tie.After-struct-known2 → tie.After-checked2
+found c = c .before .before .before .before
 
-returns-2 : tie.Need-returns-2
-returns-2 c = let k = c .before .before .before .before .before .before in rw (c .plain2 .ensures) (found-missing _ _ _ _ (present k) (row k) (inr (c .before .if2 .taken)))
+-- ---- the row of starts, once the sheets are accepted
 
-mul-wide : tie.Need-mul-wide
-mul-wide c = let x = row (c .before .before .before .before .before) in omega (arith, x .few, c .if2 .left)
+present : (c : tie.After-checked2) → let a = start (asked c) .args in presentRefusal (a .library .now) (a .user .now) (a .used) ≡ none
+present c = told (asked c .present .ensures) (c .checked2 .given .1) .0
 
-array-read-wide : tie.Need-array-read-wide
-array-read-wide c = let x = row (c .before .before .before .before .before) in omega (arith, x .few, c .if2 .left)
+row : (c : tie.After-checked2) → let a = start (asked c) .args in
+    Indexed (a .library .now) (take (a .used) (a .user .now)) (c .checked2 .given .0 .0 .library) (c .checked2 .given .0 .0 .all) (asked c .present .last .1 .1 .1 .0)
+row c = indexed (asked c .present .ensures) (c .checked2 .given .1) refl
 
-group-end-requires : tie.Need-group-end-requires
-group-end-requires c κs = let x = row (c .before .before .before .before .before .before .before) in (c .before .before .if2 .left, omega (arith, x .few, x .long))
-
-returns-3 : tie.Need-returns-3
-returns-3 c = found-refused _ _ _ _ (turned (c .before .before .before .before .before .present .ensures) (c .before .checked .given .1))
+-- ---- the needs
 
 returns-4 : tie.Need-returns-4
 returns-4 c =
-    let k = c .before .before .before .before .before .before .before .before in let x = row k in let a = start k .args in
-    found-at _ _ _ _ (present k) x (c .before .before .before .before .before .if1 .left) (c .before .before .before .if2 .left)
-    (omega (arith, c .before .before .wide .ensures, x .starts (a .class) (c .before .before .before .if2 .left)))
+    let w = c .before .before .before in
+    let k = found (w .before) in
+    let x = row k in
+    let a = start (asked k) .args in
+    found-at _ _ _ _ (present k) x (w .before .before .if1 .left) (w .if2 .left)
+    (omega (arith, c .before .before .wide .ensures, x .starts (a .class) (w .if2 .left)))
     (c .group-end .ensures .is _ _ x refl (omega (arith, length-take (a .used) (a .user .now), used-there (a .library .now) (a .user .now) (a .used) (present k))))
 
 pub cut-of-spec : {M : Type 1} → statement M
@@ -61,13 +56,13 @@ cut-of-spec =
     (λ c. search needs)
     (λ c. search needs)
     (λ c κs. search needs)
-    returns
+    (λ c. let k = c .before .before .before .before in rw (c .plain .ensures) (found-missing _ _ _ _ (present k) (row k) (inl (c .before .if1 .taken))))
     (λ c κs. search needs)
-    returns-2
-    mul-wide
-    array-read-wide
+    (λ c. let k = found (c .before .before) in rw (c .plain2 .ensures) (found-missing _ _ _ _ (present k) (row k) (inr (c .before .if2 .taken))))
+    (λ c. omega (arith, row (found (c .before)) .few, c .if2 .left))
+    (λ c. omega (arith, row (found (c .before)) .few, c .if2 .left))
     (λ c κs. search needs)
     (λ c. search needs)
-    group-end-requires
-    returns-3
+    (λ c κs. let w = c .before .before in let x = row (found (w .before)) in (w .if2 .left, omega (arith, x .few, x .long)))
+    (λ c. found-refused _ _ _ _ (turned (c .before .before .before .before .before .present .ensures) (c .before .checked .given .1)))
     returns-4)

@@ -20,8 +20,11 @@ present c = c .before .before .before .before
 abbrev found : tie.After-short → tie.After-checked2
 found c = c .before .before
 
-abbrev long : tie.After-rejudge → tie.Else1
-long c = c .before .before .before .before .before .before .before
+abbrev long : tie.After-rejudge-arg2 → tie.Else1
+long c = c .before .before .before .before .before .before
+
+abbrev judging : tie.After-struct-known → tie.After-rejudge
+judging c = c .before .before .before .before .before .before
 
 -- ---- the needs
 
@@ -36,7 +39,7 @@ part-sheet-end c = let k = found (c .before) in used-there _ _ _ (told (present 
 
 rejudge-requires : tie.Need-rejudge-requires
 rejudge-requires c κs =
-    let w = c .before .before .before .before .before .before in
+    let w = long c in
     let s = w .before in
     let k = found s in
     let a = start (present k) .args in
@@ -58,12 +61,12 @@ rejudge-requires c κs =
     )
 
 sub-own : tie.Need-sub-own
-sub-own c = let k = found (long (c .before .before .before .before .before .before) .before) in ordered (present k .present .ensures) (k .checked2 .given .1)
+sub-own c = let k = found (long (judging c .before) .before) in ordered (present k .present .ensures) (k .checked2 .given .1)
 
 returns-3 : tie.Need-returns-3
 returns-3 c =
-    let j = c .before .before .before .before .before .before .before .before in
-    let w = long j in
+    let j = judging (c .before .before) in
+    let w = long (j .before) in
     let s = w .before in
     let k = found s in
     let a = start (present k) .args in

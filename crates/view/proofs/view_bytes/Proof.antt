@@ -23,29 +23,7 @@ stands c =
       ends = c .group-end .ensures .is _ _ (v .indexed) refl (sym (c .before .view-len .ensures));
     }
 
--- ---- in the library, before the cut, in the group, after the cut
-
-part-result-end : tie.Need-part-result-end
-part-result-end c = library-within (stands (c .before .before)) (omega arith)
-
-returns : tie.Need-returns
-returns c = let s = stands (c .before .before .before) in carries s (library-bytes s (omega arith))
-
-part-result-end-2 : tie.Need-part-result-end-2
-part-result-end-2 c = omega (arith, head-end (stands (c .before .before .before)) (omega arith) (omega arith))
-
-returns-2 : tie.Need-returns-2
-returns-2 c = let s = stands (c .before .before .before .before) in carries s (head-bytes s (omega arith) (omega arith))
-
-returns-3 : tie.Need-returns-3
-returns-3 c = let s = stands (c .before .before .before .before) in carries s (group-bytes s (omega arith) (omega arith) (omega arith))
-
-part-result-end-3 : tie.Need-part-result-end-3
-part-result-end-3 c = omega (arith, tail-within (stands (c .before .before .before .before)) (omega arith) (omega arith) (omega arith) refl refl)
-
-returns-4 : tie.Need-returns-4
-returns-4 c = let s = stands (c .before .before .before .before .before) in carries s (tail-bytes s (omega arith) (omega arith) (omega arith) refl refl)
-
+-- in the library, before the cut, in the group, after the cut
 pub view-bytes-spec : {M : Type 1} → statement M
 view-bytes-spec =
     tie.close
@@ -57,18 +35,18 @@ view-bytes-spec =
     (λ c κs. search needs)
     (λ c. omega (arith, some (stands (c .before .before))))
     (λ c. omega (arith, some (stands (c .before .before))))
-    part-result-end
-    returns
+    (λ c. library-within (stands (c .before .before)) (omega arith))
+    (λ c. let s = stands (c .before .before .before) in carries s (library-bytes s (omega arith)))
     (λ c. omega (arith, some (stands (c .before .before .before))))
     (λ c. omega (arith, some (stands (c .before .before .before))))
-    part-result-end-2
-    returns-2
-    returns-3
+    (λ c. omega (arith, head-end (stands (c .before .before .before)) (omega arith) (omega arith)))
+    (λ c. let s = stands (c .before .before .before .before) in carries s (head-bytes s (omega arith) (omega arith)))
+    (λ c. let s = stands (c .before .before .before .before) in carries s (group-bytes s (omega arith) (omega arith) (omega arith)))
     (λ c. search needs)
     (λ c. search needs)
     (λ c. omega (arith, some (stands (c .before .before .before .before))))
     (λ c. omega (arith, tail-within (stands (c .before .before .before .before)) (omega arith) (omega arith) (omega arith) refl refl))
     (λ c. search needs)
     (λ c. search needs)
-    part-result-end-3
-    returns-4)
+    (λ c. omega (arith, tail-within (stands (c .before .before .before .before)) (omega arith) (omega arith) (omega arith) refl refl))
+    (λ c. let s = stands (c .before .before .before .before .before) in carries s (tail-bytes s (omega arith) (omega arith) (omega arith) refl refl)))

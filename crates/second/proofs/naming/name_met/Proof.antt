@@ -29,8 +29,11 @@ abbrev μ-loop : tie.MeasureT-loop
 abbrev Start : Type 0
 Start = tie.Start Inv-loop μ-loop
 
+abbrev first : tie.After-met Inv-loop μ-loop → Start
+first c = c .before .before .before .before .before .before .before .before
+
 abbrev start : tie.At-loop Inv-loop μ-loop → Start
-start c = c .before .before .before .before .before .before .before .before .before .before
+start c = first (c .before .before)
 
 -- the row has the fingerprint of class c
 own : (s : Start) → let a = s .args in
@@ -41,7 +44,7 @@ own s = s .pre .1 .0 .prints _ (s .pre .1 .1 .0)
 
 returns : tie.Need-returns Inv-loop μ-loop
 returns c =
-    let s = c .before .before .before .before .before .before .before .before .before in
+    let s = first (c .before) in
     none-printed (s .pre .1 .0) (omega arith) _ (own s) (c .before .met .ensures) (not-true _ (c .if1 .taken))
 
 named-as-requires : tie.Need-named-as-requires Inv-loop μ-loop

@@ -14,19 +14,27 @@ use Rattle.second.proofs.Deciding.{Deciding, classTests, class-tests, r
 use Rattle.second.proofs.numbers.class_number.Statement.{statement}
 use Rattle.second.proofs.numbers.class_number.Tie as tie
 
--- ---- the numbers that stand in the record, once they are read
+-- ---- places: each number that is asked from the next one, and the start
 
-abbrev word : tie.Start → ℕ → ℕ
-word s j = u16 (s .args .bytes .now) j
+abbrev first : tie.After-absent2 → tie.After-absent
+first c = c .before .before .before .before
+
+abbrev second : tie.After-zero-breaks → tie.After-absent2
+second c = c .before .before .before
 
 abbrev s1 : tie.After-absent → tie.Start
 s1 c = c .before .before .before .before .before
 
 abbrev s2 : tie.After-absent2 → tie.Start
-s2 c = s1 (c .before .before .before .before)
+s2 c = s1 (first c)
 
 abbrev s3 : tie.After-zero-breaks → tie.Start
-s3 c = s2 (c .before .before .before)
+s3 c = s2 (second c)
+
+-- ---- the numbers that stand in the record, once they are read
+
+abbrev word : tie.Start → ℕ → ℕ
+word s j = u16 (s .args .bytes .now) j
 
 up-is : (c : tie.After-absent) → c .before .wide .result ≡ word (s1 c) 8
 up-is c = c .before .wide .ensures .0 ∙ c .before .before .word-in .ensures
@@ -79,34 +87,14 @@ module _ (g : ℕ → Group) where
   test4 : (c : tie.After-superclass-breaks) → let s = s3 (c .before .before) in Row s → c .superclass-breaks .result ≡ not (superclassOk g (s .args .c) (word s 4) (word s 8))
   test4 c w =
       let z = c .before .before in
-      rw (← z .before .word-in3 .ensures, ← up-is (z .before .before .before .before .before .before .before)) (c .superclass-breaks .ensures g _ w (s3 z .pre .0 .1))
+      rw (← z .before .word-in3 .ensures, ← up-is (first (second z))) (c .superclass-breaks .ensures g _ w (s3 z .pre .0 .1))
 
   left4 : (c : tie.Else4) → let s = s3 (c .before .before .before) in Row s → Left s (t5 s)
   left4 c w = passed (left3 (c .before .before)) (test4 (c .before) w) (c .if4 .left)
 
   test5 : (c : tie.After-encloser-breaks) → let s = s3 (c .before .before .before .before) in
       c .encloser-breaks .result ≡ not (encloserOk (s .args .classes .library) (s .args .c) (word s 4) (word s 10))
-  test5 c = let z = c .before .before .before .before in rw (← z .before .word-in3 .ensures, ← outer-is (z .before .before .before)) (c .encloser-breaks .ensures)
-
--- ---- the answers
-
-returns : tie.Need-returns
-returns c = λ g w. refused (left0 g (s1 (c .before))) (test1 g (c .before)) (c .if1 .taken)
-
-returns-2 : tie.Need-returns-2
-returns-2 c = λ g w. refused (left1 g (c .before .before .before .before)) (test2 g (c .before)) (c .if2 .taken)
-
-returns-3 : tie.Need-returns-3
-returns-3 c = λ g w. refused (left2 g (c .before .before .before)) (test3 g (c .before)) (c .if3 .taken)
-
-returns-4 : tie.Need-returns-4
-returns-4 c = λ g w. refused (left3 g (c .before .before)) (test4 g (c .before) w) (c .if4 .taken)
-
-returns-5 : tie.Need-returns-5
-returns-5 c = λ g w. refused (left4 g (c .before .before) w) (test5 g (c .before)) (c .if5 .taken)
-
-returns-6 : tie.Need-returns-6
-returns-6 c = λ g w. none-left (passed (left4 g (c .before .before) w) (test5 g (c .before)) (c .if5 .left))
+  test5 c = let z = c .before .before .before .before in rw (← z .before .word-in3 .ensures, ← outer-is (second z)) (c .encloser-breaks .ensures)
 
 pub class-number-spec : {M : Type 1} → statement M
 class-number-spec =
@@ -115,16 +103,16 @@ class-number-spec =
     (λ c κs. search needs)
     (λ c κs. search needs)
     (λ c κs. search needs)
-    returns
+    (λ c g w. refused (left0 g (s1 (c .before))) (test1 g (c .before)) (c .if1 .taken))
     (λ c κs. search needs)
     (λ c κs. search needs)
     (λ c κs. search needs)
-    returns-2
+    (λ c g w. refused (left1 g (c .before .before .before .before)) (test2 g (c .before)) (c .if2 .taken))
     (λ c κs. search needs)
     (λ c κs. search needs)
-    returns-3
+    (λ c g w. refused (left2 g (c .before .before .before)) (test3 g (c .before)) (c .if3 .taken))
     (λ c κs. search needs)
-    returns-4
+    (λ c g w. refused (left3 g (c .before .before)) (test4 g (c .before) w) (c .if4 .taken))
     (λ c κs. search needs)
-    returns-5
-    returns-6)
+    (λ c g w. refused (left4 g (c .before .before) w) (test5 g (c .before)) (c .if5 .taken))
+    (λ c g w. none-left (passed (left4 g (c .before .before) w) (test5 g (c .before)) (c .if5 .left))))

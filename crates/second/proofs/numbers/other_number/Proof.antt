@@ -34,19 +34,10 @@ kind-of c = kind3 (c .before .before)
 
 -- ---- each kind
 
-returns : tie.Need-returns
-returns c = λ g w m. member-at g _ _ _ (sized (start (c .before))) (c .before .word-in .ensures) (c .if1 .taken)
-
-field-number-requires : tie.Need-field-number-requires
-field-number-requires c κs = let k = c .before .before .before in omega (arith, room-of (sized (start k)) (k .word-in .ensures) FIELD (c .before .if2 .taken))
-
 returns-2 : tie.Need-returns-2
 returns-2 c = λ g w m.
     let k = c .before .before .before .before in
     field-at g _ _ _ (sized (start k)) (k .word-in .ensures) (c .before .before .if2 .taken) (face w (start k .pre .1 .0)) (c .field-number .ensures)
-
-type-absent-requires : tie.Need-type-absent-requires
-type-absent-requires c κs = let k = c .before .before .before in omega (arith, room-of (sized (start k)) (k .word-in .ensures) LOCAL (c .if3 .taken))
 
 returns-3 : tie.Need-returns-3
 returns-3 c = λ g w m.
@@ -66,9 +57,6 @@ returns-5 c = λ g w m.
     let k = kind-of t in
     implements-at g _ _ _ (sized (start k)) (k .word-in .ensures) (t .wide .ensures .0) (t .before .word-in2 .ensures) (c .before .if5 .taken) (c .implements-number .ensures g w)
 
-word-in-requires-3 : tie.Need-word-in-requires-3
-word-in-requires-3 c κs = let k = kind-of (c .before .before) in omega (arith, room-of (sized (start k)) (k .word-in .ensures) USES (c .if6 .taken))
-
 returns-6 : tie.Need-returns-6
 returns-6 c = λ g w m.
     let i = c .before in
@@ -76,9 +64,6 @@ returns-6 c = λ g w m.
     let k = kind-of t in
     uses-at g _ _ _ (sized (start k)) (k .word-in .ensures) (t .wide .ensures .0) (t .before .word-in2 .ensures) (i .wide2 .ensures .0) (i .before .word-in3 .ensures)
     (i .before .before .if6 .taken) (c .uses-number .ensures g _ w m)
-
-word-in-requires-4 : tie.Need-word-in-requires-4
-word-in-requires-4 c κs = let k = kind-of (c .before .before .before) in omega (arith, room-of (sized (start k)) (k .word-in .ensures) REFERS (c .if7 .taken))
 
 returns-7 : tie.Need-returns-7
 returns-7 c = λ g w m.
@@ -100,25 +85,19 @@ builds c g b eb =
     builds-at g _ _ _ (sized s) (k .word-in .ensures) (t .wide .ensures .0) (t .before .word-in2 .ensures) (λ e. s .pre .1 .1 .1 (sym (k .word-in .ensures) ∙ e))
     (e3 .before .if2 .left) (e3 .if3 .left) (e3 .before .before .if1 .left) (e5 .if5 .left) (c .before .if6 .left) (c .if7 .left) b eb
 
-returns-8 : tie.Need-returns-8
-returns-8 c = λ g w m. builds (c .before .before) g true (le-leb _ _ (c .if8 .taken))
-
-returns-9 : tie.Need-returns-9
-returns-9 c = λ g w m. builds (c .before .before) g false (lt-leb _ _ (c .if8 .left))
-
 pub other-number-spec : {M : Type 1} → statement M
 other-number-spec =
     tie.close
     (tie.spec
     (λ c. omega (arith, room (sized (c .before .before .before))))
     (λ c κs. omega (arith, room (sized (c .before .before .before))))
-    returns
+    (λ c g w m. member-at g _ _ _ (sized (start (c .before))) (c .before .word-in .ensures) (c .if1 .taken))
     (λ c. search needs)
     (λ c. search needs)
-    field-number-requires
+    (λ c κs. let k = c .before .before .before in omega (arith, room-of (sized (start k)) (k .word-in .ensures) FIELD (c .before .if2 .taken)))
     returns-2
     (λ c. omega (arith, room (sized (start (c .before .before .before)))))
-    type-absent-requires
+    (λ c κs. let k = c .before .before .before in omega (arith, room-of (sized (start k)) (k .word-in .ensures) LOCAL (c .if3 .taken)))
     returns-3
     returns-4
     (λ c. omega (arith, room (sized (start (kind3 c)))))
@@ -127,14 +106,14 @@ other-number-spec =
     (λ c κs. search needs)
     returns-5
     (λ c. omega (arith, room (sized (start (kind-of (c .before .before))))))
-    word-in-requires-3
+    (λ c κs. let k = kind-of (c .before .before) in omega (arith, room-of (sized (start k)) (k .word-in .ensures) USES (c .if6 .taken)))
     (λ c κs. search needs)
     (λ c κs. search needs)
     returns-6
     (λ c. omega (arith, room (sized (start (kind-of (c .before .before .before))))))
-    word-in-requires-4
+    (λ c κs. let k = kind-of (c .before .before .before) in omega (arith, room-of (sized (start k)) (k .word-in .ensures) REFERS (c .if7 .taken)))
     (λ c κs. search needs)
     (λ c κs. search needs)
     returns-7
-    returns-8
-    returns-9)
+    (λ c g w m. builds (c .before .before) g true (le-leb _ _ (c .if8 .taken)))
+    (λ c g w m. builds (c .before .before) g false (lt-leb _ _ (c .if8 .left))))
