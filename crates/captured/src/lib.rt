@@ -1,6 +1,7 @@
 // Captured variables: for each class and marker, whether it captures a variable whose type lacks the marker.
 use groups::Classes;
 use groups::class_bytes;
+use lanes::LANE;
 use lanes::entry;
 use lanes::fill;
 use markers::DEEP_SELFLESS;
@@ -10,6 +11,7 @@ use markers::has;
 use overlay::type_markers;
 use reach::close;
 use reach::enclosers;
+use records::CLASS_LIMIT;
 use records::INDEX_AT;
 use records::KIND_AT;
 use records::LOCAL;
@@ -34,6 +36,11 @@ ghost use Rattle.overlay.specs.Types.{Known, typeMarkers};
 ghost use Rattle.captured.specs.Captured.{laneMarker, Captured};
 ghost use Rattle.captured.specs.Seeds.{Lowering, InLane, InLanes, ByRecords, ByClasses};
 ghost use Rattle.records.specs.Records.{Carries};
+
+// A lane for each marker whose captured variables are asked.
+const LANES: usize = 3;
+
+const OWNERS: usize = LANES * LANE;
 
 // The marker of lane k, as a set of its own.
 fn lane_set(k: usize) -> u8
@@ -78,10 +85,10 @@ fn lower_lane(set: u8, k: usize, m: usize, d: usize, row: &mut [u8])
     if has(set, lane_set(k)) {
         return;
     }
-    if entry(row, k * 256 + m) <= d {
+    if entry(row, k * LANE + m) <= d {
         return;
     }
-    row[k * 256 + m] = d as u8;
+    row[k * LANE + m] = d as u8;
 }
 
 // So are all three lanes, if d encloses m.
@@ -93,7 +100,7 @@ fn offer(marks: &[u8], set: u8, m: usize, d: usize, row: &mut [u8])
         return;
     }
     let mut k = 0;
-    while k < 3 {
+    while k < LANES {
         lower_lane(set, k, m, d, row);
         k += 1;
     }
@@ -119,7 +126,7 @@ fn seed_records<'a>(
     requires { λ g. ⌜ (m < classes .all) × (768 ≤ length (now row)) ⌝ }
     ensures { λ g r. ⌜ Lowering (ByRecords g m (g m)) (now (row .entry)) (now (row .exit)) ⌝ }
 {
-    let mut marks = [0u8; 256];
+    let mut marks = [0u8; CLASS_LIMIT];
     enclosers(library, user, starts, classes, m, &mut marks);
     let mut at = 0;
     while at < bytes.len() {
@@ -200,9 +207,9 @@ pub fn captures<'a>(
     requires { λ g. ⌜ 768 ≤ length (now row) ⌝ }
     ensures { λ g r. ⌜ Captured g (classes .all) (now (row .entry)) (now (row .exit)) ⌝ }
 {
-    fill(row, 768, 255);
+    fill(row, OWNERS, 255);
     seed(library, user, starts, classes, markers, row);
-    close(library, user, starts, classes, true, 3, row);
+    close(library, user, starts, classes, true, LANES, row);
 }
 
 // Whether class l has an owner in lane k.
@@ -210,5 +217,5 @@ pub fn lacking(row: &[u8], k: usize, l: usize) -> bool
     requires { ⌜ (k < 3) × (l < 256) ⌝ }
     ensures { λ r. ⌜ r ≡ ltb (entryAt (now (row .entry)) k l) 255 ⌝ }
 {
-    entry(row, k * 256 + l) < 255
+    entry(row, k * LANE + l) < 255
 }

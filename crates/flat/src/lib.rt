@@ -9,6 +9,7 @@ use lanes::fill;
 use overlay::overlays;
 use records::SCRATCH_BYTES;
 use records::VERDICT_BYTES;
+use rules::KEPT;
 use rules::Verdict;
 use rules::verdict_of;
 use survey::clean;
@@ -119,7 +120,7 @@ fn rewrite<'a>(
 {
     let nlib = classes.library;
     let end = classes.all;
-    let mut kept = [0u8; 1024];
+    let mut kept = [0u8; KEPT];
     let mut c = nlib;
     while c < end {
         if marks[c] == 0 {

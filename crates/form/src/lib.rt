@@ -2,9 +2,11 @@
 use fingerprints::prints;
 use groups::Classes;
 use markers::clash;
+pub use overlay::UNASKED;
 use overlay::overlay;
 use pass::Pass;
 use pass::first_pass;
+use records::CLASS_LIMIT;
 use records::SHEET_LIMIT;
 use records::wide;
 use second::heads;
@@ -180,9 +182,9 @@ fn later<'a>(
 {
     let classes = view.classes;
     let nlib = classes.library;
-    let mut row = [0u16; 256];
+    let mut row = [0u16; CLASS_LIMIT];
     prints(library, user, group, starts, view, &mut row);
-    let mut asked = [0u16; 256];
+    let mut asked = [0u16; CLASS_LIMIT];
     heads(library, user, group, starts, view, &mut asked);
     let first = second_pass(library, user, group, starts, view, &row, &asked, 0);
     if let Pass::Refused(number, byte) = first {

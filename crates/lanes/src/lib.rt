@@ -5,6 +5,9 @@ ghost use mathlib.Core.List.{_++_};
 ghost use lib.ListN.{length, getD, drop, replicate};
 ghost use Rattle.lanes.specs.Lanes.{Room, eitherOf, fitsRow, drawn, drew, drawnLanes, drewLanes, lanesOf, sweptOf};
 
+// The entries of a lane, one a class.
+pub const LANE: usize = 256;
+
 fn wide(x: u8) -> usize
     ensures { λ r. ⌜ (r ≡ x) × (r < 256) ⌝ }
 {
@@ -55,15 +58,15 @@ fn draw(marks: &[u8], n: usize, lanes: usize, k: usize, m: usize, t: usize, row:
     ensures row { λ r. ⌜ now (row .exit) ≡ drawn (now (marks .entry)) m t k (now (row .entry)) ⌝ }
     ensures answer { λ r. ⌜ r ≡ drew (now (marks .entry)) m t k (now (row .entry)) ⌝ }
 {
-    let has = entry(row, k * 256 + m);
-    let new = entry(row, k * 256 + t);
+    let has = entry(row, k * LANE + m);
+    let new = entry(row, k * LANE + t);
     if has <= new {
         return 0;
     }
     if !fits(marks, new) {
         return 0;
     }
-    row[k * 256 + m] = new as u8;
+    row[k * LANE + m] = new as u8;
     1
 }
 

@@ -1,9 +1,11 @@
 // The listing of two sheets as text in a lent buffer.
 use form::Checked;
 use form::Refusal;
+use form::UNASKED;
 use form::present;
 use groups::Classes;
 use groups::class_word;
+use records::CLASS_LIMIT;
 use records::NAME_AT;
 use records::wide;
 use text::put;
@@ -148,8 +150,8 @@ fn accepted_lines<'a>(
         (gather (lineText (now (library .entry)) (take used (now (user .entry)))) (span 0 (classCount (take used (now (user .entry))))))
         (now (out .exit)) r ⌝ }
 {
-    let mut starts = [0u16; 256];
-    let mut memo = [65535u16; 256];
+    let mut starts = [0u16; CLASS_LIMIT];
+    let mut memo = [UNASKED; CLASS_LIMIT];
     let checked = present(library, user, used, &mut starts, &mut memo);
     let Checked::Fine(classes) = checked else {
         return at;
@@ -173,7 +175,7 @@ pub fn listing_text<'a>(
         ≡ afterwards (judgeRefusal (now (library .entry)) (now (user .entry)) used listedLines (length (now (scratch .entry))))
         (now (scratch .entry)) (cleared (now (scratch .entry))) ⌝ }
 {
-    let mut verdicts = [0u8; 512];
+    let mut verdicts = [0u8; CLASS_LIMIT * VERDICT_BYTES];
     let judged = judge(library, user, used, &mut verdicts, scratch);
     match judged {
         Judged::Refused(refusal) => refusal_line(out, refusal),

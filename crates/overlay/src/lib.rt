@@ -24,6 +24,11 @@ ghost use Rattle.groups.specs.Groups.{Indexed};
 ghost use Rattle.overlay.specs.Memo.{raw, lowerRaw, withInterfaces, memoOf, Knows};
 ghost use Rattle.overlay.specs.Types.{Known, rowMarkers};
 
+// What the memo holds of a class that was not asked yet; a smaller number than SETS is a set of markers.
+pub const UNASKED: u16 = 65535;
+
+const SETS: u16 = 256;
+
 // Class i as seen from class c: what is gathered for it if it is lower, else nothing.
 fn lower<'a>(
     library: &'a [u8],
@@ -68,7 +73,7 @@ fn gathered<'a>(
     ensures memo { λ g r. ⌜ now (memo .exit) ≡ set (now (memo .entry)) c (raw g c) ⌝ }
 {
     let known = memo[c];
-    if known < 256 {
+    if known < SETS {
         return known as u8;
     }
     let bytes = class_bytes(library, user, starts, classes, c);

@@ -41,8 +41,15 @@ const SHORTEST: [u16; 9] = [1, 13, 6, 11, 9, 8, 6, 7, 8];
 
 const LONGEST: [u16; 9] = [0, 112, 6, 110, 108, 8, 6, 106, 8];
 
-// Where a CLASS record has the upper byte of its own markers, which is 0; the highest primitive, and the most records of a group.
+// Where a CLASS record has the upper byte of its own markers, which is 0, and other records their names; the highest primitive, and the most records of a
+// group.
 const MARKERS_TOP_AT: usize = 7;
+
+const FIELD_NAME_AT: usize = 10;
+
+const LOCAL_NAME_AT: usize = 8;
+
+const MEMBER_NAME_AT: usize = 6;
 
 const PRIMITIVES: u8 = 8;
 
@@ -221,10 +228,10 @@ fn name_start(kind: u16, n: usize) -> usize
     ensures { λ r. ⌜ r ≡ nameStart kind n ⌝ }
 {
     match kind {
-        1 => NAME_AT,
-        3 => 10,
-        4 => 8,
-        7 => 6,
+        CLASS => NAME_AT,
+        FIELD => FIELD_NAME_AT,
+        LOCAL => LOCAL_NAME_AT,
+        MEMBER => MEMBER_NAME_AT,
         _ => n,
     }
 }
@@ -273,14 +280,14 @@ fn head_number(bytes: &[u8], sheet: u8, at: usize, kind: u16, len: u16, k: usize
     ensures { λ r. ⌜ r ≡ headNumber sheet (now (bytes .entry)) at kind len k ⌝ }
 {
     match kind {
-        1 => kind_number(bytes, sheet, at, CLASS, len, k),
-        2 => kind_number(bytes, sheet, at, IMPLEMENTS, len, k),
-        3 => kind_number(bytes, sheet, at, FIELD, len, k),
-        4 => kind_number(bytes, sheet, at, LOCAL, len, k),
-        5 => kind_number(bytes, sheet, at, USES, len, k),
-        6 => kind_number(bytes, sheet, at, BUILDS, len, k),
-        7 => kind_number(bytes, sheet, at, MEMBER, len, k),
-        8 => kind_number(bytes, sheet, at, REFERS, len, k),
+        CLASS => kind_number(bytes, sheet, at, CLASS, len, k),
+        IMPLEMENTS => kind_number(bytes, sheet, at, IMPLEMENTS, len, k),
+        FIELD => kind_number(bytes, sheet, at, FIELD, len, k),
+        LOCAL => kind_number(bytes, sheet, at, LOCAL, len, k),
+        USES => kind_number(bytes, sheet, at, USES, len, k),
+        BUILDS => kind_number(bytes, sheet, at, BUILDS, len, k),
+        MEMBER => kind_number(bytes, sheet, at, MEMBER, len, k),
+        REFERS => kind_number(bytes, sheet, at, REFERS, len, k),
         _ => 3,
     }
 }

@@ -1,11 +1,13 @@
 // What is asked of one class: its overlay markers and its name.
 use form::Checked;
 pub use form::Refusal;
+use form::UNASKED;
 use form::plain;
 use form::present;
 use groups::class_word;
 use groups::sheet_of;
 use overlay::overlay_in_turn;
+use records::CLASS_LIMIT;
 use records::NAME_AT;
 use records::wide;
 ghost use mathlib.Core.Path.{_≡_};
@@ -54,8 +56,8 @@ fn asked<'a>(
 pub fn marks<'a>(library: &'a [u8], user: &'a [u8], used: usize, class: usize) -> Marked
     ensures { λ r. ⌜ Marks (now (library .entry)) (now (user .entry)) used class (markedAnswer r) ⌝ }
 {
-    let mut starts = [0u16; 256];
-    let mut memo = [65535u16; 256];
+    let mut starts = [0u16; CLASS_LIMIT];
+    let mut memo = [UNASKED; CLASS_LIMIT];
     let found = asked(library, user, used, class, &mut starts, &mut memo);
     match found {
         Checked::Refused(refusal) => Marked::Refused(refusal),
@@ -71,8 +73,8 @@ pub fn marks<'a>(library: &'a [u8], user: &'a [u8], used: usize, class: usize) -
 pub fn name_place<'a>(library: &'a [u8], user: &'a [u8], used: usize, class: usize) -> Placed
     ensures { λ r. ⌜ Places (now (library .entry)) (now (user .entry)) used class (placedAnswer r) ⌝ }
 {
-    let mut starts = [0u16; 256];
-    let mut memo = [65535u16; 256];
+    let mut starts = [0u16; CLASS_LIMIT];
+    let mut memo = [UNASKED; CLASS_LIMIT];
     let found = asked(library, user, used, class, &mut starts, &mut memo);
     match found {
         Checked::Refused(refusal) => Placed::Refused(refusal),

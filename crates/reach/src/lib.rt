@@ -2,6 +2,7 @@
 use groups::Classes;
 use groups::class_bytes;
 use groups::class_word;
+use lanes::LANE;
 use lanes::draw_lanes;
 use lanes::either;
 use lanes::fill;
@@ -96,7 +97,7 @@ fn has_lower(row: &[u8], n: usize, lanes: usize, m: usize, t: usize) -> bool
     }
     let mut k = 0;
     while k < lanes {
-        if row[k * 256 + t] < row[k * 256 + m] {
+        if row[k * LANE + t] < row[k * LANE + m] {
             return true;
         }
         k += 1;
@@ -163,7 +164,7 @@ fn visit<'a>(
     if !wants(bytes, classes.all, builds, lanes, m, row) {
         return 0;
     }
-    let mut marks = [0u8; 256];
+    let mut marks = [0u8; CLASS_LIMIT];
     enclosers(library, user, starts, classes, m, &mut marks);
     scan(bytes, &marks, classes.all, builds, lanes, m, row)
 }

@@ -7,6 +7,7 @@ use groups::class_bytes;
 use groups::class_word;
 use markers::has;
 use overlay::known;
+use records::CLASS_LIMIT;
 use records::FLAGS_AT;
 use records::SUPERCLASS_AT;
 use records::wide;
@@ -26,6 +27,9 @@ ghost use Rattle.breaks.specs.Breaking.{Judging};
 ghost use Rattle.rules.specs.Walk.{onlyFirst, asked, firstClass, NextClass, keptAt, climbed, Empty, Kept};
 ghost use Rattle.rules.specs.Line.{lineOf};
 ghost use Rattle.records.specs.Records.{Carries};
+
+// The row of what earlier walks found: a lane for each of rules 7 to 10.
+pub const KEPT: usize = 4 * CLASS_LIMIT;
 
 // Rule and record; 0 and 0 is clean.
 pub struct Verdict {
@@ -82,7 +86,7 @@ fn kept_at(rule: u8, t: usize) -> usize
     requires { ⌜ (7 ≤ rule) × (rule ≤ 10) × (t < 256) ⌝ }
     ensures { λ r. ⌜ (r ≡ keptAt rule t) × (r < 1024) ⌝ }
 {
-    (rule as usize - 7) * 256 + t
+    (rule as usize - 7) * CLASS_LIMIT + t
 }
 
 // Class t, or c itself where an earlier walk found nothing from t upward.

@@ -6,6 +6,7 @@ use naming::name_met;
 use numbers::class_number;
 use numbers::other_number;
 use pass::Pass;
+use records::CLASS_LIMIT;
 use records::ENCLOSER_AT;
 use records::FLAGS_AT;
 use records::LOCAL;
@@ -135,7 +136,7 @@ fn others_pass<'a>(
         (startOf (now (library .entry)) (spliced (now (user .entry)) (now (group .entry)) (view .cut)) c + u16 (now (bytes .entry)) 0)
         (between (now (bytes .entry)) (u16 (now (bytes .entry)) 0) (length (now (bytes .entry)))) ⌝ }
 {
-    let mut marks = [0u8; 256];
+    let mut marks = [0u8; CLASS_LIMIT];
     mark_enclosers(library, user, group, starts, view, c, &mut marks);
     let mut at = wide(word_in(bytes, 0));
     while at < bytes.len() {

@@ -1,5 +1,6 @@
 // The verdict row as a slice of structs: the report over it, and a flat row's lines written into it. The functions that
 // hold the slice are walked by hand; the others are covered.
+use records::CLASS_LIMIT;
 use records::VERDICT_BYTES;
 ghost use mathlib.Core.Path.{_≡_};
 ghost use Prim.Native.Nat.{_<_, _+_, _/_, _^_, min};
@@ -82,7 +83,7 @@ pub fn write(row: &mut [Verdict], flat: &[u8], n: usize)
 pub fn faulted(flat: &[u8], n: usize) -> usize
     ensures { λ r. ⌜ r ≡ flatFaulted (now (flat .entry)) (shared n 256 (now (flat .entry))) ⌝ }
 {
-    let mut row = [Verdict { rule: 0, record: 0 }; 256];
+    let mut row = [Verdict { rule: 0, record: 0 }; CLASS_LIMIT];
     write(&mut row, flat, n);
-    report(&row, 256)
+    report(&row, CLASS_LIMIT)
 }

@@ -7,6 +7,7 @@ use flat::marked;
 use flat::rejudge;
 use form::Checked;
 pub use form::Refusal;
+use form::UNASKED;
 use form::plain;
 use form::present;
 use groups::Classes;
@@ -17,6 +18,7 @@ pub use queries::marks;
 pub use queries::name;
 pub use queries::name_place;
 use reach::dependents;
+use records::CLASS_LIMIT;
 pub use records::SCRATCH_BYTES;
 pub use records::VERDICT_BYTES;
 use records::wide;
@@ -52,8 +54,8 @@ pub fn judge<'a>(
     ensures { λ r. ⌜ Judges flat (now (library .entry)) (now (user .entry)) used (now (verdicts .entry)) (now (scratch .entry))
         (judgedAnswer r) (now (verdicts .exit)) (now (scratch .exit)) ⌝ }
 {
-    let mut starts = [0u16; 256];
-    let mut memo = [65535u16; 256];
+    let mut starts = [0u16; CLASS_LIMIT];
+    let mut memo = [UNASKED; CLASS_LIMIT];
     let checked = present(library, user, used, &mut starts, &mut memo);
     match checked {
         Checked::Refused(refusal) => Judged::Refused(refusal),
@@ -62,7 +64,7 @@ pub fn judge<'a>(
                 return Judged::Refused(plain(12));
             }
             let sheet = &user[0..used];
-            let marks = [0u8; 256];
+            let marks = [0u8; CLASS_LIMIT];
             rejudge(
                 library,
                 sheet,
@@ -128,8 +130,8 @@ fn change<'a>(
         (record { user = now (user .entry); used = now (used .entry); verdicts = now (verdicts .entry) }) (now (scratch .entry)) (changedAnswer r)
         (record { user = now (user .exit); used = now (used .exit); verdicts = now (verdicts .exit) }) (now (scratch .exit)) ⌝ }
 {
-    let mut starts = [0u16; 256];
-    let mut memo = [65535u16; 256];
+    let mut starts = [0u16; CLASS_LIMIT];
+    let mut memo = [UNASKED; CLASS_LIMIT];
     let lines = verdicts.len() / VERDICT_BYTES;
     let admitted = admit(
         library,
@@ -148,7 +150,7 @@ fn change<'a>(
             write(user, group, cut);
             *used = size;
             let sheet = &user[0..size];
-            let mut marks = [255u8; 256];
+            let mut marks = [255u8; CLASS_LIMIT];
             touch(library, sheet, &starts, classes, cut, class, &mut marks);
             rejudge(
                 library,
@@ -170,8 +172,8 @@ fn accepted<'a>(library: &'a [u8], user: &'a [u8], used: usize) -> Checked
     ensures { λ r. ⌜ r ≡ checkedOf (presentRefusal (now (library .entry)) (now (user .entry)) used)
         (classCount (now (library .entry))) (total (now (library .entry)) (take used (now (user .entry)))) ⌝ }
 {
-    let mut starts = [0u16; 256];
-    let mut memo = [65535u16; 256];
+    let mut starts = [0u16; CLASS_LIMIT];
+    let mut memo = [UNASKED; CLASS_LIMIT];
     present(library, user, used, &mut starts, &mut memo)
 }
 
@@ -217,8 +219,8 @@ enum Found {
 fn cut_of<'a>(library: &'a [u8], user: &'a [u8], used: usize, class: usize) -> Found
     ensures { λ r. ⌜ CutOf (now (library .entry)) (now (user .entry)) used class r ⌝ }
 {
-    let mut starts = [0u16; 256];
-    let mut memo = [65535u16; 256];
+    let mut starts = [0u16; CLASS_LIMIT];
+    let mut memo = [UNASKED; CLASS_LIMIT];
     let checked = present(library, user, used, &mut starts, &mut memo);
     match checked {
         Checked::Refused(refusal) => Found::Refused(refusal),
