@@ -25,13 +25,19 @@ use Rattle.form.specs.Form.{Checks, refuse}
 use Rattle.form.specs.declared.Refusal.{Refusal}
 use Rattle.form.specs.declared.Checked.{Checked}
 use Rattle.form.specs.declared.Checked.the-variants.{Fine, Refused}
-use Rattle.form.proofs.Accepting.{Fresh, ready-fresh, ready-refused, turned, told, indexed, memo-is}
+use Rattle.form.proofs.Accepting.{Fresh, ready-fresh, turned, told, then-refused, then-stopped, then-fine, own, indexed, memo-is}
 use Rattle.admit.specs.Admitting.{admitRefusal, Plain}
 
 -- a whole group between whole groups can be read through the view
 pub group-fits : {cut : Cut} {user g : List ℕ} → Sits cut user → {b : Bool} → b ≡ wholeGroup g → not b ≡ false → Fits cut user g
 unfolding IsGroup
 group-fits s {b} e t = sits-fits s (true-t (sym e ∙ not-false b t))
+
+-- 12, of the classes that a check told
+pub short-is : {o : Option Reason} {library user : List ℕ} {p : Checked} {row memo : List ℕ} → Checks o library user p row memo → {k : Classes} → p ≡ Fine k
+    → (lines scratch : ℕ) {x : Bool} → x ≡ (ltb lines (k .all - k .library) || ltb scratch scratchLength) → shortRefusal (classCount user) lines scratch ≡ refusePlain x 12
+unfolding shortRefusal
+short-is a f lines scratch e = rw (own a f, ← e)
 
 module _ (library user g new : List ℕ) (lines scratch : ℕ) where
   -- what a call promises
@@ -76,27 +82,19 @@ module _ (library user g new : List ℕ) (lines scratch : ℕ) where
 
       module _ {p : Checked} {row memo : List ℕ} (a : Checks (sheetRefusal library new) library new p row memo) where
         pub sheet-refused : {r : Refusal} → p ≡ Refused r → Admits p row memo
-        sheet-refused f =
-            let o = past-room ∙ first-some _ (turned a f) in
-            record { answered = f ∙ rw o; ready = ready-refused (a .ready) o }
+        sheet-refused f = then-refused a f (past-room ∙ first-some _ (turned a f))
 
         module _ {k : Classes} (f : p ≡ Fine k) {x : Bool} (e : x ≡ (ltb lines (k .all - k .library) || ltb scratch scratchLength)) where
-          short : admitRefusal library user g new lines scratch ≡ refusePlain x 12
-          unfolding shortRefusal total
-          short =
-              past-room ∙ first-past _ _ (told a f .0)
-              ∙ ap (λ (m : ℕ). refusePlain (ltb lines m || ltb scratch scratchLength) 12) (let q : classCount new ≡ k .all - k .library = omega (arith, told a f .1) in q)
-              ∙ ap (λ (y : Bool). refusePlain y 12) (sym e)
+          past-sheet : admitRefusal library user g new lines scratch ≡ refusePlain x 12
+          past-sheet = past-room ∙ first-past _ _ (told a f .0) ∙ short-is a f lines scratch e
 
           pub too-short : x ≡ true → Admits (refuse 12 0 0) row memo
           unfolding refusePlain refuseIf
-          too-short t = let o = short ∙ ap (λ (y : Bool). refusePlain y 12) t in record { answered = rw o; ready = ready-refused (a .ready) o }
+          too-short t = then-stopped a (past-sheet ∙ ap (λ (y : Bool). refusePlain y 12) t)
 
           pub admitted : x ≡ false → Admits (Fine k) row memo
           unfolding refusePlain refuseIf
-          admitted t =
-              let o : admitRefusal library user g new lines scratch ≡ none = short ∙ ap (λ (y : Bool). refusePlain y 12) t in
-              record { answered = sym f ∙ a .answered ∙ rw (told a f .0, o); ready = rw (o ∙ sym (told a f .0)) (a .ready) }
+          admitted t = then-fine a f (past-sheet ∙ ap (λ (y : Bool). refusePlain y 12) t)
 
 -- ---- what an admitted group gives
 

@@ -1,7 +1,9 @@
 // Captured variables: for each class and marker, whether it captures a variable whose type lacks the marker.
 use groups::Classes;
 use groups::class_bytes;
+use lanes::EMPTY;
 use lanes::LANE;
+use lanes::NO_OWNER;
 use lanes::entry;
 use lanes::fill;
 use markers::DEEP_SELFLESS;
@@ -207,7 +209,7 @@ pub fn captures<'a>(
     requires { λ g. ⌜ 768 ≤ length (now row) ⌝ }
     ensures { λ g r. ⌜ Captured g (classes .all) (now (row .entry)) (now (row .exit)) ⌝ }
 {
-    fill(row, OWNERS, 255);
+    fill(row, OWNERS, EMPTY);
     seed(library, user, starts, classes, markers, row);
     close(library, user, starts, classes, true, LANES, row);
 }
@@ -217,5 +219,5 @@ pub fn lacking(row: &[u8], k: usize, l: usize) -> bool
     requires { ⌜ (k < 3) × (l < 256) ⌝ }
     ensures { λ r. ⌜ r ≡ ltb (entryAt (now (row .entry)) k l) 255 ⌝ }
 {
-    entry(row, k * LANE + l) < 255
+    entry(row, k * LANE + l) < NO_OWNER
 }

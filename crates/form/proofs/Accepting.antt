@@ -4,7 +4,7 @@ use mathlib.Core.Path.{_≡_, refl, sym, ap, _∙_, subst}
 use mathlib.Core.Bool.{Bool, true, false, _||_}
 use mathlib.Core.List.{List, [], _∷_, _++_, map, map-append}
 use mathlib.Core.Option.{Option, none, some}
-use Prim.Native.Nat.{ℕ, _+_, _≤_, _<_, min}
+use Prim.Native.Nat.{ℕ, _+_, _-_, _≤_, _<_, min}
 use native.Mathlib.Omega.{arith}
 use lib.Dec.{ltb}
 use lib.ListN.{length, take, replicate}
@@ -273,20 +273,33 @@ module _ (library user : List ℕ) (used : ℕ) where
             let q = subst (λ (v : List ℕ). Checks (sheetRefusal library v) library v p row memo) e h in
             record { answered = q .answered ∙ rw size-none; ready = rw size-none (q .ready) }
 
--- ---- what a check tells
+-- ---- what a check tells, and what it promises once another test has followed
 
 module _ {o : Option Reason} {library user : List ℕ} {p : Checked} {row memo : List ℕ} (a : Checks o library user p row memo) where
   pub turned : {r : Refusal} → p ≡ Refused r → o ≡ some (refusalOf r)
   turned f = refused-is o _ _ (sym f ∙ a .answered)
 
+  pub then-refused : {r : Refusal} → p ≡ Refused r → {q : Option Reason} → q ≡ some (refusalOf r) → Checks q library user p row memo
+  then-refused f e = record { answered = f ∙ rw e; ready = ready-refused (a .ready) e }
+
+  pub then-stopped : {q : Option Reason} {s : Reason} → q ≡ some s → Checks q library user (refuse (s .number) (s .sheet) (s .byte)) row memo
+  then-stopped e = record { answered = rw e; ready = ready-refused (a .ready) e }
+
   module _ {k : Classes} (f : p ≡ Fine k) where
     pub told : (o ≡ none) × ((k .library ≡ classCount library) × (k .all ≡ total library user))
     told = fine-none o (sym f ∙ a .answered)
 
-    -- the library's classes are among all classes
+    pub then-fine : {q : Option Reason} → q ≡ none → Checks q library user (Fine k) row memo
+    then-fine e = record { answered = sym f ∙ a .answered ∙ rw (told .0, e); ready = rw (e ∙ sym (told .0)) (a .ready) }
+
+    -- the library's classes are among all classes, the others are the user sheet's
     pub ordered : k .library ≤ k .all
     unfolding total
     ordered = omega (arith, told .1)
+
+    pub own : classCount user ≡ k .all - k .library
+    unfolding total
+    own = omega (arith, told .1)
 
     module _ {s : List ℕ} (q : s ≡ user) where
       pub indexed : Indexed library s (k .library) (k .all) row

@@ -59,7 +59,7 @@ pub fn class_bytes<'a>(
     &user[start..end]
 }
 
-// The number at byte j of the CLASS record of class c: 4 flags, 8 superclass, 10 encloser.
+// The number at byte j of the CLASS record of class c: its flags, superclass, encloser.
 pub fn class_word<'a>(
     library: &'a [u8],
     user: &'a [u8],

@@ -8,6 +8,11 @@ ghost use Rattle.lanes.specs.Lanes.{Room, eitherOf, fitsRow, drawn, drew
 // The entries of a lane, one a class.
 pub const LANE: usize = 256;
 
+// What an entry holds where there is no owner; and the same as a class number.
+pub const EMPTY: u8 = 255;
+
+pub const NO_OWNER: usize = EMPTY as usize;
+
 fn wide(x: u8) -> usize
     ensures { λ r. ⌜ (r ≡ x) × (r < 256) ⌝ }
 {
@@ -30,7 +35,11 @@ pub fn fill(row: &mut [u8], k: usize, x: u8)
 pub fn entry(row: &[u8], i: usize) -> usize
     ensures { λ r. ⌜ (r ≡ getD (now (row .entry)) i 255) × (r < 256) ⌝ }
 {
-    if i < row.len() { wide(row[i]) } else { 255 }
+    if i < row.len() {
+        wide(row[i])
+    } else {
+        NO_OWNER
+    }
 }
 
 // Joins the answers of two parts of a search: 0 only where neither changed anything. A sum would say the same, but might grow too large.

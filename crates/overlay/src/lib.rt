@@ -6,11 +6,13 @@ use markers::ALL;
 use markers::closure;
 use markers::union;
 use records::CLASS_LIMIT;
+use records::CODE_AT;
 use records::IMPLEMENTS;
 use records::KIND_AT;
 use records::MARKERS_AT;
 use records::SUPERCLASS_AT;
 use records::TARGET_AT;
+use records::TYPE_CLASS_AT;
 use records::wide;
 use records::word_in;
 ghost use mathlib.Core.Path.{_≡_};
@@ -232,8 +234,8 @@ pub fn type_markers(bytes: &[u8], i: usize, row: &[u8]) -> u8
     if bytes[i] != 0 {
         return 0;
     }
-    if bytes[i + 1] != 0 {
+    if bytes[i + CODE_AT] != 0 {
         return ALL;
     }
-    known(row, wide(word_in(bytes, i + 2)))
+    known(row, wide(word_in(bytes, i + TYPE_CLASS_AT)))
 }

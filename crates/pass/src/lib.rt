@@ -1,5 +1,6 @@
 // The first pass over a sheet, or over whole groups of one: each record by itself, refusals 2 to 7. On the way it fills the row of the bytes where the
 // groups begin.
+use records::ALLOWED;
 use records::BUILDS;
 use records::CLASS;
 use records::CLASS_LIMIT;
@@ -41,17 +42,20 @@ const SHORTEST: [u16; 9] = [1, 13, 6, 11, 9, 8, 6, 7, 8];
 
 const LONGEST: [u16; 9] = [0, 112, 6, 110, 108, 8, 6, 106, 8];
 
-// Where a CLASS record has the upper byte of its own markers, which is 0, and other records their names; the highest primitive, and the most records of a
-// group.
+// Where a CLASS record has the upper byte of its own markers, which is 0.
 const MARKERS_TOP_AT: usize = 7;
 
+// Where other records have their names.
 const FIELD_NAME_AT: usize = 10;
 
 const LOCAL_NAME_AT: usize = 8;
 
 const MEMBER_NAME_AT: usize = 6;
 
+// The highest code of a primitive, the flags of an interface that is allowed, and the most records of a group.
 const PRIMITIVES: u8 = 8;
+
+const ALLOWED_INTERFACE: u16 = ALLOWED + 1;
 
 const RECORD_LIMIT: usize = 255;
 
@@ -96,12 +100,12 @@ fn class_flags_fit(sheet: u8, flags: u16) -> bool
         if flags < 2 {
             return true;
         }
-        if flags == 256 {
+        if flags == ALLOWED {
             return true;
         }
-        return flags == 257;
+        return flags == ALLOWED_INTERFACE;
     }
-    flags < 256
+    flags < ALLOWED
 }
 
 // Whether the type at i is one: its code is known, and a primitive names no class.

@@ -1,6 +1,6 @@
 -- A question about one class, once the present sheets are accepted or refused.
 -- Assumes nothing.
-use mathlib.Core.Path.{_≡_, refl, sym, ap, _∙_, subst}
+use mathlib.Core.Path.{_≡_, refl, ap, _∙_, subst}
 use mathlib.Core.Bool.{Bool, true, false, not, _||_}
 use mathlib.Core.List.{List, map}
 use mathlib.Core.Option.{Option, none, some}
@@ -26,7 +26,7 @@ use Rattle.form.specs.Form.{Checks, refuse}
 use Rattle.form.specs.declared.Refusal.{Refusal}
 use Rattle.form.specs.declared.Checked.{Checked}
 use Rattle.form.specs.declared.Checked.the-variants.{Fine, Refused}
-use Rattle.form.proofs.Accepting.{ready-refused, turned, told}
+use Rattle.form.proofs.Accepting.{turned, told, then-refused, then-stopped, then-fine}
 
 -- ---- answers
 
@@ -119,9 +119,7 @@ module _ (library user : List ℕ) (used c : ℕ) {p : Checked} {row memo : List
   -- the sheets are refused
   pub sheets-refused : {r : Refusal} → p ≡ Refused r → Asks p
   unfolding queryRefusal
-  sheets-refused f =
-      let o : queryRefusal library user used c ≡ _ = first-some _ (turned a f) in
-      record { answered = f ∙ rw o; ready = ready-refused (a .ready) o }
+  sheets-refused f = then-refused a f (first-some _ (turned a f))
 
   module _ {k : Classes} (f : p ≡ Fine k) where
     unused : (b : Bool) → leb (total library (take used user)) c ≡ b → queryRefusal library user used c ≡ refusePlain b 13
@@ -130,15 +128,11 @@ module _ (library user : List ℕ) (used c : ℕ) {p : Checked} {row memo : List
 
     pub class-unused : k .all ≤ c → Asks (refuse 13 0 0)
     unfolding refusePlain refuseIf
-    class-unused h =
-        let o = unused true (le-leb (total library (take used user)) c (omega (arith, told a f .1 .1))) in
-        record { answered = rw o; ready = ready-refused (a .ready) o }
+    class-unused h = then-stopped a (unused true (le-leb (total library (take used user)) c (omega (arith, told a f .1 .1))))
 
     pub class-used : (k .all ≤ c → ⊥) → Asks (Fine k)
     unfolding refusePlain refuseIf
-    class-used h =
-        let o : queryRefusal library user used c ≡ none = unused false (lt-leb (total library (take used user)) c (omega (arith, told a f .1 .1))) in
-        record { answered = sym f ∙ a .answered ∙ rw (told a f .0, o); ready = rw (o ∙ sym (told a f .0)) (a .ready) }
+    class-used h = then-fine a f (unused false (lt-leb (total library (take used user)) c (omega (arith, told a f .1 .1))))
 
 module _ (library user : List ℕ) (used c : ℕ) (e : queryRefusal library user used c ≡ none) where
   pub asked-sheets : presentRefusal library user used ≡ none

@@ -2,6 +2,7 @@
 use groups::Classes;
 use groups::class_bytes;
 use groups::class_word;
+use lanes::EMPTY;
 use lanes::LANE;
 use lanes::draw_lanes;
 use lanes::either;
@@ -239,7 +240,7 @@ pub fn dependents<'a>(
     requires { λ g. ⌜ (d < classes .all) × (256 ≤ length (now row)) ⌝ }
     ensures { λ g r. ⌜ now (row .exit) ≡ dependentRow (now (library .entry)) (now (user .entry)) d (now (row .entry)) ⌝ }
 {
-    fill(row, CLASS_LIMIT, 255);
+    fill(row, CLASS_LIMIT, EMPTY);
     row[d] = 0;
     close(library, user, starts, classes, false, 1, row);
 }

@@ -12,7 +12,7 @@ use borrow.Author.Tests.{lt-ltb, le-ltb, ltb-true, ltb-false}
 use Rattle.spec.specs.Sheet.{classCount, total, group}
 use Rattle.spec.specs.Rules.{Verdict, verdictOf}
 use Rattle.spec.specs.Verdicts.{verdictBytes, verdictAt, userVerdict, faulted, faultedCount, flatLines, flatAt, flatRewritten, flat}
-use Rattle.spec.specs.Refusals.{Refusal, scratchLength, refuseIf, refusePlain, shortRefusal, presentRefusal, judgeRefusal}
+use Rattle.spec.specs.Refusals.{Refusal, scratchLength, refuseIf, refusePlain, presentRefusal, judgeRefusal}
 use Rattle.spec.specs.Promises.{countsOf, afterwards, refused, accepted, cleared, judgedRow, Judges}
 use Rattle.theory.proofs.Answers.{first-past, first-some}
 use Rattle.laws.proofs.Bools.{not-or-l, not-or-r}
@@ -25,6 +25,7 @@ use Rattle.form.specs.declared.Checked.{Checked}
 use Rattle.form.specs.declared.Checked.the-variants.{Fine, Refused}
 use Rattle.flat.specs.Row.{chosen, faultedIn}
 use Rattle.form.proofs.Accepting.{turned, told}
+use Rattle.admit.proofs.Turning.{short-is}
 use Rattle.queries.proofs.Asking.{answer-refused, answer-fine}
 
 -- ---- what a buffer holds
@@ -100,12 +101,8 @@ module _ (library user : List ℕ) (used : ℕ) (verdicts scratch : List ℕ) {p
 
   module _ {k : Classes} (f : p ≡ Fine k) {x : Bool} (e : x ≡ (ltb (length verdicts / verdictBytes) (k .all - k .library) || ltb (length scratch) scratchLength)) where
     short : refusal ≡ refusePlain x 12
-    unfolding judgeRefusal shortRefusal flatLines total
-    short =
-        first-past _ _ (told a f .0)
-        ∙ ap (λ (m : ℕ). refusePlain (ltb (length verdicts / verdictBytes) m || ltb (length scratch) scratchLength) 12)
-        (let q : classCount (take used user) ≡ k .all - k .library = omega (arith, told a f .1) in q)
-        ∙ ap (λ (y : Bool). refusePlain y 12) (sym e)
+    unfolding judgeRefusal flatLines
+    short = first-past _ _ (told a f .0) ∙ short-is a f (flatLines verdicts) (length scratch) e
 
     pub short-stop : x ≡ true → Judges flat library user used verdicts scratch (refused (record { number = 12; sheet = 0; byte = 0 })) verdicts scratch
     unfolding refusePlain refuseIf

@@ -12,6 +12,7 @@ use form::plain;
 use form::present;
 use groups::Classes;
 use groups::group_end;
+use lanes::EMPTY;
 pub use queries::Marked;
 pub use queries::Placed;
 pub use queries::marks;
@@ -150,7 +151,7 @@ fn change<'a>(
             write(user, group, cut);
             *used = size;
             let sheet = &user[0..size];
-            let mut marks = [255u8; CLASS_LIMIT];
+            let mut marks = [EMPTY; CLASS_LIMIT];
             touch(library, sheet, &starts, classes, cut, class, &mut marks);
             rejudge(
                 library,

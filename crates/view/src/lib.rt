@@ -75,7 +75,7 @@ pub fn view_bytes<'a>(
     &user[at..after]
 }
 
-// The number at byte j of the CLASS record of class c: 4 flags, 8 superclass, 10 encloser.
+// The number at byte j of the CLASS record of class c: its flags, superclass, encloser.
 pub fn view_word<'a>(
     library: &'a [u8],
     user: &'a [u8],
