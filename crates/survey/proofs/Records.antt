@@ -22,13 +22,13 @@ use Rattle.groups.specs.Groups.{Indexed}
 use Rattle.records.proofs.Walks.{walk-here}
 use Rattle.records.proofs.Seeking.{Seeking, seek-start, seek-next}
 use Rattle.breaks.specs.Breaking.{Refers}
-use Rattle.survey.specs.Survey.{headBreaks, recordBreaks}
+use Rattle.survey.specs.Survey.{headFails, recordBreaks}
 
 -- ---- the CLASS record
 
 pub head-by : (bytes : List ℕ) (m : ℕ) {a b d : Bool} → a ≡ (bit 4 (getD bytes 6 0) || bit 5 (getD bytes 6 0) || bit 6 (getD bytes 6 0)) → b ≡ clash m
-    → {f : ℕ} → f ≡ u16 bytes 4 → d ≡ (bit 5 f || bit 6 f || bit 7 f) → headBreaks bytes m ≡ (a || (b || d))
-unfolding headBreaks ownMarkers u8 flags
+    → {f : ℕ} → f ≡ u16 bytes 4 → d ≡ (bit 5 f || bit 6 f || bit 7 f) → headFails bytes m ≡ (a || (b || d))
+unfolding headFails ownMarkers u8 flags
 head-by bytes m ea eb {f} ef ed = rw (ea, eb, ed, ef)
 
 -- ---- every record

@@ -18,7 +18,7 @@ use Rattle.spec.specs.Rules.{rule2, rule3, rule4, rule5, rule6, rule7, rule8, r
 use Rattle.laws.proofs.Bools.{true-t, and-l, and-r}
 use Rattle.theory.proofs.Somewhere.{any-append, any-map, any-gather, any-keep, any-numbered, any-same, any-either, any-never, some, some-append, some-map, some-only, some-keep, some-gather}
 use Rattle.breaks.specs.Breaking.{lineBreaks}
-use Rattle.survey.specs.Survey.{isClean, headBreaks, anyLate, recordBreaks, lateBreaks, classBreaks}
+use Rattle.survey.specs.Survey.{isClean, headFails, anyLate, recordBreaks, lateBreaks, classBreaks}
 use Rattle.slots.specs.Slots.{fromSeven, ruleMarker, slotFits, fixedBreaks, rootBreaks, baseBreaks, fieldBreaks, slotsBreak}
 
 pub clean-both : (v : Verdict) → isClean v ≡ true → v ≡ clean
@@ -144,8 +144,8 @@ module _ (nlib : ℕ) (g : ℕ → Group) (c : ℕ) where
       five : List ℕ → Bool
       five r = isStaticField r && not (isFinal r && satisfies g staticMarker (fieldTy r))
 
-  head-is : headBreaks (classRecord (g c)) (overlay g c) ≡ (some (rule3 nlib g c) || (some (rule4 nlib g c) || some (rule6 nlib g c)))
-  unfolding headBreaks rule3 rule4 rule6
+  head-is : headFails (classRecord (g c)) (overlay g c) ≡ (some (rule3 nlib g c) || (some (rule4 nlib g c) || some (rule6 nlib g c)))
+  unfolding headFails rule3 rule4 rule6
   head-is = ap₂ (λ (a b : Bool). a || b) (sym (some-if _ c)) (ap₂ (λ (a b : Bool). a || b) (sym (some-if _ c)) (sym (some-if _ c)))
 
   late-is : (not (isInterface (g c)) && lateBreaks nlib g c) ≡ (some (rule7 nlib g c) || (some (rule8 nlib g c) || (some (rule9 nlib g c) || (some (rule10 nlib g c) || false))))

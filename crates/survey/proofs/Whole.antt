@@ -21,7 +21,7 @@ use Rattle.groups.proofs.Held.{class-long}
 use Rattle.records.specs.Records.{between, Carries}
 use Rattle.overlay.specs.Types.{Known}
 use Rattle.breaks.specs.Breaking.{lineBreaks}
-use Rattle.survey.specs.Survey.{isClean, headBreaks, anyLate, recordBreaks, lateBreaks, classBreaks, ClassSet}
+use Rattle.survey.specs.Survey.{isClean, headFails, anyLate, recordBreaks, lateBreaks, classBreaks, ClassSet}
 use Rattle.survey.proofs.Verdicts.{clean-is}
 use Rattle.slots.specs.Slots.{ruleMarker, Late, baseBy}
 use Rattle.slots.proofs.Sets.{twice}
@@ -48,10 +48,10 @@ module _ {library user : List ℕ} {nlib n : ℕ} {starts : List ℕ} (x : Index
   abbrev recordsBreak : Bool
   recordsBreak = any (recordBreaks nlib g) (between bytes 0 (length bytes))
 
-  parts : classBreaks nlib g c ≡ (headBreaks bytes m || (recordsBreak || (not (isInterface (g c)) && lateBreaks nlib g c)))
-  unfolding classBreaks headBreaks ownMarkers u8 flags
+  parts : classBreaks nlib g c ≡ (headFails bytes m || (recordsBreak || (not (isInterface (g c)) && lateBreaks nlib g c)))
+  unfolding classBreaks headFails ownMarkers u8 flags
   parts =
-      swap (any (recordBreaks nlib g) (g c)) (headBreaks (classRecord (g c)) (overlay g c)) (not (isInterface (g c)) && lateBreaks nlib g c)
+      swap (any (recordBreaks nlib g) (g c)) (headFails (classRecord (g c)) (overlay g c)) (not (isInterface (g c)) && lateBreaks nlib g c)
       ∙ rw (w .records, class-byte-in w (class-long x there) 6 (omega arith), class-word-in w (class-long x there) 4 (omega arith), known .is c)
     where
       swap : (a b r : Bool) → (a || (b || r)) ≡ (b || (a || r))
@@ -63,10 +63,10 @@ module _ {library user : List ℕ} {nlib n : ℕ} {starts : List ℕ} (x : Index
   says : {r : Bool} → classBreaks nlib g c ≡ not r → r ≡ isClean (verdictOf nlib g c)
   says {r} e = sym (twice r) ∙ ap not (sym e) ∙ sym (clean-is nlib g c)
 
-  pub head-faulted : headBreaks bytes m ≡ true → false ≡ isClean (verdictOf nlib g c)
+  pub head-faulted : headFails bytes m ≡ true → false ≡ isClean (verdictOf nlib g c)
   head-faulted e = says (met e _ parts)
 
-  module _ (h : headBreaks bytes m ≡ false) where
+  module _ (h : headFails bytes m ≡ false) where
     pub records-faulted : recordsBreak ≡ true → false ≡ isClean (verdictOf nlib g c)
     records-faulted e = says (met e _ (past h parts))
 

@@ -26,8 +26,8 @@ isClean v = eqb (v .rule) 0 && eqb (v .recordNumber) 0
 -- ---- what a class breaks
 
 -- a CLASS record with the overlay markers m breaks rule 3, 4 or 6
-unfoldable pub headBreaks : List ℕ → ℕ → Bool
-headBreaks r m =
+unfoldable pub headFails : List ℕ → ℕ → Bool
+headFails r m =
     (bit Token (ownMarkers r) || bit Throwable (ownMarkers r) || bit Enum (ownMarkers r))
     || (clash m || (bit 5 (flags r) || bit 6 (flags r) || bit 7 (flags r)))
 
@@ -46,7 +46,7 @@ module _ (nlib : ℕ) (g : ℕ → Group) where
   lateBreaks c = (bit Selfless (overlay g c) && baseBreaks g c) || anyLate (overlay g c) (λ rule. lineBreaks nlib g rule c)
 
   unfoldable pub classBreaks : ℕ → Bool
-  classBreaks c = any recordBreaks (g c) || (headBreaks (classRecord (g c)) (overlay g c) || (not (isInterface (g c)) && lateBreaks c))
+  classBreaks c = any recordBreaks (g c) || (headFails (classRecord (g c)) (overlay g c) || (not (isInterface (g c)) && lateBreaks c))
 
 -- ---- sets
 

@@ -39,7 +39,7 @@ ghost use Rattle.overlay.specs.Types.{Known};
 ghost use Rattle.records.specs.Records.{between, AtRecord};
 ghost use Rattle.slots.specs.Slots.{ruleMarker, baseBy};
 ghost use Rattle.breaks.specs.Breaking.{Bans, Refers, Judging};
-ghost use Rattle.survey.specs.Survey.{isClean, headBreaks, anyLate, recordBreaks, ClassSet, Passing, setsIn, KeepsFacts, Surveyed};
+ghost use Rattle.survey.specs.Survey.{isClean, headFails, anyLate, recordBreaks, ClassSet, Passing, setsIn, KeepsFacts, Surveyed};
 
 // ---- rules 7 to 10
 
@@ -175,7 +175,7 @@ fn records_fine<'a>(
 // The CLASS record breaks none of rules 3, 4 and 6, where m are the class's overlay markers.
 fn head_fine(bytes: &[u8], m: u8) -> bool
     requires { ⌜ 13 ≤ length (now bytes) ⌝ }
-    ensures { λ r. ⌜ r ≡ not (headBreaks (now (bytes .entry)) m) ⌝ }
+    ensures { λ r. ⌜ r ≡ not (headFails (now (bytes .entry)) m) ⌝ }
 {
     if reserved(bytes[MARKERS_AT]) {
         return false;

@@ -12,8 +12,8 @@ use lib.Seq.{take-at}
 use borrow.Author.Tests.{ne-eqb, le-ltb, ltb-true, ltb-false}
 use Rattle.spec.specs.Lists.{count, span}
 use Rattle.spec.specs.Sheet.{classCount, total, group}
-use Rattle.spec.specs.Rules.{Verdict, verdictOf}
-use Rattle.spec.specs.Verdicts.{verdictAt, userVerdict, flatLines, flatRewritten, flat, dependsOn}
+use Rattle.spec.specs.Rules.{verdictOf}
+use Rattle.spec.specs.Verdicts.{userVerdict, flatLines, flatRewritten, flat, dependsOn}
 use Rattle.spec.specs.Refusals.{Refusal}
 use Rattle.spec.specs.Promises.{Answer, answerOf, afterwards, refused, accepted, cleared, bufferWith, State, Edit, edited, Makes}
 use Rattle.theory.proofs.FlatRow.{rewritten-same}
@@ -25,7 +25,7 @@ use Rattle.flat.specs.Row.{chosen, markedIn}
 use Rattle.queries.proofs.Asking.{answer-refused, answer-fine}
 use Rattle.view.specs.declared.Cut.{Cut}
 use Rattle.verifier.specs.Changing.{touches, Touched, putting}
-use Rattle.verifier.proofs.Verdicts.{kept-refused, new-fine}
+use Rattle.verifier.proofs.Verdicts.{kept-refused, new-fine, changed-row}
 
 -- ---- any edit
 
@@ -44,19 +44,6 @@ module _ (library : List ℕ) (e : Edit) (before : State flat) (scratch : List �
     verdicts-are = er ∙ new-fine _ _ o;
     scratch-is = es ∙ new-fine _ _ o;
   }
-
--- ---- the verdicts of the new sheet
-
-module _ (library new : List ℕ) {nlib : ℕ} (n : ℕ) (el : nlib ≡ classCount library) (row : List ℕ) where
-  -- the row, where the marks choose just the classes that may change
-  pub changed-row : (marks : List ℕ) (changed : ℕ → Bool) → ((i : ℕ) → chosen nlib n marks i ≡ changed i) → {after : List ℕ}
-      → after ≡ flatRewritten (chosen nlib n marks) (λ i. verdictOf nlib (group library new) (nlib + i)) row → after ≡ flatRewritten changed (userVerdict library new) row
-  unfolding userVerdict verdictAt
-  changed-row marks changed h e =
-      e ∙ ap (λ (v : ℕ → Verdict). flatRewritten (chosen nlib n marks) v row) (λ k i. same i k) ∙ rewritten-same (userVerdict library new) row (chosen nlib n marks) changed h
-    where
-      same : (i : ℕ) → verdictOf nlib (group library new) (nlib + i) ≡ userVerdict library new i
-      same i = rw el
 
 -- ---- a group put in
 

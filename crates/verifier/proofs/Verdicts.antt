@@ -41,6 +41,17 @@ module _ {A : Type 0} {o : Option Refusal} where
 
 -- ---- the row
 
+module _ (library sheet : List ℕ) {nlib : ℕ} (n : ℕ) (el : nlib ≡ classCount library) (row : List ℕ) where
+  -- the row, where the marks choose just the classes that may change
+  pub changed-row : (marks : List ℕ) (changed : ℕ → Bool) → ((i : ℕ) → chosen nlib n marks i ≡ changed i) → {after : List ℕ}
+      → after ≡ flatRewritten (chosen nlib n marks) (λ i. verdictOf nlib (group library sheet) (nlib + i)) row → after ≡ flatRewritten changed (userVerdict library sheet) row
+  unfolding userVerdict verdictAt
+  changed-row marks changed h e =
+      e ∙ ap (λ (v : ℕ → Verdict). flatRewritten (chosen nlib n marks) v row) (λ k i. same i k) ∙ rewritten-same (userVerdict library sheet) row (chosen nlib n marks) changed h
+    where
+      same : (i : ℕ) → verdictOf nlib (group library sheet) (nlib + i) ≡ userVerdict library sheet i
+      same i = rw el
+
 module _ (library sheet : List ℕ) {nlib n : ℕ} (el : nlib ≡ classCount library) (en : n ≡ total library sheet) (marks : List ℕ) (zero : (i : ℕ) → getD marks i 0 ≡ 0) (row : List ℕ) where
   -- with every mark 0 all user classes are chosen
   every : (i : ℕ) → chosen nlib n marks i ≡ ltb i (classCount sheet)
@@ -51,22 +62,14 @@ module _ (library sheet : List ℕ) {nlib n : ℕ} (el : nlib ≡ classCount lib
       go true e = let h : i < classCount sheet = ltb-true i (classCount sheet) e in rw (lt-ltb (nlib + i) n (omega (arith, el, en))) (sym e)
       go false e = let h : classCount sheet ≤ i = ltb-false i (classCount sheet) e in rw (le-ltb (nlib + i) n (omega (arith, el, en))) (sym e)
 
-  user-verdict : (i : ℕ) → verdictOf nlib (group library sheet) (nlib + i) ≡ userVerdict library sheet i
-  unfolding userVerdict verdictAt
-  user-verdict i = rw el
-
-  verdicts : (λ (i : ℕ). verdictOf nlib (group library sheet) (nlib + i)) ≡ userVerdict library sheet
-  verdicts k i = user-verdict i k
-
   pub classes-are : n - nlib ≡ classCount sheet
   unfolding total
   classes-are = omega (arith, el, en)
 
   -- the row that a judging leaves
-  pub row-is : {after : List ℕ} → after ≡ flatRewritten (chosen nlib n marks) (λ i. verdictOf nlib (group library sheet) (nlib + i)) row → after
-      ≡ flatRewritten (λ i. ltb i (classCount sheet)) (userVerdict library sheet) row
-  row-is e = e ∙ ap (λ (v : ℕ → Verdict). flatRewritten (chosen nlib n marks) v row) verdicts
-      ∙ rewritten-same (userVerdict library sheet) row (chosen nlib n marks) (λ i. ltb i (classCount sheet)) every
+  pub row-is : {after : List ℕ} → after ≡ flatRewritten (chosen nlib n marks) (λ i. verdictOf nlib (group library sheet) (nlib + i)) row
+      → after ≡ flatRewritten (λ i. ltb i (classCount sheet)) (userVerdict library sheet) row
+  row-is e = changed-row library sheet n el row marks (λ i. ltb i (classCount sheet)) every e
 
   module _ (room : n - nlib ≤ flatLines row) {after : List ℕ} (e : after ≡ flatRewritten (λ i. ltb i (classCount sheet)) (userVerdict library sheet) row) where
     rule-is : (i : ℕ) → i < classCount sheet → flatAt after i .rule ≡ userVerdict library sheet i .rule

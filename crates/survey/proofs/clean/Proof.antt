@@ -11,7 +11,7 @@ use Rattle.records.specs.Records.{between}
 use Rattle.records.proofs.Carried.{class-within}
 use Rattle.groups.proofs.Held.{class-long}
 use Rattle.breaks.specs.Breaking.{markersIn}
-use Rattle.survey.specs.Survey.{headBreaks, recordBreaks}
+use Rattle.survey.specs.Survey.{headFails, recordBreaks}
 use Rattle.survey.proofs.Records.{refers-in}
 use Rattle.survey.proofs.Whole.{turned, head-faulted, records-faulted, interface-clean, base-faulted, covers-tell}
 use borrow.Author.Needs.{needs}
@@ -34,7 +34,7 @@ headed c = c .before .before .before
 long : (c : tie.After-class-bytes) → 13 ≤ length (c .class-bytes .result .now)
 long c = let s = start c in class-within (c .class-bytes .ensures) (class-long (s .pre .0 .indexed) (s .pre .1 .1))
 
-head-passed : (c : tie.Else1) → let b = held (c .before) in let a = start b .args in headBreaks (b .class-bytes .result .now) (getD (markersIn (a .facts .now)) (a .c) 0) ≡ false
+head-passed : (c : tie.Else1) → let b = held (c .before) in let a = start b .args in headFails (b .class-bytes .result .now) (getD (markersIn (a .facts .now)) (a .c) 0) ≡ false
 head-passed c = turned _ (c .before .head-fine .ensures) ∙ c .if1 .left
 
 records-passed : (c : tie.Else2) → let b = held (c .before .before .before) in let a = start b .args in let bytes = b .class-bytes .result .now in
