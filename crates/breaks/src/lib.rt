@@ -3,7 +3,7 @@
 use groups::Classes;
 use groups::class_bytes;
 use markers::ENUM;
-use markers::IMMUTABLE;
+use markers::POWERLESS;
 use markers::THROWABLE;
 use markers::TOKEN;
 use markers::clash;
@@ -171,7 +171,7 @@ pub fn reserved(m: u8) -> bool
     m / TOKEN % 2 + m / THROWABLE % 2 + m / ENUM % 2 != 0
 }
 
-// Rule 5: a static field that is not final or not of an Immutable type.
+// Rule 5: a static field that is not final or not of a Powerless type (02, C-11).
 pub fn static_breaks(bytes: &[u8], at: usize, markers: &[u8]) -> bool
     requires { ⌜ Sized (now bytes) at ⌝ }
     requires { ⌜ length (now bytes) ≤ 32768 ⌝ }
@@ -188,7 +188,7 @@ pub fn static_breaks(bytes: &[u8], at: usize, markers: &[u8]) -> bool
     if flags % 2 == 0 {
         return true;
     }
-    !has(type_markers(bytes, at + FIELD_TYPE_AT, markers), IMMUTABLE)
+    !has(type_markers(bytes, at + FIELD_TYPE_AT, markers), POWERLESS)
 }
 
 // Rule 6: an initialization flag, 5 to 7.

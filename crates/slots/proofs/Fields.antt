@@ -62,11 +62,11 @@ module _ (g : ℕ → Group) {s : List ℕ} {at : ℕ} (z : Sized s at) {k : ℕ
       pub static-changing : f % 2 ≡ 0 → true ≡ staticBreaks
       static-changing c = rw (is-static, final-is, c)
 
-      pub static-typed : (f % 2 ≡ 0 → ⊥) → {m : ℕ} → m ≡ typeMarkers g (tyAt s (at + 6)) → {b : Bool} → b ≡ eqb (m / 1 % 2) 1 → not b ≡ staticBreaks
+      pub static-typed : (f % 2 ≡ 0 → ⊥) → {m : ℕ} → m ≡ typeMarkers g (tyAt s (at + 6)) → {b : Bool} → b ≡ eqb (m / 2 % 2) 1 → not b ≡ staticBreaks
       static-typed c {m} em eb =
           let o : f % 2 ≡ 1 = omega arith in
-          let q : satisfies g staticMarker (fieldTy r) ≡ bit 0 m = ap (satisfies g staticMarker) (field-type-at z (kind-is z ek e)) ∙ satisfies-bit g 0 (tyAt s (at + 6)) (omega arith)
-          ∙ ap (bit 0) (sym em) in
+          let q : satisfies g staticMarker (fieldTy r) ≡ bit 1 m = ap (satisfies g staticMarker) (field-type-at z (kind-is z ek e)) ∙ satisfies-bit g 1 (tyAt s (at + 6)) (omega arith)
+          ∙ ap (bit 1) (sym em) in
           rw (is-static, final-is, o, q) (unfold bit in ap not eb)
 
     -- ---- rules 7 to 10

@@ -4,7 +4,8 @@ use mathlib.Core.Path.{refl}
 use Rattle.spec.specs.Evaluate.{evaluation}
 use Rattle.spec.specs.Examples.{AllHold, rowFor, answerOver, rowOver, stateOver, editOver, replaceAnswer, replaceState}
 use Rattle.spec.specs.Ideas.{ideas}
+use Rattle.spec.proofs.Also.{_also_}
 
 pub ideas-fail : AllHold ideas
 unfolding ideas rowFor answerOver rowOver stateOver editOver replaceAnswer replaceState evaluation
-ideas-fail = ((refl, refl), ((refl, refl), ((refl, refl), ((refl, refl), tt))))
+ideas-fail = (refl, refl) also (refl, refl) also (refl, refl) also (refl, refl) also tt

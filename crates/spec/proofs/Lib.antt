@@ -1,3 +1,5 @@
 pub mod Table
+pub mod Also
 pub mod Starred
 pub mod Ideas
+pub mod Changes

@@ -103,8 +103,8 @@ module _ (nlib : ℕ) (group : ℕ → Group) where
     rule3 : {r : List ℕ} → At (group c) 0 r → T (bit Token (ownMarkers r)) ⊎ (T (bit Throwable (ownMarkers r)) ⊎ T (bit Enum (ownMarkers r))) → Breaks c 3 0
     -- 4. "Overlay marks don't clash": "Powerless with Token, Selfless with Equatable"
     rule4 : (Marked group c Powerless × Marked group c Token) ⊎ (Marked group c Selfless × Marked group c Equatable) → Breaks c 4 0
-    -- 5. "Each static field is final and of an Immutable type"
-    rule5 : {k : ℕ} {r : List ℕ} → At (group c) k r → T (isKind FIELD r) → T (isStatic r) → Not (T (isFinal r) × Satisfies group Immutable (fieldTy r)) → Breaks c 5 k
+    -- 5. 02, C-11: "a static field must be final and of a Powerless type"
+    rule5 : {k : ℕ} {r : List ℕ} → At (group c) k r → T (isKind FIELD r) → T (isStatic r) → Not (T (isFinal r) × Satisfies group Powerless (fieldTy r)) → Breaks c 5 k
     -- 6. "None of the flags 5 to 7"
     rule6 : Flag 5 (group c) ⊎ (Flag 6 (group c) ⊎ Flag 7 (group c)) → Breaks c 6 0
     -- 7. "If Immutable: every field slot is final, every slot's type is Immutable, the root is class 0 or Immutable"

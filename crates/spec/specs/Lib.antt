@@ -12,3 +12,4 @@ pub mod Promises
 pub mod Evaluate
 pub mod Examples
 pub mod Ideas
+pub mod Changes

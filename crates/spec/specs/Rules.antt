@@ -27,9 +27,9 @@ pub record Verdict : Type 0 where
 abbrev pub clean : Verdict
 clean = record { rule = 0; recordNumber = 0 }
 
--- the marker that rule 5 asks of a static field's type
+-- the marker that rule 5 asks of a static field's type (02, C-11)
 abbrev pub staticMarker : ℕ
-staticMarker = Immutable
+staticMarker = Powerless
 
 unfoldable pub slotFault : Slot → Fault
 slotFault s = record { class = s .holder; recordNumber = s .recordNumber }
@@ -90,7 +90,7 @@ module _ (nlib : ℕ) (group : ℕ → Group) where
   unfoldable pub rule4 : ℕ → List Fault
   rule4 c = faultIf (clash (overlay group c)) c
 
-  -- 5. "Each static field is final and of an Immutable type"
+  -- 5. 02, C-11: "a static field must be final and of a Powerless type"
   unfoldable pub rule5 : ℕ → List Fault
   rule5 c = faultsAt group (λ r. isStaticField r && not (isFinal r && satisfies group staticMarker (fieldTy r))) c
 

@@ -98,13 +98,13 @@ module _ (nlib : ℕ) (g : ℕ → Group) (f : Falls g) (rel : Relations nlib g)
   satisfied = satisfies-is g (rel .marked)
 
   StaticBad : List ℕ → Bool
-  StaticBad r = isStaticField r && not (isFinal r && satisfies g Immutable (fieldTy r))
+  StaticBad r = isStaticField r && not (isFinal r && satisfies g Powerless (fieldTy r))
 
-  static-is : (r : List ℕ) → T (StaticBad r) ↔ ((T (isKind FIELD r) × T (isStatic r)) × Not (T (isFinal r) × Satisfies g Immutable (fieldTy r)))
+  static-is : (r : List ℕ) → T (StaticBad r) ↔ ((T (isKind FIELD r) × T (isStatic r)) × Not (T (isFinal r) × Satisfies g Powerless (fieldTy r)))
   unfolding StaticBad isStaticField
   static-is r =
-      both (isKind FIELD r && isStatic r) (not (isFinal r && satisfies g Immutable (fieldTy r))) (both (isKind FIELD r) (isStatic r) same same)
-      (not-fails (isFinal r && satisfies g Immutable (fieldTy r)) (both (isFinal r) (satisfies g Immutable (fieldTy r)) same (satisfied Immutable (fieldTy r) (lit< tt))))
+      both (isKind FIELD r && isStatic r) (not (isFinal r && satisfies g Powerless (fieldTy r))) (both (isKind FIELD r) (isStatic r) same same)
+      (not-fails (isFinal r && satisfies g Powerless (fieldTy r)) (both (isFinal r) (satisfies g Powerless (fieldTy r)) same (satisfied Powerless (fieldTy r) (lit< tt))))
 
   sound5 : (k : ℕ) → Stands c (rule5 nlib g c) k → Breaks nlib g c 5 k
   unfolding rule5 StaticBad
@@ -113,7 +113,7 @@ module _ (nlib : ℕ) (g : ℕ → Group) (f : Falls g) (rel : Relations nlib g)
       let t = static-is (b .bytes) .0 (b .is) in
       breaks5 (b .at) (t .0 .0) (t .0 .1) (t .1)
 
-  complete5 : {k : ℕ} {r : List ℕ} → At (g c) k r → T (isKind FIELD r) → T (isStatic r) → Not (T (isFinal r) × Satisfies g Immutable (fieldTy r)) → Stands c (rule5 nlib g c) k
+  complete5 : {k : ℕ} {r : List ℕ} → At (g c) k r → T (isKind FIELD r) → T (isStatic r) → Not (T (isFinal r) × Satisfies g Powerless (fieldTy r)) → Stands c (rule5 nlib g c) k
   unfolding rule5 StaticBad
   complete5 {k} {r} a t u n = stands-at g c StaticBad k .1 (record { bytes = r; at = a; is = static-is r .1 ((t, u), n) })
 

@@ -16,6 +16,7 @@ pub mod Slots
 pub mod Local
 pub mod Lowest
 pub mod Demand2
+pub mod Statics
 pub mod Faults
 pub mod New
 pub mod Refused

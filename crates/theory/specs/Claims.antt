@@ -9,10 +9,12 @@ use Prim.Native.Nat.{ℕ, _≤_, _<_}
 use lib.Dec.{T, eqb}
 use lib.ListN.{length, take}
 use Rattle.spec.specs.Lists.{concat, elem, reach}
+use Rattle.spec.specs.Record.{FIELD, isKind, isStatic, fieldTy}
 use Rattle.spec.specs.Sheet.{Group, recordsOf, wholeEnd, classCount, total, group}
+use Rattle.spec.specs.Markers.{Token}
 use Rattle.spec.specs.Classes.{hasMarker, inside, lineage, root, buildsInside, captured}
 use Rattle.spec.specs.Rules.{Verdict, clean, dependencies}
-use Rattle.spec.specs.Relations.{Superclass, Encloser, Implements, References, Depends, Marked, Lineage, Root, Inside, Chain, Captures}
+use Rattle.spec.specs.Relations.{At, Superclass, Encloser, Implements, References, Depends, Marked, Lineage, Root, Inside, Chain, Captures}
 use Rattle.spec.specs.Breaks.{Not, Flag, Breaks}
 use Rattle.spec.specs.Refusals.{Refusal, Accepted, addedSheet, replacedSheet, judgeNumbers, addNumbers, replaceNumbers, queryNumbers, judgeRefusal}
 use Rattle.spec.specs.Refusals.{addRefusal, replaceRefusal, queryRefusal, sheetRefusal, newRefusal, presentRefusal, wholeGroup}
@@ -70,6 +72,17 @@ Demand2 =
     (library user : List ℕ) (used : ℕ) → Accepted library user used
     → (c : ℕ) → classCount library ≤ c → c < total library (take used user)
     → Right (Breaks (classCount library) (group library (take used user)) c) (verdictAt library (take used user) c)
+
+-- ---- document 02, C-11: "the state reachable from static fields holds no authority, and a token is authority by identity alone"
+
+-- a clean class keeps no Token in a static field, where the field's class, if it is a user class, is clean too
+abbrev pub NoStaticToken : Type 0
+NoStaticToken =
+    (library user : List ℕ) (used : ℕ) → Accepted library user used
+    → (c : ℕ) → classCount library ≤ c → c < total library (take used user) → verdictAt library (take used user) c ≡ clean
+    → (k : ℕ) (r : List ℕ) → At (group library (take used user) c) k r → T (isKind FIELD r) → T (isStatic r) → fieldTy r .code ≡ 0
+    → (classCount library ≤ fieldTy r .class → verdictAt library (take used user) (fieldTy r .class) ≡ clean)
+    → Not (Marked (group library (take used user)) (fieldTy r .class) Token)
 
 -- ---- locality: "Two pairs of sheets, both accepted, with equally many library classes and the same groups at every number C stands on, give C the same line"
 

@@ -12,6 +12,8 @@ mod lent;
 mod report;
 mod stock;
 mod tally;
+#[cfg(test)]
+mod worked;
 
 use std::panic::{catch_unwind, AssertUnwindSafe};
 use std::process::ExitCode;

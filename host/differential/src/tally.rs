@@ -3,7 +3,8 @@
 use std::fmt;
 
 use kerdzhusi::verdicts;
-use sheets::groups;
+use sheets::build::{FINAL, IMMUTABLE, POWERLESS};
+use sheets::{groups, number, records};
 
 use crate::call::{Answer, Call, Value, OPERATIONS};
 use crate::lent::Side;
@@ -13,12 +14,16 @@ const RULES: usize = 10;
 /// A replacement with so many dependents counts as one with several.
 const SEVERAL: usize = 3;
 
+/// What C-11 of document 02 is about.
+const IMMUTABLE_CONSTANTS: &str = "rule 5 at constants of Immutable types that are not Powerless";
+
 const LEAST_CALLS: u64 = 1_000_000;
 const LEAST_ACCEPTED_IN_100: u64 = 30;
 const LEAST_OF_A_REFUSAL: u64 = 1_000;
 const LEAST_OF_A_REFUSAL_BY_OPERATION: u64 = 100;
 const LEAST_OF_A_RULE: u64 = 1_000;
 const LEAST_WITH_SEVERAL: u64 = 10_000;
+const LEAST_CONSTANTS: u64 = 1_000;
 
 pub struct Tally {
     /// By operation, then by refusal, 0 for accepted calls.
@@ -26,6 +31,8 @@ pub struct Tally {
     /// Verdicts of accepted judgings by rule: at record 0, at a later one.
     rules: [[u64; 2]; RULES + 1],
     with_several: u64,
+    /// Verdicts of rule 5 at a constant of a class that is Immutable and not Powerless.
+    immutable_constants: u64,
     /// User classes of accepted judgings by their own markers.
     own_markers: [u64; 256],
 }
@@ -36,6 +43,7 @@ impl Tally {
             answers: [[0; REFUSALS + 1]; OPERATIONS.len()],
             rules: [[0; 2]; RULES + 1],
             with_several: 0,
+            immutable_constants: 0,
             own_markers: [0; 256],
         }
     }
@@ -52,11 +60,14 @@ impl Tally {
     }
 
     fn count_verdicts(&mut self, after: &Side, classes: usize) {
-        for verdict in verdicts(after.verdicts.part()).take(classes) {
-            self.rules[verdict.rule as usize][(verdict.record > 0) as usize] += 1;
-        }
-        for group in groups(after.user_sheet()) {
+        let lines = verdicts(after.verdicts.part()).take(classes);
+        for (verdict, group) in lines.zip(groups(after.user_sheet())) {
+            let record = verdict.record as usize;
+            self.rules[verdict.rule as usize][(record > 0) as usize] += 1;
             self.own_markers[group[6] as usize] += 1;
+            if verdict.rule == 5 && is_immutable_constant(after, group, record) {
+                self.immutable_constants += 1;
+            }
         }
     }
 
@@ -68,6 +79,7 @@ impl Tally {
         add_rows(self.rules.as_flattened_mut(), other.rules.as_flattened());
         add_rows(&mut self.own_markers, &other.own_markers);
         self.with_several += other.with_several;
+        self.immutable_constants += other.immutable_constants;
     }
 
     pub fn calls(&self) -> u64 {
@@ -113,9 +125,21 @@ impl Tally {
         }
         let several = format!("replacements with {SEVERAL} or more dependents");
         require(several, self.with_several, LEAST_WITH_SEVERAL);
+        let constants = self.immutable_constants;
+        require(IMMUTABLE_CONSTANTS.into(), constants, LEAST_CONSTANTS);
         require("own marker sets".into(), self.marker_sets() as u64, 256);
         short
     }
+}
+
+/// Is this FIELD final, and its type a class that is Immutable and not Powerless?
+fn is_immutable_constant(after: &Side, group: &[u8], record: usize) -> bool {
+    let field = records(group).nth(record).unwrap_or_default();
+    let class_alone = field[6..8] == [0, 0];
+    let (library, user) = (after.library.part(), after.user.part());
+    let marks = reference::marks(library, user, after.used, number(field, 8));
+    let immutable = marks.is_ok_and(|set| set & (IMMUTABLE | POWERLESS) == IMMUTABLE);
+    number(field, 4) & FINAL as usize != 0 && class_alone && immutable
 }
 
 /// The refusals that an operation can give.
@@ -147,6 +171,7 @@ impl fmt::Display for Tally {
             f,
             "replacements with {SEVERAL} or more dependents {several}"
         )?;
+        writeln!(f, "{IMMUTABLE_CONSTANTS} {}", self.immutable_constants)?;
         writeln!(f, "own marker sets {} of 256", self.marker_sets())
     }
 }

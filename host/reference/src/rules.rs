@@ -20,8 +20,8 @@ const NO_RULE: Rules = 0;
 /// The rules for every user class, interfaces too.
 const COMMON: Rules = RULE_1 | RULE_2 | RULE_3 | RULE_4 | RULE_5 | RULE_6;
 
-/// The marker that rule 5 asks of a static field's type.
-const STATIC_MARKER: Markers = IMMUTABLE;
+/// The marker that rule 5 asks of a static field's type (document 02, C-11).
+const STATIC_MARKER: Markers = POWERLESS;
 
 /// The lowest broken rule and its lowest record; both 0 for a clean class.
 #[derive(Clone, Copy, PartialEq, Eq)]
@@ -163,8 +163,8 @@ impl<'p, 'a> Judge<'p, 'a> {
     fn broken_by_other(&self, record: Record) -> Rules {
         match record {
             Record::Field { flags, ty } => {
-                let immutable = ty.markers(&self.pair.overlay) & STATIC_MARKER != 0;
-                let sound = flags & FINAL != 0 && immutable;
+                let powerless = ty.markers(&self.pair.overlay) & STATIC_MARKER != 0;
+                let sound = flags & FINAL != 0 && powerless;
                 self.broken_by_naming_in(ty) | given(!sound, RULE_5)
             }
             Record::Refers { class, index } => {

@@ -62,6 +62,39 @@ fn single_classes() {
     assert_eq!(lines(&user), [(5, 1)]);
 }
 
+/// Document 02, C-11.
+#[test]
+fn a_static_field_is_of_a_powerless_type() {
+    let kept = |own, flags, ty| {
+        let user = [
+            class(0, own, 0, NO_CLASS, "Kept"),
+            class(0, 0, 0, NO_CLASS, "Keeper"),
+            field(FINAL | STATIC, INT, "first"),
+            field(flags, ty, "second"),
+            field(FINAL | STATIC, OBJECT, "third"),
+        ];
+        let without_third = user[..4].concat();
+        (lines(&without_third)[1], lines(&user.concat())[1])
+    };
+    let (token, immutable, powerless) = (16, 1, 2);
+    let of_kept = [0, 0, 1, 0];
+    assert_eq!(kept(token, FINAL | STATIC, of_kept), ((5, 2), (5, 2)));
+    assert_eq!(kept(immutable, FINAL | STATIC, of_kept), ((5, 2), (5, 2)));
+    assert_eq!(kept(powerless, FINAL | STATIC, of_kept), ((0, 0), (5, 3)));
+    assert_eq!(kept(powerless, STATIC, of_kept), ((5, 2), (5, 2)));
+    let array = [1, 0, 1, 0];
+    assert_eq!(kept(powerless, FINAL | STATIC, array), ((5, 2), (5, 2)));
+    let inherited = [
+        class(INTERFACE, powerless, NO_CLASS, NO_CLASS, "Marker"),
+        class(0, 0, 0, NO_CLASS, "Kept"),
+        implements(1),
+        class(INTERFACE, 0, NO_CLASS, NO_CLASS, "Keeper"),
+        field(FINAL | STATIC, [0, 0, 2, 0], "kept"),
+        field(FINAL | STATIC, OBJECT, "other"),
+    ];
+    assert_eq!(lines(&inherited.concat()), [(0, 0), (0, 0), (5, 2)]);
+}
+
 #[test]
 fn captured_through_builds() {
     let user = [

@@ -259,7 +259,7 @@ impl Mixed {
                 self.user.builds(built);
             }
             3 | 4 => {
-                let ty = self.type_with(IMMUTABLE);
+                let ty = self.type_with(POWERLESS);
                 let flags = if slip { STATIC } else { STATIC | FINAL };
                 self.user.field(flags, ty, name.as_bytes());
             }

@@ -346,7 +346,7 @@ impl Real {
         let known = &self.known[self.last];
         let markers = known.overlay & (IMMUTABLE | POWERLESS | DEEP_SELFLESS);
         if known.interface || self.random.percent(25) {
-            return (STATIC | FINAL, self.type_with(IMMUTABLE));
+            return (STATIC | FINAL, self.type_with(POWERLESS));
         }
         let mutable = markers == 0 && self.random.percent(50);
         let flags = if mutable { 0 } else { FINAL };
