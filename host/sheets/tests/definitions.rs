@@ -260,9 +260,10 @@ impl Pair {
             }),
             3 => at_zero(of.own & (16 | 32 | 64) != 0),
             4 => at_zero(overlay & 18 == 18 || overlay & 12 == 12),
+            // Document 02, C-11: of a Powerless type.
             5 => places(&|record| match *record {
                 Record::Field { flags, ty } => {
-                    flags & 4 != 0 && (flags & 1 == 0 || !self.satisfies(ty, 1))
+                    flags & 4 != 0 && (flags & 1 == 0 || !self.satisfies(ty, 2))
                 }
                 _ => false,
             }),
