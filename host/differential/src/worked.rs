@@ -72,6 +72,10 @@ impl Run {
         let (call, group) = match word {
             "judge" => (Call::Judge, ""),
             "add" => (Call::Add, rest),
+            "replace" => {
+                let (class, group) = rest.split_once(' ').expect("a class and a group");
+                (Call::Replace(number(class)), group)
+            }
             "name" => (Call::Name(number(rest)), ""),
             "marks" => (Call::Marks(number(rest)), ""),
             _ => panic!("no call: {word} {rest}"),

@@ -1,4 +1,4 @@
-//! An independent verifier of class sheets, written from document 01 over byte slices.
+//! An independent verifier of class sheets, written from documents 01 and 02 over byte slices.
 
 mod captures;
 mod class_set;
