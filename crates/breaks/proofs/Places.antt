@@ -10,11 +10,10 @@ use lib.Dec.{T, eqb, eqb→eq}
 use lib.ListN.{length, getD, List·getD-eq-default}
 use borrow.Author.Tests.{eq-eqb, ne-eqb}
 use Rattle.spec.specs.Lists.{any}
-use Rattle.spec.specs.Record.{u16, bit, kind, isKind, isClass, CLASS, REFERS, flags, ownMarkers, target, index, references, fieldTy, isFinal}
-use Rattle.spec.specs.Sheet.{Group, total, group, classCount, isStaticField}
+use Rattle.spec.specs.Record.{u16, bit, kind, isKind, isClass, CLASS, REFERS, flags, ownMarkers, target, index, references}
+use Rattle.spec.specs.Sheet.{Group, total, group, classCount}
 use Rattle.spec.specs.Markers.{clash}
-use Rattle.spec.specs.Classes.{satisfies}
-use Rattle.spec.specs.Rules.{staticMarker, memberAllowed, forbidden}
+use Rattle.spec.specs.Rules.{staticBreaks, memberAllowed, forbidden}
 use Rattle.spec.specs.Refusals.{oneClass, formRefusal}
 use Rattle.spec.specs.Relations.{At, here, next}
 use Rattle.laws.proofs.Bools.{and-l}
@@ -94,7 +93,7 @@ module _ (nlib : ℕ) (g : ℕ → Group) (rule c t k : ℕ) (r : List ℕ) wher
     unfolding breaksAt firstRules
     rule-four e w em h = rw (e, ← w .is t, ← em) h
 
-    pub rule-five : rule ≡ 5 → b ≡ (isStaticField r && not (isFinal r && satisfies g staticMarker (fieldTy r))) → b ≡ breaksAt nlib g rule c t k r
+    pub rule-five : rule ≡ 5 → b ≡ staticBreaks g r → b ≡ breaksAt nlib g rule c t k r
     unfolding breaksAt firstRules
     rule-five e h = rw e h
 

@@ -8,11 +8,11 @@ use Prim.Native.Nat.{ℕ, _+_, _/_, _%_, _≤_, _<_}
 use lib.Dec.{T, eqb, ltb}
 use lib.ListN.{length, getD, take, drop}
 use Rattle.spec.specs.Lists.{any}
-use Rattle.spec.specs.Record.{bit, isKind, MEMBER, REFERS, flags, ownMarkers, target, index, fieldTy, isFinal, references}
-use Rattle.spec.specs.Sheet.{Group, group, classRecord, ofKind, isStaticField, isInterface}
+use Rattle.spec.specs.Record.{bit, isKind, MEMBER, REFERS, flags, ownMarkers, target, index, references}
+use Rattle.spec.specs.Sheet.{Group, group, classRecord, ofKind, isInterface}
 use Rattle.spec.specs.Markers.{Token, Throwable, Enum, clash}
-use Rattle.spec.specs.Classes.{overlay, satisfies, lineage, root}
-use Rattle.spec.specs.Rules.{staticMarker, memberAllowed, forbidden}
+use Rattle.spec.specs.Classes.{overlay, lineage, root}
+use Rattle.spec.specs.Rules.{staticBreaks, memberAllowed, forbidden}
 use Rattle.spec.specs.Refusals.{formRefusal}
 use Rattle.spec.specs.Relations.{At}
 use Rattle.records.specs.Records.{Sized, recordAt, Carries}
@@ -112,7 +112,7 @@ module _ (nlib : ℕ) (g : ℕ → Group) where
       ∷ (isKind REFERS r && not (memberAllowed g (target r) (index r)))
       ∷ (bit Token (ownMarkers r) || bit Throwable (ownMarkers r) || bit Enum (ownMarkers r))
       ∷ clash (overlay g t)
-      ∷ (isStaticField r && not (isFinal r && satisfies g staticMarker (fieldTy r)))
+      ∷ staticBreaks g r
       ∷ (bit 5 (flags r) || bit 6 (flags r) || bit 7 (flags r))
       ∷ []
 

@@ -34,11 +34,10 @@ ghost use mathlib.Core.Path.{_≡_};
 ghost use mathlib.Core.Bool.{not, _&&_, _||_};
 ghost use Prim.Native.Nat.{ℕ, _≤_, _<_};
 ghost use lib.ListN.{length, replicate};
-ghost use Rattle.spec.specs.Record.{u16, bit, isKind, REFERS, target, index, fieldTy, isFinal};
-ghost use Rattle.spec.specs.Sheet.{Group, group as groupOf, isStaticField};
+ghost use Rattle.spec.specs.Record.{u16, bit, isKind, REFERS, target, index};
+ghost use Rattle.spec.specs.Sheet.{Group, group as groupOf};
 ghost use Rattle.spec.specs.Markers.{Token, Throwable, Enum};
-ghost use Rattle.spec.specs.Classes.{satisfies};
-ghost use Rattle.spec.specs.Rules.{memberAllowed, staticMarker};
+ghost use Rattle.spec.specs.Rules.{memberAllowed, staticBreaks};
 ghost use Rattle.groups.specs.Groups.{Indexed};
 ghost use Rattle.overlay.specs.Types.{Known};
 ghost use Rattle.records.specs.Records.{Sized, recordAt, between, AtRecord};
@@ -175,8 +174,7 @@ pub fn reserved(m: u8) -> bool
 pub fn static_breaks(bytes: &[u8], at: usize, markers: &[u8]) -> bool
     requires { ⌜ Sized (now bytes) at ⌝ }
     requires { ⌜ length (now bytes) ≤ 32768 ⌝ }
-    ensures { λ r. ⌜ ((g : ℕ → Group) → Known g (now (markers .entry)) → r ≡ (isStaticField (recordAt (now (bytes .entry)) at)
-        && not (isFinal (recordAt (now (bytes .entry)) at) && satisfies g staticMarker (fieldTy (recordAt (now (bytes .entry)) at))))) ⌝ }
+    ensures { λ r. ⌜ ((g : ℕ → Group) → Known g (now (markers .entry)) → r ≡ staticBreaks g (recordAt (now (bytes .entry)) at)) ⌝ }
 {
     if word_in(bytes, at + KIND_AT) != FIELD {
         return false;

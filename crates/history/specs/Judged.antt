@@ -1,8 +1,8 @@
--- What an accepted judging leaves in a row of verdicts: demand 2 and locality, said of the row.
+-- What an accepted judging leaves in a row of verdicts: demand 2, locality and C-11's reason, said of the row.
 -- Assumes nothing.
 use mathlib.Core.Path.{_≡_}
 use mathlib.Core.List.{List}
-use Prim.Native.Nat.{ℕ, _+_, _<_}
+use Prim.Native.Nat.{ℕ, _+_, _-_, _<_}
 use lib.ListN.{take}
 use Rattle.spec.specs.Record.{Bytes}
 use Rattle.spec.specs.Sheet.{classCount, group}
@@ -11,7 +11,7 @@ use Rattle.spec.specs.Relations.{Depends}
 use Rattle.spec.specs.Breaks.{Breaks}
 use Rattle.spec.specs.Verdicts.{VerdictRow}
 use Rattle.spec.specs.Promises.{accepted, Counts, Judges}
-use Rattle.theory.specs.Claims.{Right}
+use Rattle.theory.specs.Claims.{Right, NoTokenKept}
 
 -- a verdict is right about what the i-th user class of two sheets breaks
 abbrev pub RightAt : List ℕ → List ℕ → ℕ → Verdict → Type 0
@@ -31,6 +31,12 @@ module _ (row : VerdictRow) where
   RowRight =
       (library user : List ℕ) (used : ℕ) (after : row .Row) → Accepts library user used after → Bytes library → Bytes user
       → (i : ℕ) → i < classCount (take used user) → RightAt library (take used user) i (row .at after i)
+
+  -- document 02, C-11: a class whose verdict is clean keeps no Token in a static field, where the field's class is from the library or its verdict clean too
+  abbrev pub RowNoToken : Type 0
+  RowNoToken =
+      (library user : List ℕ) (used : ℕ) (after : row .Row) → Accepts library user used after → Bytes library → Bytes user
+      → NoTokenKept library (take used user) (λ c. row .at after (c - classCount library))
 
   -- two judgings, with equally many library classes and the same groups wherever the class depends on them, leave it the same verdict
   abbrev pub RowLocal : Type 0

@@ -109,6 +109,10 @@ module _ {A : Type 0} where
 
   -- ---- numbered elements
 
+  pub at-in : {xs : List A} {k : ℕ} {x : A} → At xs k x → List·Memᴰ x xs
+  at-in here = List·Memᴰ·head refl
+  at-in (next a) = List·Memᴰ·tail (at-in a)
+
   pub record Placed (i : ℕ) (xs : List A) (n : ℕ × A) : Type 0 where
     pub number : ℕ
     pub is : n .0 ≡ i + number

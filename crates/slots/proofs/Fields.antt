@@ -9,8 +9,9 @@ use lib.Dec.{eqb}
 use borrow.Author.Tests.{eq-eqb, ne-eqb}
 use Rattle.spec.specs.Record.{u16, bit, kind, isKind, FIELD, flags, tyAt, fieldTy, isFinal, isTransient, isStatic}
 use Rattle.spec.specs.Sheet.{Group, isStaticField, isInstanceField}
+use Rattle.spec.specs.Markers.{Powerless}
 use Rattle.spec.specs.Classes.{fieldSlot, satisfies}
-use Rattle.spec.specs.Rules.{staticMarker}
+use Rattle.spec.specs.Rules.{staticBreaks}
 use Rattle.overlay.specs.Types.{typeMarkers}
 use Rattle.overlay.proofs.Types.{satisfies-bit}
 use Rattle.records.specs.Records.{Sized, recordAt}
@@ -26,10 +27,7 @@ module _ (g : ℕ → Group) {s : List ℕ} {at : ℕ} (z : Sized s at) {k : ℕ
   abbrev r : List ℕ
   r = recordAt s at
 
-  abbrev staticBreaks : Bool
-  staticBreaks = isStaticField r && not (isFinal r && satisfies g staticMarker (fieldTy r))
-
-  pub static-other : (k ≡ FIELD → ⊥) → false ≡ staticBreaks
+  pub static-other : (k ≡ FIELD → ⊥) → false ≡ staticBreaks g r
   unfolding isStaticField
   static-other n = rw (kind-not z ek FIELD n)
 
@@ -46,7 +44,7 @@ module _ (g : ℕ → Group) {s : List ℕ} {at : ℕ} (z : Sized s at) {k : ℕ
 
     -- ---- rule 5
 
-    pub static-instance : f / 4 % 2 ≡ 0 → false ≡ staticBreaks
+    pub static-instance : f / 4 % 2 ≡ 0 → false ≡ staticBreaks g r
     unfolding isStaticField isStatic bit
     static-instance h = rw (is-field, flags-is, h)
 
@@ -59,13 +57,13 @@ module _ (g : ℕ → Group) {s : List ℕ} {at : ℕ} (z : Sized s at) {k : ℕ
       unfolding isFinal
       final-is = ap (bit 0) flags-is ∙ bit-zero f
 
-      pub static-changing : f % 2 ≡ 0 → true ≡ staticBreaks
+      pub static-changing : f % 2 ≡ 0 → true ≡ staticBreaks g r
       static-changing c = rw (is-static, final-is, c)
 
-      pub static-typed : (f % 2 ≡ 0 → ⊥) → {m : ℕ} → m ≡ typeMarkers g (tyAt s (at + 6)) → {b : Bool} → b ≡ eqb (m / 2 % 2) 1 → not b ≡ staticBreaks
+      pub static-typed : (f % 2 ≡ 0 → ⊥) → {m : ℕ} → m ≡ typeMarkers g (tyAt s (at + 6)) → {b : Bool} → b ≡ eqb (m / 2 % 2) 1 → not b ≡ staticBreaks g r
       static-typed c {m} em eb =
           let o : f % 2 ≡ 1 = omega arith in
-          let q : satisfies g staticMarker (fieldTy r) ≡ bit 1 m = ap (satisfies g staticMarker) (field-type-at z (kind-is z ek e)) ∙ satisfies-bit g 1 (tyAt s (at + 6)) (omega arith)
+          let q : satisfies g Powerless (fieldTy r) ≡ bit 1 m = ap (satisfies g Powerless) (field-type-at z (kind-is z ek e)) ∙ satisfies-bit g 1 (tyAt s (at + 6)) (omega arith)
           ∙ ap (bit 1) (sym em) in
           rw (is-static, final-is, o, q) (unfold bit in ap not eb)
 

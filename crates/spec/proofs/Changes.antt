@@ -8,4 +8,4 @@ use Rattle.spec.proofs.Also.{_also_}
 
 pub changes-hold : AllHold changes
 unfolding changes rowFor answerOver rowOver evaluation
-changes-hold = (refl, refl) also (refl, refl) also (refl, refl) also (refl, refl) also (refl, refl) also (refl, refl) also (refl, refl) also (refl, refl) also (refl, refl) also tt
+changes-hold = (refl, refl) also (refl, refl) also (refl, refl) also (refl, refl) also (refl, refl) also (refl, refl) also (refl, refl) also (refl, refl) also (refl, refl) also (refl, refl) also tt

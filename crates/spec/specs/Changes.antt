@@ -19,6 +19,8 @@ changes =
     ∷ judges (static 1 (x 5 0 0 1)) 2 1 (0 ∷ 0 ∷ 5 ∷ 1 ∷ [])
     ∷ judges (static 2 (x 5 0 0 1)) 2 0 (0 ∷ 0 ∷ 0 ∷ 0 ∷ [])
     ∷ judges (static 2 (class 0 1 none² 0x43 ++ x 5 0 0 3)) 3 0 (0 ∷ 0 ∷ 0 ∷ 0 ∷ 0 ∷ 0 ∷ [])
+    -- a class that calls itself Powerless and a Token passes too: that is told in its own line
+    ∷ judges (static 18 (x 5 0 0 1)) 2 1 (3 ∷ 0 ∷ 0 ∷ 0 ∷ [])
     -- "Primitives still pass, arrays still fail"; one that is not final
     ∷ judges (static 1 (x 5 0 4 0)) 2 0 (0 ∷ 0 ∷ 0 ∷ 0 ∷ [])
     ∷ judges (static 2 (x 5 1 0 1)) 2 1 (0 ∷ 0 ∷ 5 ∷ 1 ∷ [])

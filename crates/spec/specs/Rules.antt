@@ -27,10 +27,6 @@ pub record Verdict : Type 0 where
 abbrev pub clean : Verdict
 clean = record { rule = 0; recordNumber = 0 }
 
--- the marker that rule 5 asks of a static field's type (02, C-11)
-abbrev pub staticMarker : ℕ
-staticMarker = Powerless
-
 unfoldable pub slotFault : Slot → Fault
 slotFault s = record { class = s .holder; recordNumber = s .recordNumber }
 
@@ -46,6 +42,10 @@ module _ (group : ℕ → Group) where
   -- a member "that isn't allowed"
   unfoldable pub memberAllowed : ℕ → ℕ → Bool
   memberAllowed d i = bit 0 (flags (getD (ofKind MEMBER (group d)) i []))
+
+  -- a record against rule 5
+  abbrev pub staticBreaks : List ℕ → Bool
+  staticBreaks r = isStaticField r && not (isFinal r && satisfies group Powerless (fieldTy r))
 
   -- "Interfaces are judged by 1 to 6 only"; rules 7 to 10 each ask a class that has their marker
   unfoldable pub judgedFor : ℕ → ℕ → Bool
@@ -92,7 +92,7 @@ module _ (nlib : ℕ) (group : ℕ → Group) where
 
   -- 5. 02, C-11: "a static field must be final and of a Powerless type"
   unfoldable pub rule5 : ℕ → List Fault
-  rule5 c = faultsAt group (λ r. isStaticField r && not (isFinal r && satisfies group staticMarker (fieldTy r))) c
+  rule5 c = faultsAt group (staticBreaks group) c
 
   -- 6. "None of the flags 5 to 7"
   unfoldable pub rule6 : ℕ → List Fault

@@ -8,11 +8,10 @@ use Prim.Native.Nat.{ℕ, _+_, _<_}
 use native.Mathlib.Omega.{arith}
 use lib.ListN.{length, getD}
 use Rattle.spec.specs.Lists.{any}
-use Rattle.spec.specs.Record.{u8, u16, bit, isKind, REFERS, flags, ownMarkers, target, index, fieldTy, isFinal, references}
-use Rattle.spec.specs.Sheet.{Group, group, total, classCount, isStaticField}
+use Rattle.spec.specs.Record.{u8, u16, bit, isKind, REFERS, flags, ownMarkers, target, index, references}
+use Rattle.spec.specs.Sheet.{Group, group, total, classCount}
 use Rattle.spec.specs.Markers.{clash}
-use Rattle.spec.specs.Classes.{satisfies}
-use Rattle.spec.specs.Rules.{staticMarker, memberAllowed, forbidden}
+use Rattle.spec.specs.Rules.{staticBreaks, memberAllowed, forbidden}
 use Rattle.spec.specs.Refusals.{formRefusal}
 use Rattle.laws.proofs.All.{All, weaken}
 use Rattle.theory.proofs.Accept.{RecordFits, form-fits}
@@ -35,7 +34,7 @@ head-by bytes m ea eb {f} ef ed = rw (ea, eb, ed, ef)
 
 -- a record breaks one of the three rules if one of three tests is met
 module _ (nlib : ℕ) (g : ℕ → Group) (r : List ℕ) {a b d : Bool} (ea : a ≡ any (forbidden nlib g) (references r)) (eb : b ≡ (isKind REFERS r && not (memberAllowed g (target r) (index r))))
-    (ed : d ≡ (isStaticField r && not (isFinal r && satisfies g staticMarker (fieldTy r)))) where
+    (ed : d ≡ staticBreaks g r) where
   pub record-by : recordBreaks nlib g r ≡ (a || (b || d))
   unfolding recordBreaks
   record-by = rw (ea, eb, ed)

@@ -9,11 +9,11 @@ use native.Mathlib.Omega.{arith}
 use lib.Dec.{eqb, eqb→eq}
 use borrow.Author.Tests.{ne-eqb}
 use Rattle.spec.specs.Lists.{any, keep, gather, numbered, onlyIf, lowest}
-use Rattle.spec.specs.Record.{bit, isKind, REFERS, flags, target, index, fieldTy, isFinal, references}
-use Rattle.spec.specs.Sheet.{Group, classRecord, isStaticField, isInstanceField, isInterface}
+use Rattle.spec.specs.Record.{bit, isKind, REFERS, flags, target, index, references}
+use Rattle.spec.specs.Sheet.{Group, classRecord, isInstanceField, isInterface}
 use Rattle.spec.specs.Markers.{Immutable, Powerless, Selfless, DeepSelfless}
-use Rattle.spec.specs.Classes.{Slot, fieldSlot, encloserSlots, fieldSlots, capturedSlots, ownSlots, superclasses, overlay, hasMarker, satisfies, lineage, root, slots}
-use Rattle.spec.specs.Rules.{Fault, Verdict, clean, staticMarker, slotFault, faultIf, faultsAt, memberAllowed, judgedFor, rootFits, baseFits, baseFaults, forbidden, slotFaults, rootFaults, rule1}
+use Rattle.spec.specs.Classes.{Slot, fieldSlot, encloserSlots, fieldSlots, capturedSlots, ownSlots, superclasses, overlay, hasMarker, lineage, root, slots}
+use Rattle.spec.specs.Rules.{Fault, Verdict, clean, staticBreaks, slotFault, faultIf, faultsAt, memberAllowed, judgedFor, rootFits, baseFits, baseFaults, forbidden, slotFaults, rootFaults, rule1}
 use Rattle.spec.specs.Rules.{rule2, rule3, rule4, rule5, rule6, rule7, rule8, rule9, rule10, rules, placeIn, firstBroken, verdictOf}
 use Rattle.laws.proofs.Bools.{true-t, and-l, and-r}
 use Rattle.theory.proofs.Somewhere.{any-append, any-map, any-gather, any-keep, any-numbered, any-same, any-either, any-never, some, some-append, some-map, some-only, some-keep, some-gather}
@@ -132,17 +132,14 @@ module _ (nlib : ℕ) (g : ℕ → Group) (c : ℕ) where
   records-are : any (recordBreaks nlib g) (g c) ≡ (some (rule1 nlib g c) || (some (rule2 nlib g c) || some (rule5 nlib g c)))
   unfolding recordBreaks rule1 rule2 rule5
   records-are =
-      any-either one (λ r. two r || five r) (g c)
-      ∙ ap₂ (λ (a b : Bool). a || b) (sym (some-at g c one)) (any-either two five (g c) ∙ ap₂ (λ (a b : Bool). a || b) (sym (some-at g c two)) (sym (some-at g c five)))
+      any-either one (λ r. two r || staticBreaks g r) (g c)
+      ∙ ap₂ (λ (a b : Bool). a || b) (sym (some-at g c one)) (any-either two (staticBreaks g) (g c) ∙ ap₂ (λ (a b : Bool). a || b) (sym (some-at g c two)) (sym (some-at g c (staticBreaks g))))
     where
       one : List ℕ → Bool
       one r = any (forbidden nlib g) (references r)
 
       two : List ℕ → Bool
       two r = isKind REFERS r && not (memberAllowed g (target r) (index r))
-
-      five : List ℕ → Bool
-      five r = isStaticField r && not (isFinal r && satisfies g staticMarker (fieldTy r))
 
   head-is : headFails (classRecord (g c)) (overlay g c) ≡ (some (rule3 nlib g c) || (some (rule4 nlib g c) || some (rule6 nlib g c)))
   unfolding headFails rule3 rule4 rule6

@@ -8,11 +8,11 @@ use Prim.Native.Nat.{ℕ, _+_, _≤_, _<_}
 use lib.Dec.{eqb}
 use lib.ListN.{length, getD, take, drop}
 use Rattle.spec.specs.Lists.{any}
-use Rattle.spec.specs.Record.{bit, isKind, REFERS, flags, ownMarkers, target, index, fieldTy, isFinal, references}
-use Rattle.spec.specs.Sheet.{Group, group, classRecord, isStaticField, isInterface}
+use Rattle.spec.specs.Record.{bit, isKind, REFERS, flags, ownMarkers, target, index, references}
+use Rattle.spec.specs.Sheet.{Group, group, classRecord, isInterface}
 use Rattle.spec.specs.Markers.{Selfless, Token, Throwable, Enum, clash}
-use Rattle.spec.specs.Classes.{satisfies, overlay}
-use Rattle.spec.specs.Rules.{Verdict, staticMarker, memberAllowed, forbidden}
+use Rattle.spec.specs.Classes.{overlay}
+use Rattle.spec.specs.Rules.{Verdict, staticBreaks, memberAllowed, forbidden}
 use Rattle.spec.specs.Refusals.{formRefusal}
 use Rattle.groups.specs.declared.Classes.{Classes}
 use Rattle.groups.specs.Groups.{Indexed}
@@ -40,7 +40,7 @@ module _ (nlib : ℕ) (g : ℕ → Group) where
   unfoldable pub recordBreaks : List ℕ → Bool
   recordBreaks r =
       any (forbidden nlib g) (references r)
-      || ((isKind REFERS r && not (memberAllowed g (target r) (index r))) || (isStaticField r && not (isFinal r && satisfies g staticMarker (fieldTy r))))
+      || ((isKind REFERS r && not (memberAllowed g (target r) (index r))) || staticBreaks g r)
 
   unfoldable pub lateBreaks : ℕ → Bool
   lateBreaks c = (bit Selfless (overlay g c) && baseBreaks g c) || anyLate (overlay g c) (λ rule. lineBreaks nlib g rule c)

@@ -1,23 +1,25 @@
 -- What holds of two sheets that are not refused.
 -- Assumes nothing.
 use mathlib.Core.Path.{_≡_, refl, sym, ap, _∙_, subst}
-use mathlib.Core.Bool.{Bool, true, false, not, _&&_}
+use mathlib.Core.Bool.{Bool, true, false, not, _&&_, _||_}
 use mathlib.Core.List.{List, [], _∷_, _++_}
 use mathlib.Core.Option.{none, some}
 use Prim.Native.Nat.{ℕ, zero, suc, _+_, _-_, _≤_, _<_, zero-le}
 use native.Mathlib.Nat.{zero-add, add-zero, suc-add, add-suc}
 use native.Mathlib.Omega.{arith}
-use lib.Dec.{T, eqb, leb, ltb, eqb→eq, nleb→lt}
+use lib.Dec.{T, eqb, leb, ltb, eqb→eq, nleb→lt, lt→ltb}
 use lib.ListN.{length, getD}
 use Rattle.spec.specs.Lists.{any}
 use Rattle.spec.specs.Record.{kind, isKind, isClass, bit, flags, index, target, references, kindFits, lengthFits, bodyFits, IMPLEMENTS, LOCAL, USES, MEMBER, REFERS}
 use Rattle.spec.specs.Sheet.{Group, Located, locate, locatedIn, located, Split, splitGroups, recordsOf, wholeEnd, groupsOf, classCount, total, group, ofKind, isInterface, isInstanceField}
-use Rattle.spec.specs.Refusals.{refuseRecord, recordTests, recordRefusal, tornRefusal, noClassRefusal, noSuchClass, noSuchIndex, superclassFits}
-use Rattle.spec.specs.Refusals.{encloserFits, implementsFits, usesFits, nameMet, formTests, formRefusal, sheetRefusal}
-use Rattle.laws.proofs.Bools.{not-or-l, not-or-r, un-not, imply, not-and-r}
+use Rattle.spec.specs.Markers.{clash}
+use Rattle.spec.specs.Classes.{overlay}
+use Rattle.spec.specs.Refusals.{recordTests, recordRefusal, tornRefusal, noClassRefusal, noSuchClass, noSuchIndex, superclassFits}
+use Rattle.spec.specs.Refusals.{encloserFits, implementsFits, usesFits, nameMet, formTests, deemedTests, formRefusal, deemedRefusal, sheetRefusal}
+use Rattle.laws.proofs.Bools.{t-and, not-or-l, not-or-r, un-not, imply, not-and-r}
 use Rattle.laws.proofs.All.{All, all-left, all-right, weaken}
 use Rattle.theory.proofs.Cut.{split-class, split-other}
-use Rattle.theory.proofs.Answers.{first-none, of-map, if-none, Fails, record-none}
+use Rattle.theory.proofs.Answers.{first-none, if-none, Fails, passing}
 
 -- ---- located records
 
@@ -168,9 +170,7 @@ pub record Clear (sheet n : ℕ) (s : List ℕ) : Type 0 where
 pub clear : (sheet n : ℕ) (s : List ℕ) → recordRefusal sheet n s ≡ none → tornRefusal sheet s ≡ none → Clear sheet n s
 unfolding recordRefusal tornRefusal locatedIn classCount groupsOf
 clear sheet n s e e′ =
-    let p : All Passed (locatedIn sheet n s) =
-    weaken (λ l. refuseRecord l (recordTests l) ≡ none) Passed (λ l k. passed l (record-none l (recordTests l) k)) (locatedIn sheet n s)
-    (of-map (λ o. o ≡ none) (λ l. refuseRecord l (recordTests l)) (locatedIn sheet n s) (first-none _ e)) in
+    let p : All Passed (locatedIn sheet n s) = passing recordTests Passed passed (locatedIn sheet n s) e in
     record {
       end = eqb→eq (wholeEnd s) (length s) (un-not (eqb (wholeEnd s) (length s)) (if-none (not (eqb (wholeEnd s) (length s))) 2 sheet (wholeEnd s) e′));
       passed = p;
@@ -182,11 +182,29 @@ clear sheet n s e e′ =
 pub form-fits : (lib user : List ℕ) → formRefusal lib user ≡ none → (c : ℕ) → All (RecordFits (classCount lib) (total lib user) (group lib user) c) (group lib user c)
 unfolding formRefusal
 form-fits lib user e =
-    let tests : Located → List (ℕ × Bool) = formTests (group lib user) (classCount lib) (total lib user) in
     by-class (RecordFits (classCount lib) (total lib user) (group lib user)) lib user
-    (weaken (λ l. refuseRecord l (tests l) ≡ none) (λ l. RecordFits (classCount lib) (total lib user) (group lib user) (l .class) (l .bytes))
-    (λ l k. fits (classCount lib) (total lib user) (group lib user) l (record-none l (tests l) k)) (located lib user)
-    (of-map (λ o. o ≡ none) (λ l. refuseRecord l (tests l)) (located lib user) (first-none _ e)))
+    (passing (formTests (group lib user) (classCount lib) (total lib user)) (λ l. RecordFits (classCount lib) (total lib user) (group lib user) (l .class) (l .bytes))
+    (fits (classCount lib) (total lib user) (group lib user)) (located lib user) e)
+
+-- the overlay markers of a library class do not clash, as record r of class c has it
+abbrev pub Deemed : ℕ → (ℕ → Group) → ℕ → List ℕ → Type 0
+Deemed nlib g c r = T (isClass r) → c < nlib → T (not (clash (overlay g c)))
+
+deemed : (nlib : ℕ) (g : ℕ → Group) (l : Located) → All Fails (deemedTests g nlib l) → Deemed nlib g (l .class) (l .bytes)
+unfolding deemedTests
+deemed nlib g l f t h =
+    let c : ℕ = l .class in
+    let m : ℕ = overlay g c in
+    let odd : Bool = eqb c 0 && not (eqb m 0) in
+    not-or-l (clash m) odd (not-and-r (isClass (l .bytes) && ltb c nlib) (clash m || odd) (f .0) (t-and (isClass (l .bytes)) (ltb c nlib) t (lt→ltb c nlib h)))
+
+-- what 11 gives
+pub deemed-fits : (lib user : List ℕ) → deemedRefusal lib user ≡ none → (c : ℕ) → All (Deemed (classCount lib) (group lib user) c) (group lib user c)
+unfolding deemedRefusal
+deemed-fits lib user e =
+    by-class (Deemed (classCount lib) (group lib user)) lib user
+    (passing (deemedTests (group lib user) (classCount lib)) (λ l. Deemed (classCount lib) (group lib user) (l .class) (l .bytes))
+    (deemed (classCount lib) (group lib user)) (located lib user) e)
 
 -- what acceptance gives
 pub record Sound (lib user : List ℕ) : Type 0 where

@@ -10,7 +10,7 @@ use lib.Dec.{T}
 use Rattle.spec.specs.Lists.{firstOf}
 use Rattle.spec.specs.Sheet.{Located}
 use Rattle.spec.specs.Refusals.{refuseIf, refusePlain, refuseRecord}
-use Rattle.laws.proofs.All.{All}
+use Rattle.laws.proofs.All.{All, weaken}
 
 module _ {A : Type 0} where
   pub some≢none : (a : A) → Path (Option A) (some a) none → ⊥
@@ -111,3 +111,9 @@ unfolding refuseRecord
 record-none l ts e =
     fails-all l ts (of-map (λ o. o ≡ none) (λ t. refuseIf (t .1) (t .0) (l .sheet) (l .byte)) ts
     (first-none (map (λ t. refuseIf (t .1) (t .0) (l .sheet) (l .byte)) ts) e))
+
+-- where no record of a list is refused, each meets none of its tests
+pub passing : (tests : Located → List (ℕ × Bool)) (P : Located → Type 0) → ((l : Located) → All Fails (tests l) → P l)
+    → (ls : List Located) → firstOf (map (λ l. refuseRecord l (tests l)) ls) ≡ none → All P ls
+passing tests P f ls e =
+    weaken (λ l. refuseRecord l (tests l) ≡ none) P (λ l k. f l (record-none l (tests l) k)) ls (of-map (λ o. o ≡ none) (λ l. refuseRecord l (tests l)) ls (first-none _ e))

@@ -12,7 +12,7 @@ use Rattle.spec.specs.Record.{bit, isKind, FIELD, REFERS, flags, ownMarkers, ta
 use Rattle.spec.specs.Sheet.{Group, classCount, group, classRecord, isInterface, isAllowed, isStaticField}
 use Rattle.spec.specs.Markers.{Immutable, Powerless, Selfless, Equatable, Token, Throwable, Enum, DeepSelfless, clash}
 use Rattle.spec.specs.Classes.{Slot, superclasses, overlay, hasMarker, satisfies, root}
-use Rattle.spec.specs.Rules.{Fault, faultIf, memberAllowed, judgedFor, rootFits, baseFits, baseFaults, forbidden, slotFaults, rootFaults, rule1}
+use Rattle.spec.specs.Rules.{Fault, faultIf, staticBreaks, memberAllowed, judgedFor, rootFits, baseFits, baseFaults, forbidden, slotFaults, rootFaults, rule1}
 use Rattle.spec.specs.Rules.{rule2, rule3, rule4, rule5, rule6, rule7, rule8, rule9, rule10, rules, placeIn, verdictOf}
 use Rattle.spec.specs.Relations.{At, Marked}
 use Rattle.spec.specs.Breaks.{Not, Flag, Allowed, Satisfies, SlotShape, field, fixed, typeOf, Final, Transient, HasSlot, Lacks, slot, root as root-lacks, Varies, Drops}
@@ -97,25 +97,22 @@ module _ (nlib : ℕ) (g : ℕ → Group) (f : Falls g) (rel : Relations nlib g)
   satisfied : (k : ℕ) (t : Ty) → k < 8 → T (satisfies g k t) ↔ Satisfies g k t
   satisfied = satisfies-is g (rel .marked)
 
-  StaticBad : List ℕ → Bool
-  StaticBad r = isStaticField r && not (isFinal r && satisfies g Powerless (fieldTy r))
-
-  static-is : (r : List ℕ) → T (StaticBad r) ↔ ((T (isKind FIELD r) × T (isStatic r)) × Not (T (isFinal r) × Satisfies g Powerless (fieldTy r)))
-  unfolding StaticBad isStaticField
+  static-is : (r : List ℕ) → T (staticBreaks g r) ↔ ((T (isKind FIELD r) × T (isStatic r)) × Not (T (isFinal r) × Satisfies g Powerless (fieldTy r)))
+  unfolding isStaticField
   static-is r =
       both (isKind FIELD r && isStatic r) (not (isFinal r && satisfies g Powerless (fieldTy r))) (both (isKind FIELD r) (isStatic r) same same)
       (not-fails (isFinal r && satisfies g Powerless (fieldTy r)) (both (isFinal r) (satisfies g Powerless (fieldTy r)) same (satisfied Powerless (fieldTy r) (lit< tt))))
 
   sound5 : (k : ℕ) → Stands c (rule5 nlib g c) k → Breaks nlib g c 5 k
-  unfolding rule5 StaticBad
+  unfolding rule5
   sound5 k h =
-      let b = stands-at g c StaticBad k .0 h in
+      let b = stands-at g c (staticBreaks g) k .0 h in
       let t = static-is (b .bytes) .0 (b .is) in
       breaks5 (b .at) (t .0 .0) (t .0 .1) (t .1)
 
   complete5 : {k : ℕ} {r : List ℕ} → At (g c) k r → T (isKind FIELD r) → T (isStatic r) → Not (T (isFinal r) × Satisfies g Powerless (fieldTy r)) → Stands c (rule5 nlib g c) k
-  unfolding rule5 StaticBad
-  complete5 {k} {r} a t u n = stands-at g c StaticBad k .1 (record { bytes = r; at = a; is = static-is r .1 ((t, u), n) })
+  unfolding rule5
+  complete5 {k} {r} a t u n = stands-at g c (staticBreaks g) k .1 (record { bytes = r; at = a; is = static-is r .1 ((t, u), n) })
 
   -- ---- rules 3, 4 and 6: the class as a whole, at record 0
 

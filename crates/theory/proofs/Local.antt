@@ -14,7 +14,7 @@ use Rattle.spec.specs.Markers.{Immutable, Powerless, Selfless, DeepSelfless, cl
 use Rattle.spec.specs.Classes.{superclasses, enclosing, targets, supertypes, locals, localAt, usedIndexes, classTy, Slot, fieldSlot, encloserSlot}
 use Rattle.spec.specs.Classes.{variableSlot, gathered, overlay, hasMarker, satisfies, enclosersIn, enclosers, inside, lineageIn, lineage, rootIn, root}
 use Rattle.spec.specs.Classes.{buildsInside, capturedOf, captured, encloserSlots, fieldSlots, capturedSlots, ownSlots, slots}
-use Rattle.spec.specs.Rules.{Fault, staticMarker, slotFault, faultsAt, faultIf, forbidden, rule1, memberAllowed, rule2, rule3, rule4, rule5, rule6, judgedFor}
+use Rattle.spec.specs.Rules.{Fault, staticBreaks, slotFault, faultsAt, faultIf, forbidden, rule1, memberAllowed, rule2, rule3, rule4, rule5, rule6, judgedFor}
 use Rattle.spec.specs.Rules.{slotFaults, rootFits, rootFaults, rule7, rule8, baseFits, baseFaults, rule9, rule10, rules, verdictOf}
 use Rattle.spec.specs.Relations.{Depends, self, onward}
 use Rattle.spec.specs.Verdicts.{verdictAt}
@@ -277,9 +277,9 @@ module _ (nlib : ℕ) (g g′ : ℕ → Group) (P : ℕ → Type 0) (closed : (d
   rule5-same : (c : ℕ) → P c → rule5 nlib g c ≡ rule5 nlib g′ c
   unfolding rule5 isStaticField
   rule5-same c p =
-      faults-same (λ r. isStaticField r && not (isFinal r && satisfies g staticMarker (fieldTy r))) (λ r. isStaticField r && not (isFinal r && satisfies g′ staticMarker (fieldTy r)))
+      faults-same (staticBreaks g) (staticBreaks g′)
       (λ r q. and-cong (isStaticField r) (λ t. ap (λ (b : Bool). not (isFinal r && b))
-      (type-same staticMarker (fieldTy r) (field-in r q (and-l (isKind FIELD r) (isStatic r) t))))) c p
+      (type-same Powerless (fieldTy r) (field-in r q (and-l (isKind FIELD r) (isStatic r) t))))) c p
 
   -- ---- rules 7 to 10
 

@@ -75,14 +75,16 @@ Demand2 =
 
 -- ---- document 02, C-11: "the state reachable from static fields holds no authority, and a token is authority by identity alone"
 
--- a clean class keeps no Token in a static field, where the field's class, if it is a user class, is clean too
+-- by the verdicts of two sheets' classes: a clean class keeps no Token in a static field, where the field's class, if it is a user class, is clean too
+abbrev pub NoTokenKept : List ℕ → List ℕ → (ℕ → Verdict) → Type 0
+NoTokenKept library user verdict =
+    (c : ℕ) → classCount library ≤ c → c < total library user → verdict c ≡ clean
+    → (k : ℕ) (r : List ℕ) → At (group library user c) k r → T (isKind FIELD r) → T (isStatic r) → fieldTy r .code ≡ 0
+    → (classCount library ≤ fieldTy r .class → verdict (fieldTy r .class) ≡ clean)
+    → Not (Marked (group library user) (fieldTy r .class) Token)
+
 abbrev pub NoStaticToken : Type 0
-NoStaticToken =
-    (library user : List ℕ) (used : ℕ) → Accepted library user used
-    → (c : ℕ) → classCount library ≤ c → c < total library (take used user) → verdictAt library (take used user) c ≡ clean
-    → (k : ℕ) (r : List ℕ) → At (group library (take used user) c) k r → T (isKind FIELD r) → T (isStatic r) → fieldTy r .code ≡ 0
-    → (classCount library ≤ fieldTy r .class → verdictAt library (take used user) (fieldTy r .class) ≡ clean)
-    → Not (Marked (group library (take used user)) (fieldTy r .class) Token)
+NoStaticToken = (library user : List ℕ) (used : ℕ) → Accepted library user used → NoTokenKept library (take used user) (verdictAt library (take used user))
 
 -- ---- locality: "Two pairs of sheets, both accepted, with equally many library classes and the same groups at every number C stands on, give C the same line"
 

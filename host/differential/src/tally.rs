@@ -134,12 +134,12 @@ impl Tally {
 
 /// Is this FIELD final, and its type a class that is Immutable and not Powerless?
 fn is_immutable_constant(after: &Side, group: &[u8], record: usize) -> bool {
-    let field = records(group).nth(record).unwrap_or_default();
-    let class_alone = field[6..8] == [0, 0];
+    let field = records(group).nth(record).expect("the record of a verdict");
+    let (flags, dimensions_and_code) = (number(field, 4), number(field, 6));
     let (library, user) = (after.library.part(), after.user.part());
     let marks = reference::marks(library, user, after.used, number(field, 8));
     let immutable = marks.is_ok_and(|set| set & (IMMUTABLE | POWERLESS) == IMMUTABLE);
-    number(field, 4) & FINAL as usize != 0 && class_alone && immutable
+    flags & FINAL as usize != 0 && dimensions_and_code == 0 && immutable
 }
 
 /// The refusals that an operation can give.

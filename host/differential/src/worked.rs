@@ -9,7 +9,6 @@ use crate::lent::{Lent, Side};
 const CASES: &str = include_str!("../worked_cases.txt");
 /// In each byte of a line before the first call; no rule has this number.
 const UNTOUCHED: u8 = 0x77;
-const NO_BYTES: &[u8] = &[UNTOUCHED; 8];
 
 #[test]
 fn worked_cases() {
@@ -51,7 +50,7 @@ impl Run {
     /// Sets one thing up, if that is what the line does. A library begins anew.
     fn set(&mut self, word: &str, rest: &str) -> bool {
         match word {
-            "#" => return true,
+            "#" => {}
             "library" => {
                 *self = Run {
                     library: hex(rest),
@@ -65,6 +64,7 @@ impl Run {
             "scratch" => self.scratch = number(rest),
             _ => return false,
         }
+        assert!(self.desk.is_none(), "{word} after a call");
         true
     }
 
@@ -81,7 +81,7 @@ impl Run {
             _ => panic!("no call: {word} {rest}"),
         };
         let mut desk = self.desk.take().unwrap_or_else(|| Desk::new(self.side()));
-        desk.change(|side| side.group = Lent::new(&hex(group), NO_BYTES, 4));
+        desk.change(|side| side.group = lent(&hex(group)));
         let answer = desk.call(call);
         let answer = answer.unwrap_or_else(|difference| panic!("{}", difference.what));
         let mut found = vec![format!("= {}", shown(answer))];
@@ -93,7 +93,6 @@ impl Run {
     }
 
     fn side(&self) -> Side {
-        let lent = |content: &[u8]| Lent::new(content, NO_BYTES, 4);
         Side {
             library: lent(&self.library),
             user: lent(&self.buffer),
@@ -103,6 +102,10 @@ impl Run {
             scratch: lent(&vec![UNTOUCHED; self.scratch]),
         }
     }
+}
+
+fn lent(content: &[u8]) -> Lent {
+    Lent::new(content, &[UNTOUCHED; 8], 4)
 }
 
 fn shown(answer: Answer) -> String {

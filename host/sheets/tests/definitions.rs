@@ -1,4 +1,4 @@
-//! The reference beside document 01's definitions, written down as plainly as they read: relations
+//! The reference beside the documents' definitions, written down as plainly as they read: relations
 //! over lists, searched without cleverness. Random pairs are judged by both.
 
 use std::collections::HashSet;
