@@ -19,12 +19,12 @@
  *   scratch, scratch_len    KZ_SCRATCH_BYTES to work in, of any content; more is allowed
  *
  * A pointer may be NULL where its length is 0: so the archive behaves, and the host's tests call it
- * so; the proofs speak of buffers that are there. `used` of kz_add and kz_replace is never NULL. A
- * buffer that a call may write overlaps no other argument, and nobody else writes any of them
- * meanwhile. Bytes, lengths and class numbers may be
- * anything at all: there is nothing to test before a call. The library keeps nothing between
- * calls, so calls over different buffers may run at once. It asks for no heap, and no call uses
- * more than 8 KiB of stack on any sheet (measured; the proofs do not speak of the stack).
+ * so; the proofs speak of buffers that are there. `used` of kz_add, kz_replace and kz_withdraw is
+ * never NULL. A buffer that a call may write overlaps no other argument, and nobody else writes any
+ * of them meanwhile. Bytes, lengths and class numbers may be anything at all: there is nothing to
+ * test before a call. The library keeps nothing between calls, so calls over different buffers may
+ * run at once. It asks for no heap, and no call uses more than 8 KiB of stack on any sheet
+ * (measured; the proofs do not speak of the stack).
  *
  *
  * Answers
@@ -51,19 +51,22 @@
  *   10  a class name was met before, in either sheet
  *   11  a library class's markers clash, or class 0 has a marker; at its CLASS record
  *   12  too few verdicts or too little scratch
- *   13  no class has this number; for a replacement, no user class
+ *   13  no class has this number; for a replacement, no user class; for a withdrawal, there is none
  *   14  the group is not whole records with one CLASS, its first
  *   15  the new user sheet is over its buffer or over KZ_SHEET_BYTES
+ *   17  another class names the one that would be withdrawn
  *
- * 1 and 12 to 15 have byte 0, and 12 to 15 have sheet 0. They are looked for in this order:
+ * 1, 12 to 15 and 17 have byte 0, and 12 to 15 and 17 have sheet 0. They are looked for in this
+ * order:
  *
  *   1; then record by record, the library's first, 2, 3, 4, 6, 5, 7; then again record by record
- *   9, 8, 10; then 11; then 13, 14, 15; then 3 to 11 in the new user sheet, with the byte in it;
- *   then 12.
+ *   9, 8, 10; then 11; then 13, 14, 15, 17; then 3 to 11 in the new user sheet of an addition or a
+ *   replacement, with the byte in it; then 12.
  *
  *   kz_judge           1 to 12
  *   kz_add             1 to 12, 14, 15
  *   kz_replace         1 to 15
+ *   kz_withdraw        1 to 13, 17
  *   kz_name, kz_marks  1 to 11, 13
  */
 #ifndef KERDZHUSI_H
@@ -133,6 +136,20 @@ kz_answer kz_replace(const uint8_t *library, size_t library_len,
                      const uint8_t *group, size_t group_len,
                      uint8_t *verdicts, size_t verdicts_len,
                      uint8_t *scratch, size_t scratch_len);
+
+/*
+ * Takes the last user class back out. The verdicts are those of the present sheets. No other class
+ * may name it (17), so no other verdict changes. It asks for no scratch. After kz_add it gives back
+ * the used bytes, the used length and all verdicts but the one.
+ *
+ * value     the class's number
+ * user      the class's bytes are zero; all others are untouched
+ * used      where the class began
+ * verdicts  the class's is 0 and 0; all others are untouched
+ */
+kz_answer kz_withdraw(const uint8_t *library, size_t library_len,
+                      uint8_t *user, size_t user_len, size_t *used,
+                      uint8_t *verdicts, size_t verdicts_len);
 
 /*
  * Finds a class's name. Writes nothing.

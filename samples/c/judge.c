@@ -1,6 +1,7 @@
 /*
  * Judges the two sheets of a folder and prints a row for each user class: number, name, rule,
- * record. Then it mends the first class that has a bad field, and prints the rows again.
+ * record. Then it mends the first class that has a bad field, and prints the rows again; at last it
+ * takes the last class back out.
  * Build and run at the repository's root:
  *
  *     cc -Iinclude samples/c/judge.c target/staticlib/libkerdzhusi.a -o target/judge
@@ -86,6 +87,16 @@ static size_t mended_group(size_t nth, size_t record) {
     return length;
 }
 
+/* Takes the last class back out, unless another one names it. */
+static void withdraw_last(void) {
+    kz_answer withdrawn = kz_withdraw(library, library_len, user, sizeof user, &used, verdicts,
+                                      sizeof verdicts);
+    if (withdrawn.status == 0)
+        printf("withdrawn %u\n", (unsigned)withdrawn.value);
+    else
+        printf("withdraw refused %u\n", kz_refusal_number(withdrawn.status));
+}
+
 int main(int count, char **words) {
     const char *folder = count > 1 ? words[1] : "samples/papers";
     library_len = read_sheet(folder, "library.sheet", library);
@@ -108,5 +119,6 @@ int main(int count, char **words) {
         print_rows(first, classes);
         break;
     }
+    withdraw_last();
     return 0;
 }

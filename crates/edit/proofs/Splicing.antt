@@ -2,40 +2,33 @@
 -- Assumes nothing.
 use mathlib.Core.Path.{_≡_, sym, ap, ap₂, _∙_}
 use mathlib.Core.List.{List, _++_, append-assoc}
-use Prim.Native.Nat.{ℕ, _+_, _-_, _≤_, _<_}
-use native.Mathlib.Decide.{decLt}
+use Prim.Native.Nat.{ℕ, _+_, _-_, _≤_}
 use native.Mathlib.Omega.{arith}
-use lib.ListN.{length, take, drop, replicate, length-replicate, replicate-append-replicate}
-use lib.Seq.{paste, length-take-le, take-all, take-length, take-take, take-append-le, take-at, drop-at, drop-append-add, drop-drop}
+use lib.ListN.{length, take, drop, replicate, length-replicate, take-append-drop}
+use lib.Seq.{paste, length-take-le, take-all, take-length, take-take, take-append-le, take-at, drop-at, drop-drop}
 use Rattle.spec.specs.Promises.{bufferWith}
 use Rattle.laws.proofs.Parts.{part-rest}
+use Rattle.laws.proofs.Zeros.{past-sheet}
 use Rattle.view.specs.declared.Cut.{Cut}
 use Rattle.view.specs.View.{Fits, spliced}
 use Rattle.view.proofs.Splice.{length-spliced}
 
--- what stands past a place, where zeros stand up to the used length: it may lie beyond them or among them
-past-zeros : (u : List ℕ) (used n : ℕ) → drop (used + n) (replicate used 0 ++ drop used u) ≡ drop (used + n) u
-past-zeros u used n =
-    ap (λ (k : ℕ). drop (k + n) (replicate used 0 ++ drop used u)) (sym (length-replicate {A = ℕ} used 0))
-    ∙ drop-append-add (replicate used 0) (drop used u) n
-    ∙ drop-drop n used u
+-- zeros put after a sheet up to the used length
+zeroed : (u : List ℕ) (used : ℕ) (s : List ℕ) {end : ℕ} → length s ≡ end → paste (s ++ drop end u) end (replicate (used - end) 0) (used - end) ≡ bufferWith s u used
+unfolding bufferWith
+zeroed u used s {end} l =
+    let z : ℕ = used - end in
+    let a : take end (s ++ drop end u) ≡ s = take-at s (drop end u) end l in
+    let b : take z (replicate {A = ℕ} z 0) ≡ replicate z 0 = take-all z (replicate z 0) (omega (arith, length-replicate {A = ℕ} z 0)) in
+    let c : drop (end + z) (s ++ drop end u) ≡ drop (end + z) u = sym (drop-drop z end (s ++ drop end u)) ∙ ap (drop z) (drop-at s (drop end u) end l) ∙ drop-drop z end u in
+    ap₂ (λ (x y : List ℕ). x ++ y) (ap₂ (λ (x y : List ℕ). x ++ y) a b) c
+    ∙ append-assoc s (replicate z 0) (drop (end + z) u)
+    ∙ ap (λ (x : List ℕ). s ++ x) (sym (past-sheet u end used) ∙ ap (λ (k : ℕ). drop k (replicate used 0 ++ drop used u)) (sym l))
 
-among-zeros : (u : List ℕ) (end z : ℕ) → drop end (replicate (end + z) 0 ++ drop (end + z) u) ≡ replicate z 0 ++ drop (end + z) u
-among-zeros u end z =
-    ap (λ (l : List ℕ). drop end (l ++ drop (end + z) u)) (sym (replicate-append-replicate {A = ℕ} end z 0))
-    ∙ ap (drop end) (append-assoc (replicate end 0) (replicate z 0) (drop (end + z) u))
-    ∙ drop-at (replicate end 0) (replicate z 0 ++ drop (end + z) u) end (length-replicate {A = ℕ} end 0)
-
-past-sheet : (u : List ℕ) (end used : ℕ) → drop end (replicate used 0 ++ drop used u) ≡ replicate (used - end) 0 ++ drop (end + (used - end)) u
-past-sheet u end used = go (decLt used end)
-  where
-    go : Dec (used < end) → drop end (replicate used 0 ++ drop used u) ≡ replicate (used - end) 0 ++ drop (end + (used - end)) u
-    go (yes h) =
-        let z : used - end ≡ 0 = omega arith in
-        let a : end + 0 ≡ end = omega arith in
-        let e : used + (end - used) ≡ end = omega arith in
-        rw (z, a) (rw e at (past-zeros u used (end - used)))
-    go (no h) = let e : end + (used - end) ≡ used = omega arith in rw e (rw e at (among-zeros u end (used - end)))
+-- the end of a sheet made zero: the buffer with the bytes before it as its sheet
+pub cut-off : (u : List ℕ) (used end : ℕ) → end ≤ length u → paste u end (replicate (used - end) 0) (used - end) ≡ bufferWith (take end u) u used
+cut-off u used end h =
+    ap (λ (v : List ℕ). paste v end (replicate (used - end) 0) (used - end)) (sym (take-append-drop end u)) ∙ zeroed u used (take end u) (length-take-le end u h)
 
 module _ (u g : List ℕ) (cut : Cut) (f : Fits cut u g) (room : length (spliced u g cut) ≤ length u) where
   abbrev later : ℕ
@@ -74,21 +67,6 @@ module _ (u g : List ℕ) (cut : Cut) (f : Fits cut u g) (room : length (spliced
   unfolding spliced
   copied = rw (head-kept, tail-moved, take-length g) (simp append-assoc)
 
-  zeroed : paste (spliced u g cut ++ drop (later + rest) u) (later + rest) (replicate (cut .used - (later + rest)) 0) (cut .used - (later + rest))
-      ≡ bufferWith (spliced u g cut) u (cut .used)
-  unfolding bufferWith
-  zeroed =
-      let s : List ℕ = spliced u g cut in
-      let end : ℕ = later + rest in
-      let z : ℕ = cut .used - end in
-      let l : length s ≡ end = length-spliced u g cut f in
-      let a : take end (s ++ drop end u) ≡ s = take-at s (drop end u) end l in
-      let b : take z (replicate {A = ℕ} z 0) ≡ replicate z 0 = take-all z (replicate z 0) (omega (arith, length-replicate {A = ℕ} z 0)) in
-      let c : drop (end + z) (s ++ drop end u) ≡ drop (end + z) u = sym (drop-drop z end (s ++ drop end u)) ∙ ap (drop z) (drop-at s (drop end u) end l) ∙ drop-drop z end u in
-      ap₂ (λ (x y : List ℕ). x ++ y) (ap₂ (λ (x y : List ℕ). x ++ y) a b) c
-      ∙ append-assoc s (replicate z 0) (drop (end + z) u)
-      ∙ ap (λ (x : List ℕ). s ++ x) (sym (past-sheet u end (cut .used)) ∙ ap (λ (k : ℕ). drop k (replicate (cut .used) 0 ++ drop (cut .used) u)) (sym l))
-
   -- the three steps, one after the other
   pub edit-made : {v₁ v₂ v₃ : List ℕ} {k m end : ℕ} → k ≡ later → m ≡ rest → end ≡ later + rest → v₁ ≡ paste u k (drop (cut .to) u) m → v₂ ≡ paste v₁ (cut .from) g (length g)
       → v₃ ≡ paste v₂ end (replicate (cut .used - end) 0) (cut .used - end) → v₃ ≡ bufferWith (spliced u g cut) u (cut .used)
@@ -96,4 +74,4 @@ module _ (u g : List ℕ) (cut : Cut) (f : Fits cut u g) (room : length (spliced
   edit-made {v₁} {v₂} {v₃} {k} {m} {end} ek em ee e₁ e₂ e₃ =
       let a : v₁ ≡ moved = e₁ ∙ ap₂ (λ (x y : ℕ). paste u x (drop (cut .to) u) y) ek em in
       let b : v₂ ≡ spliced u g cut ++ drop (later + rest) u = e₂ ∙ ap (λ (v : List ℕ). paste v (cut .from) g (length g)) a ∙ copied in
-      e₃ ∙ ap₂ (λ (v : List ℕ) (x : ℕ). paste v x (replicate (cut .used - x) 0) (cut .used - x)) b ee ∙ zeroed
+      e₃ ∙ ap₂ (λ (v : List ℕ) (x : ℕ). paste v x (replicate (cut .used - x) 0) (cut .used - x)) b ee ∙ zeroed u (cut .used) (spliced u g cut) (length-spliced u g cut f)

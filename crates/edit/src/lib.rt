@@ -59,7 +59,7 @@ fn copy(buffer: &mut [u8], to: usize, group: &[u8])
 }
 
 // Makes the bytes from `from` up to `to` zero, none if `to` is not above.
-fn clear(buffer: &mut [u8], from: usize, to: usize)
+pub fn clear(buffer: &mut [u8], from: usize, to: usize)
     requires { ⌜ (from ≤ length (now buffer)) × (to ≤ length (now buffer)) ⌝ }
     ensures { λ r. ⌜ now (buffer .exit) ≡ paste (now (buffer .entry)) from (replicate (to - from) 0) (to - from) ⌝ }
 {

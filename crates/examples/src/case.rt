@@ -1,4 +1,5 @@
-// What the commands before have set: lengths of the bytes in the buffers, which sheet is appended to, what is lent, and how many lines the kept row has.
+// What the commands before have set: lengths of the bytes in the buffers, which sheet is appended to, what is lent, how many lines the kept row has by now and
+// how many of them are those of classes that are there.
 pub(crate) struct Case {
     pub(crate) library: usize,
     pub(crate) user: usize,
@@ -8,6 +9,7 @@ pub(crate) struct Case {
     pub(crate) scratch: usize,
     pub(crate) expected: usize,
     pub(crate) lines: usize,
+    pub(crate) classes: usize,
 }
 
 // The first `n` bytes.

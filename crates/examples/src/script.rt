@@ -16,6 +16,7 @@
 //   open               as judge, and begins a week: its row is kept
 //   add BYTES          writes what `add` answers of that group, the used length and the kept row after it
 //   replace C BYTES    writes the same of `replace` in the place of class C
+//   withdraw           writes the same of `withdraw`
 use crate::case::Case;
 use crate::case::start;
 use crate::judging::KEPT;
@@ -34,6 +35,7 @@ use crate::say::say_record;
 use crate::sheet::bytes;
 use crate::sheet::repeated;
 use crate::sheet::verdicts;
+use crate::week::Call;
 use crate::week::changing;
 use crate::week::filled;
 
@@ -88,6 +90,7 @@ fn opened<'a>(
     filled(row, KEPT);
     let lines = judged(library, user, expected, row, case);
     case.lines = lines;
+    case.classes = lines;
     case
 }
 
@@ -218,10 +221,14 @@ fn command(
         return opened(library, user, expected, row, case);
     }
     if same(verb, b"add") {
-        return changing(library, user, row, true, 0, words, case);
+        return changing(library, user, row, Call::Add, words, case);
     }
     if same(verb, b"replace") {
-        return changing(library, user, row, false, number(words), rest(words), case);
+        let call = Call::Replace(number(words));
+        return changing(library, user, row, call, rest(words), case);
+    }
+    if same(verb, b"withdraw") {
+        return changing(library, user, row, Call::Withdraw, words, case);
     }
     set(verb, words, library, user, expected, case)
 }
@@ -254,6 +261,7 @@ fn lines(text: &[u8], library: &mut [u8], user: &mut [u8], expected: &mut [u8], 
         scratch: SCRATCH,
         expected: 0,
         lines: 0,
+        classes: 0,
     };
     let mut at = 0;
     let mut left = text.len();

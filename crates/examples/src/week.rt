@@ -1,4 +1,4 @@
-// The calls of a week: `add` and `replace` on the kept user buffer, used length and row; the answer, and what the call left in the buffers.
+// The calls of a week: `add`, `replace` and `withdraw` on the kept user buffer, used length and row; the answer, and what the call left in the buffers.
 use crate::case::Case;
 use crate::case::start;
 use crate::judging::KEPT;
@@ -16,6 +16,19 @@ use crate::sheet::bytes;
 use verifier::Changed;
 use verifier::add;
 use verifier::replace;
+use verifier::withdraw;
+
+pub(crate) enum Call {
+    Add,
+    Replace(usize),
+    Withdraw,
+}
+
+// Whether a call was accepted, and left in the scratch what it should.
+struct Done {
+    accepted: bool,
+    is_right: bool,
+}
 
 // The longest group of a case.
 const GROUP: usize = 400;
@@ -62,43 +75,23 @@ fn is_left(before: &[u8], after: &[u8], old: usize, used: usize) -> bool {
     )
 }
 
-fn is_accepted(
-    before: &[u8],
-    after: &[u8],
-    old: usize,
-    used: usize,
-    past: &[u8],
-    scratch: &[u8],
-) -> bool {
-    if !is_left(before, after, old, used) {
-        return false;
+// An accepted call clears the scratch; a withdrawal is lent none.
+fn is_scratch_left(call: Call, accepted: bool, scratch: &[u8]) -> bool {
+    if !accepted {
+        return only(scratch, KEPT);
     }
-    if !only(past, KEPT) {
-        return false;
+    match call {
+        Call::Withdraw => only(scratch, KEPT),
+        Call::Add => is_clean(scratch),
+        Call::Replace(_) => is_clean(scratch),
     }
-    is_clean(scratch)
 }
 
-// A refused call leaves everything as it was.
-fn is_refused(before: &[u8], after: &[u8], row_before: &[u8], row: &[u8], scratch: &[u8]) -> bool {
-    if !same(before, after) {
-        return false;
-    }
-    if !same(row_before, row) {
-        return false;
-    }
-    only(scratch, KEPT)
-}
-
-// Writes the answer, a class or how many dependents; whether the call was accepted.
-fn say_changed(adds: bool, changed: Changed) -> bool {
+// Writes the answer; whether the call was accepted.
+fn say_changed(text: &[u8], changed: Changed) -> bool {
     match changed {
         Changed::Fine(number) => {
-            if adds {
-                say::number(b": class ", number);
-            } else {
-                say::number(b": dependents ", number);
-            }
+            say::number(text, number);
             true
         }
         Changed::Refused(refusal) => {
@@ -108,16 +101,29 @@ fn say_changed(adds: bool, changed: Changed) -> bool {
     }
 }
 
-// An accepted addition gives the row a line; a row has none past its end.
-fn grown(adds: bool, accepted: bool, lines: usize) -> usize {
-    if adds {
-        if accepted {
-            if lines < ROW {
-                return lines + 1;
-            }
-        }
+// An accepted addition has a class more, and the row a line for it; there is none past the row's end. The line of a withdrawn class stays and is clean.
+fn counted(call: Call, accepted: bool, mut case: Case) -> Case {
+    if !accepted {
+        return case;
     }
-    lines
+    match call {
+        Call::Add => {
+            if case.classes < ROW {
+                case.classes += 1;
+            }
+            if case.lines < case.classes {
+                case.lines = case.classes;
+            }
+            case
+        }
+        Call::Withdraw => {
+            if 0 < case.classes {
+                case.classes -= 1;
+            }
+            case
+        }
+        Call::Replace(_) => case,
+    }
 }
 
 fn say_ended(used: usize, lines: usize, row: &[u8], is_right: bool) {
@@ -129,46 +135,77 @@ fn say_ended(used: usize, lines: usize, row: &[u8], is_right: bool) {
     io::write_all(1, b"\n");
 }
 
-// The case after a call, whose `lines` are the row's by now, and the user sheet of `used` bytes.
+// The case after a call: what it left in the scratch is known to be right or not.
 fn ended(
     before: &[u8],
     user: &[u8],
     row_before: &[u8],
     row: &[u8],
-    scratch: &[u8],
-    accepted: bool,
+    done: Done,
     used: usize,
     mut case: Case,
 ) -> Case {
-    if accepted {
-        let beyond = past(row, case.lines);
-        let is_right = is_accepted(before, user, case.used, used, beyond, scratch);
-        say_ended(used, case.lines, row, is_right);
+    if done.accepted {
+        let is_kept = only(past(row, case.lines), KEPT) && is_left(before, user, case.used, used);
+        say_ended(used, case.lines, row, done.is_right && is_kept);
         case.used = used;
         return case;
     }
-    let is_right = is_refused(before, user, row_before, row, scratch);
-    say_ended(used, case.lines, row, is_right && used == case.used);
+    let is_kept = same(before, user) && same(row_before, row) && used == case.used;
+    say_ended(used, case.lines, row, done.is_right && is_kept);
     case
 }
 
-// An addition, or the replacement of a class; whether the call was accepted.
+// Makes the call; whether it was accepted.
 fn said<'a>(
     library: &'a [u8],
     user: &mut [u8],
     used: &mut usize,
-    adds: bool,
-    class: usize,
+    call: Call,
     group: &'a [u8],
     row: &mut [u8],
     scratch: &mut [u8],
 ) -> bool {
-    if adds {
-        let added = add(library, user, used, group, row, scratch);
-        return say_changed(adds, added);
+    match call {
+        Call::Add => {
+            let added = add(library, user, used, group, row, scratch);
+            say_changed(b": class ", added)
+        }
+        Call::Replace(class) => {
+            let replaced = replace(library, user, used, class, group, row, scratch);
+            say_changed(b": dependents ", replaced)
+        }
+        Call::Withdraw => {
+            let withdrawn = withdraw(library, user, used, row);
+            say_changed(b": class ", withdrawn)
+        }
     }
-    let changed = replace(library, user, used, class, group, row, scratch);
-    say_changed(adds, changed)
+}
+
+// With a scratch of its own.
+fn called<'a>(
+    library: &'a [u8],
+    user: &mut [u8],
+    used: &mut usize,
+    row: &mut [u8],
+    call: Call,
+    group: &'a [u8],
+    case: Case,
+) -> Done {
+    let mut scratch = [KEPT; SCRATCH];
+    let accepted = said(
+        start(library, case.library),
+        lent(user, case.user),
+        used,
+        call,
+        group,
+        lent(row, case.row),
+        lent(&mut scratch, case.scratch),
+    );
+    Done {
+        accepted: accepted,
+        is_right: is_scratch_left(call, accepted, &scratch),
+    }
 }
 
 // With copies of what the call may write, to be compared.
@@ -176,50 +213,29 @@ fn compared<'a>(
     library: &'a [u8],
     user: &mut [u8],
     row: &mut [u8],
-    adds: bool,
-    class: usize,
+    call: Call,
     group: &'a [u8],
-    mut case: Case,
+    case: Case,
 ) -> Case {
     let mut before = io::large_buffer();
     copied(&mut before, user);
     let mut row_before = [0u8; ROW];
     copied(&mut row_before, row);
-    let mut scratch = [KEPT; SCRATCH];
     let mut used = case.used;
-    let accepted = said(
-        start(library, case.library),
-        lent(user, case.user),
-        &mut used,
-        adds,
-        class,
-        group,
-        lent(row, case.row),
-        lent(&mut scratch, case.scratch),
-    );
-    case.lines = grown(adds, accepted, case.lines);
-    ended(
-        &before,
-        user,
-        &row_before,
-        row,
-        &scratch,
-        accepted,
-        used,
-        case,
-    )
+    let done = called(library, user, &mut used, row, call, group, case);
+    let after = counted(call, done.accepted, case);
+    ended(&before, user, &row_before, row, done, used, after)
 }
 
 pub(crate) fn changing(
     library: &[u8],
     user: &mut [u8],
     row: &mut [u8],
-    adds: bool,
-    class: usize,
+    call: Call,
     words: &[u8],
     case: Case,
 ) -> Case {
     let mut group = [0u8; GROUP];
     let size = bytes(&mut group, 0, words, 0);
-    compared(library, user, row, adds, class, start(&group, size), case)
+    compared(library, user, row, call, start(&group, size), case)
 }

@@ -23,7 +23,7 @@ use Rattle.theory.proofs.Falls.{Falls}
 use Rattle.theory.proofs.Overlay.{supertypes-lower}
 use Rattle.laws.proofs.Rows.{length-values, getD-values}
 use Rattle.groups.specs.Groups.{startOf, Indexed}
-use Rattle.groups.proofs.Few.{group-past}
+use Rattle.theory.proofs.Form.{group-past}
 use Rattle.groups.proofs.Held.{in-library}
 use Rattle.overlay.specs.Memo.{raw, memoOf}
 use Rattle.form.specs.Form.{deemedBreaks, deemedFrom, firstDeemed}

@@ -4,3 +4,4 @@ pub mod Parts
 pub mod DeemedRecords
 pub mod Alone
 pub mod Accepting
+pub mod Unrefused

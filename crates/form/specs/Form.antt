@@ -12,11 +12,14 @@ use Rattle.spec.specs.Sheet.{Group, classCount, total, group}
 use Rattle.spec.specs.Markers.{clash}
 use Rattle.spec.specs.Classes.{overlay}
 use Rattle.spec.specs.Refusals.{Refusal as Reason, recordRefusal, tornRefusal, noClassRefusal, formRefusal, deemedRefusal}
+use Rattle.spec.specs.Promises.{Answer, refused, accepted}
 use Rattle.groups.specs.Groups.{Indexed}
 use Rattle.overlay.specs.Memo.{memoOf}
 use Rattle.form.specs.declared.Refusal.{Refusal}
 use Rattle.form.specs.declared.Checked.{Checked}
 use Rattle.form.specs.declared.Checked.the-variants.{Fine, Refused}
+use Rattle.form.specs.declared.Changed.{Changed}
+use Rattle.form.specs.declared.Changed.the-variants as C
 
 -- 11: the deemed markers m of class c clash, or it is class 0 and has any
 unfoldable pub deemedBreaks : ℕ → ℕ → Bool
@@ -71,6 +74,10 @@ refuse number sheet byte = Refused (record { number = number; sheet = sheet; byt
 
 abbrev pub refusalOf : Refusal → Reason
 refusalOf r = record { number = r .number; sheet = r .sheet; byte = r .byte }
+
+abbrev pub changedAnswer : Changed → Answer ℕ
+changedAnswer (C.Fine n) = accepted n
+changedAnswer (C.Refused r) = refused (refusalOf r)
 
 abbrev pub checkedOf : Option Reason → ℕ → ℕ → Checked
 checkedOf none nlib n = fine nlib n

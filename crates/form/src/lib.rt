@@ -39,6 +39,12 @@ pub enum Checked {
     Refused(Refusal),
 }
 
+// What an operation that changes the user sheet answers: its number, or the refusal.
+pub enum Changed {
+    Fine(usize),
+    Refused(Refusal),
+}
+
 // A refusal that is no record's.
 pub fn plain(number: u8) -> Refusal
     ensures { λ r. ⌜ r ≡ record { number = number; sheet = 0; byte = 0 } ⌝ }

@@ -1,4 +1,4 @@
--- A class has few records, past the last class there are none; and what the second pass adds.
+-- A class has few records; and what the second pass adds.
 -- Assumes nothing.
 use mathlib.Core.Path.{_≡_, refl}
 use mathlib.Core.Bool.{Bool, true, false}
@@ -6,7 +6,7 @@ use mathlib.Core.List.{List, [], _∷_, _++_}
 use mathlib.Core.Option.{none}
 use Prim.Native.Nat.{ℕ, suc, _+_, _≤_}
 use native.Mathlib.Omega.{arith}
-use lib.ListN.{length, length-append, List·getD-eq-default}
+use lib.ListN.{length}
 use borrow.Author.Tests.{ne-eqb}
 use Rattle.spec.specs.Record.{kind, isClass}
 use Rattle.spec.specs.Sheet.{Group, Split, recordsOf, splitGroups, groupsOf, classCount, total, group, locate, locatedIn}
@@ -38,10 +38,6 @@ group-few {library} {user} x c =
     let a = few 0 0 0 0 0 (recordsOf library) (omega arith) (x .library-clear .passed) in
     let b = few 1 0 (classCount library) 0 0 (recordsOf user) (omega arith) (x .user-clear .passed) in
     all-get {A = Group} (λ g. length g ≤ 255) [] (groupsOf library ++ groupsOf user) (all-append (λ g. length g ≤ 255) (groupsOf library) (groupsOf user) (a .groups) (b .groups)) (omega arith) c
-
-pub group-past : (library user : List ℕ) (c : ℕ) → total library user ≤ c → group library user c ≡ []
-unfolding group total classCount
-group-past library user c h = List·getD-eq-default (groupsOf library ++ groupsOf user) [] (omega (arith, length-append (groupsOf library) (groupsOf user)))
 
 -- the library's classes come first
 pub classes-ordered : {library user : List ℕ} {nlib n : ℕ} {row : List ℕ} → Indexed library user nlib n row → nlib ≤ n

@@ -4,40 +4,41 @@
 use mathlib.Core.Path.{_≡_, refl, sym, ap, _∙_, subst}
 use mathlib.Core.Logic.{_⊎_, inl, inr}
 use mathlib.Core.Bool.{not, _||_}
-use mathlib.Core.List.{List, [], _∷_, _++_}
+use mathlib.Core.List.{List, [], _∷_, _++_, map}
 use mathlib.Core.Option.{Option, none, some}
 use Prim.Native.Nat.{ℕ, _+_, _-_, _≤_, _<_}
 use native.Mathlib.Omega.{arith}
 use lib.Dec.{T, T-not, not-T, leb, ltb, eqb→eq, ltb→lt, lt→ltb, nltb→le}
 use lib.ListN.{length, take, drop, length-append, length-set, take-append-drop}
 use lib.Seq.{length-take-le}
-use Rattle.spec.specs.Lists.{elem}
-use Rattle.spec.specs.Record.{references}
-use Rattle.spec.specs.Sheet.{Group, classCount, total, group, groupReferences}
+use Rattle.spec.specs.Lists.{concat, elem}
+use Rattle.spec.specs.Sheet.{Group, groupsOf, classCount, total, group}
 use Rattle.spec.specs.Rules.{Verdict, dependencies}
 use Rattle.spec.specs.Relations.{Depends}
 use Rattle.spec.specs.Breaks.{Not}
-use Rattle.spec.specs.Refusals.{Refusal, sheetLimit, scratchLength, addedSheet, replacedSheet, sheetRefusal, newRefusal}
-use Rattle.spec.specs.Refusals.{presentRefusal, noUserRefusal, shortRefusal, judgeRefusal, addRefusal, replaceRefusal}
+use Rattle.spec.specs.Refusals.{Refusal, sheetLimit, scratchLength, addedSheet, replacedSheet, withdrawnSheet, sheetRefusal, newRefusal, presentRefusal, noUserRefusal, shortRefusal}
+use Rattle.spec.specs.Refusals.{fewLinesRefusal, judgeRefusal, addRefusal, replaceRefusal, withdrawRefusal}
 use Rattle.spec.specs.Verdicts.{VerdictRow, flat, verdictAt, userVerdict, dependsOn}
 use Rattle.spec.specs.Promises.{Answer, accepted, Counts, countsOf, judgedRow, Judges, State}
 use Rattle.laws.proofs.Bools.{decide, and-l, not-or-l, eq→eqb}
-use Rattle.laws.proofs.All.{All, all-append, all-gather, all-set}
+use Rattle.laws.proofs.All.{All, all-append, all-set, all-take}
 use Rattle.theory.proofs.Cut.{IsGroup, count-of-join, sheet-grouped, sheet-groups}
 use Rattle.theory.proofs.Answers.{first-none, none-first, plain-none}
 use Rattle.theory.proofs.Demand2.{demand2}
 use Rattle.theory.proofs.Local.{verdict-same, locality}
 use Rattle.theory.proofs.New.{new-sheets}
+use Rattle.theory.proofs.Withdraw.{some-class, withdrawn-sheets, withdrawn-front, withdrawn-group, withdrawn-count}
 use Rattle.theory.proofs.Form.{depends-on}
-use Rattle.theory.proofs.Accept.{RecordFits, Clear, Sound, sound}
-use Rattle.history.specs.Model.{Call, add, replace, Model, sheet, used, buffer, opened, modelRefusal, newGroups, newSheet, modelValue, modelAnswer, changed}
+use Rattle.theory.proofs.Accept.{Clear, Sound, sound, references-below}
+use Rattle.theory.proofs.Promised.{told-fine, kept-refused, new-fine}
+use Rattle.history.specs.Model.{Call, add, replace, withdraw, Model, sheet, used, buffer, opened, modelRefusal, newGroups, newSheet, modelValue, modelAnswer, changed}
 use Rattle.history.specs.Judged.{RightAt}
-use Rattle.history.specs.Demand3.{RowLaws, Dependent, Value, MayChange, Done, Runs, Agrees, Answers, Follows, Demand3}
+use Rattle.history.specs.Demand3.{RowLaws, Dependent, Value, MayChange, Done, Runs, LineLeft, Agrees, Answers, Follows, Demand3}
 use Rattle.history.proofs.Flat.{flat-laws}
 use Rattle.history.proofs.Counting.{counted-by}
-use Rattle.history.proofs.Unrefused.{Present, present-facts, facts-present, short-none, none-short, Passes, edit-passes}
+use Rattle.theory.proofs.Unrefused.{Present, present-facts, facts-present, short-none, none-short, Passes, edit-passes}
 use Rattle.history.proofs.Model.{total-count, added-group, set-group, front-is}
-use Rattle.history.proofs.Steps.{is-accepted, anew, as-before, library-stays, writes, made, made-is, why, next, Modelled, ModelHolds}
+use Rattle.history.proofs.Steps.{library-stays, writes, writtenBy, made, made-is, why, next, Modelled, ModelHolds}
 use Rattle.history.proofs.Steps.{modelled, user-after, used-after, state-stays, model-stays, model-changes, row-changes}
 
 -- a user sheet that judging accepts beside the library, with a verdict for each class
@@ -49,21 +50,17 @@ record Acceptable (library user : List ℕ) (lines : ℕ) : Type 0 where
 acceptable-of : (library g new : List ℕ) (lines : ℕ) → Passes library g new lines → sheetRefusal library new ≡ newRefusal library new → Acceptable library new lines
 acceptable-of library g new lines p e = record { size = p .size; sheets = e ∙ p .sheets; room = p .room }
 
--- what is known of an accepted call itself: its group is whole, and the class that it replaces is a user class
+-- what is known of an accepted call itself: its group is whole, and the class that it replaces is a user class; there is a class to take out, and no other names it
 abbrev Suits : Model → Call → Type 0
 Suits m (add g) = IsGroup g
 Suits m (replace c g) = IsGroup g × (classCount (m .library) ≤ c)
+Suits m withdraw = (1 ≤ length (m .groups)) × (sheetRefusal (m .library) (sheet m) ≡ none)
 
 new-whole : (m : Model) (call : Call) → All IsGroup (m .groups) → Suits m call → All IsGroup (newGroups m call)
 unfolding newGroups
 new-whole m (add g) w u = all-append IsGroup (m .groups) (g ∷ []) w (u, tt)
 new-whole m (replace c g) w u = all-set IsGroup (m .groups) (c - classCount (m .library)) g w (u .0)
-
--- no class names one that is not there
-references-below : (library user : List ℕ) → Sound library user → (d : ℕ) → All (λ e. e < total library user) (groupReferences (group library user d))
-unfolding groupReferences
-references-below library user s d =
-    all-gather (RecordFits (classCount library) (total library user) (group library user) d) (λ e. e < total library user) references (λ r f. f .there) (group library user d) (s .fits d)
+new-whole m withdraw w u = all-take IsGroup (length (m .groups) - 1) (m .groups) w
 
 -- ---- a call that is not refused
 
@@ -80,7 +77,7 @@ module _ (m : Model) (w : All IsGroup (m .groups)) where
   }
 
   ready : (call : Call) (scratch : ℕ) → modelRefusal m call scratch ≡ none → Ready m call
-  unfolding modelRefusal addRefusal replaceRefusal noUserRefusal IsGroup
+  unfolding modelRefusal addRefusal replaceRefusal withdrawRefusal noUserRefusal fewLinesRefusal IsGroup
   ready (add g) scratch e =
       let q = first-none _ e in
       let new : List ℕ = addedSheet (take (used m) (buffer m)) g in
@@ -94,39 +91,69 @@ module _ (m : Model) (w : All IsGroup (m .groups)) where
       let there = not-or-l (ltb c (classCount (m .library))) (leb all c) (plain-none (ltb c (classCount (m .library)) || leb all c) 13 (q .1 .0)) in
       ready-of (replace c g) (p .whole, nltb→le c (classCount (m .library)) there)
       (acceptable-of (m .library) g new (m .lines) p (new-sheets (m .library) (buffer m) (used m) (q .0) g (p .whole) .1 c))
+  ready withdraw scratch e =
+      let q = first-none _ e in
+      let f = present-facts (m .library) (buffer m) (used m) (q .0) in
+      let old : List ℕ = take (used m) (buffer m) in
+      let left : List ℕ = withdrawnSheet old in
+      let some : 1 ≤ classCount old = some-class old (q .1 .0) in
+      let few : classCount old ≤ m .lines = nltb→le (m .lines) (classCount old) (plain-none (ltb (m .lines) (classCount old)) 12 (q .1 .1 .1 .0)) in
+      let whole : classCount (sheet m) ≡ length (m .groups) = (unfold sheet in count-of-join (m .groups) w) in
+      let parts : length old ≡ length left + length (concat (map concat (drop (classCount old - 1) (groupsOf old)))) =
+      ap length (withdrawn-front (m .library) old (f .sheets) some) ∙ length-append left (concat (map concat (drop (classCount old - 1) (groupsOf old)))) in
+      ready-of withdraw
+      (omega (arith, some, ap classCount (front-is m), whole), ap (sheetRefusal (m .library)) (sym (front-is m)) ∙ f .sheets)
+      (record {
+        size = omega (arith, f .user-size, length-take-le (used m) (buffer m) (f .in-buffer), parts);
+        sheets = withdrawn-sheets (m .library) old (f .sheets) (q .1 .0) (q .1 .1 .0);
+        room = omega (arith, few, withdrawn-count (m .library) old (f .sheets) some);
+      })
 
 -- ---- the verdicts that may change are those that are written
 
 module _ (m : Model) where
-  written-may : (call : Call) → Sound (m .library) (newSheet m call) → (i : ℕ) → T (writes m call i) → MayChange m call i
+  written-may : (call : Call) → Suits m call → Sound (m .library) (newSheet m call) → (i : ℕ) → T (writes m call i) → MayChange m call i
   unfolding writes dependsOn
-  written-may (add g) s i t = eqb→eq i (length (m .groups)) t
-  written-may (replace c g) s i t =
+  written-may (add g) u s i t = eqb→eq i (length (m .groups)) t
+  written-may (replace c g) u s i t =
       let new : List ℕ = newSheet m (replace c g) in
       let d : ℕ = classCount (m .library) + i in
       depends-on (m .library) new s c d
       (ltb→lt d (total (m .library) new) (and-l (ltb d (total (m .library) new)) (elem c (dependencies (group (m .library) new) d)) t)) .0 t
+  written-may withdraw u s i t = omega (arith, eqb→eq i (length (m .groups) - 1) t, u .0)
 
   may-written : (call : Call) → Sound (m .library) (newSheet m call) → (i : ℕ) → i < classCount (newSheet m call) → MayChange m call i → T (writes m call i)
   unfolding writes total
   may-written (add g) s i h c = eq→eqb c
   may-written (replace c g) s i h p = depends-on (m .library) (newSheet m (replace c g)) s c (classCount (m .library) + i) (omega arith) .1 p
+  may-written withdraw s i h p = eq→eqb {n = length (m .groups) - 1} (let z : i ≡ length (m .groups) - 1 = omega arith in z)
 
-  value-is : (call : Call) → Sound (m .library) (newSheet m call) → Value m call (modelValue m call)
+  value-is : (call : Call) → Suits m call → Sound (m .library) (newSheet m call) → Value m call (modelValue m call)
   unfolding modelValue
-  value-is (add g) s = refl
-  value-is (replace c g) s =
+  value-is (add g) u s = refl
+  value-is (replace c g) u s =
       counted-by (dependsOn (m .library) (newSheet m (replace c g)) c) (Dependent m (replace c g) c) (total (m .library) (newSheet m (replace c g)))
       (λ d h. depends-on (m .library) (newSheet m (replace c g)) s c d h)
+  value-is withdraw u s = omega (arith, u .0)
+
+  -- what is written to the line of a class that is there is the new sheets' verdict
+  written-given : All IsGroup (m .groups) → (call : Call) → Suits m call → (i : ℕ) → i < classCount (newSheet m call) → T (writes m call i)
+      → writtenBy m call i ≡ userVerdict (m .library) (newSheet m call) i
+  unfolding writes writtenBy
+  written-given w (add g) u i h t = refl
+  written-given w (replace c g) u i h t = refl
+  written-given w withdraw u i h t =
+      let left : classCount (newSheet m withdraw) ≡ length (take (length (m .groups) - 1) (m .groups)) = (unfold newSheet newGroups in count-of-join _ (new-whole m withdraw w u)) in
+      absurd (omega (arith, eqb→eq i (length (m .groups) - 1) t, left, length-take-le (length (m .groups) - 1) (m .groups) (omega arith)))
 
 -- ---- any other verdict is one of the present sheets, and the new ones give it too
 
 module _ (m : Model) (w : All IsGroup (m .groups)) (s : Sound (m .library) (sheet m)) where
-  stays : (call : Call) → Suits m call → (i : ℕ) → i < classCount (newSheet m call) → Not (MayChange m call i)
+  stays : (call : Call) → Suits m call → Sound (m .library) (newSheet m call) → (i : ℕ) → i < classCount (newSheet m call) → Not (MayChange m call i)
       → (i < classCount (sheet m)) × (userVerdict (m .library) (sheet m) i ≡ userVerdict (m .library) (newSheet m call) i)
   unfolding newSheet newGroups sheet userVerdict verdictAt
   -- no present class can reach the new one
-  stays (add g) u i h n =
+  stays (add g) u v i h n =
       let old : i < length (m .groups) = omega (arith, count-of-join (newGroups m (add g)) (new-whole m (add g) w u), length-append (m .groups) (g ∷ [])) in (
         omega (arith, count-of-join (m .groups) w),
         verdict-same (classCount (m .library)) (group (m .library) (sheet m)) (group (m .library) (newSheet m (add g))) (λ d. d < total (m .library) (sheet m))
@@ -134,13 +161,25 @@ module _ (m : Model) (w : All IsGroup (m .groups)) (s : Sound (m .library) (shee
             (classCount (m .library) + i) (omega (arith, total-count (m .library) (m .groups) w)),
       )
   -- the class does not depend on the replaced one, and all others have their groups still
-  stays (replace c g) u i h n =
+  stays (replace c g) u v i h n =
       let new : ℕ → Group = group (m .library) (newSheet m (replace c g)) in
       let k : ℕ = c - classCount (m .library) in (
         omega (arith, count-of-join (m .groups) w, count-of-join (newGroups m (replace c g)) (new-whole m (replace c g) w u), length-set (m .groups) k g),
         sym (locality (classCount (m .library)) new (group (m .library) (sheet m)) (classCount (m .library) + i)
             (λ d p. set-group (m .library) (m .groups) g w (u .0) k d
             (λ e. n (subst (Depends new (classCount (m .library) + i)) (let q : d ≡ c = omega (arith, u .1) in q) p)))),
+      )
+  -- the classes that are left name none but each other
+  stays withdraw u v i h n =
+      let now : List ℕ = newSheet m withdraw in
+      let is : withdrawnSheet (sheet m) ≡ now = made-is m w withdraw in
+      let some : 1 ≤ classCount (sheet m) = omega (arith, u .0, count-of-join (m .groups) w) in
+      let count : classCount now + 1 ≡ classCount (sheet m) = ap (λ (l : List ℕ). classCount l + 1) (sym is) ∙ withdrawn-count (m .library) (sheet m) (u .1) some in
+      let same : (d : ℕ) → d < total (m .library) now → group (m .library) (sheet m) d ≡ group (m .library) now d =
+      subst (λ (l : List ℕ). (d : ℕ) → d < total (m .library) l → group (m .library) (sheet m) d ≡ group (m .library) l d) is (withdrawn-group (m .library) (sheet m) (u .1) some) in (
+        omega (arith, count),
+        sym (verdict-same (classCount (m .library)) (group (m .library) now) (group (m .library) (sheet m)) (λ d. d < total (m .library) now)
+            (λ d k. references-below (m .library) now v d) (λ d k. sym (same d k)) (classCount (m .library) + i) (unfold total in omega arith)),
       )
 
 -- ---- the invariant
@@ -184,6 +223,18 @@ module _ (row : VerdictRow) (laws : RowLaws row) where
           (subst (λ (u : List ℕ). RightAt (m .library) u i (verdictAt (m .library) u (classCount (m .library) + i))) (front-is m) right);
     }
 
+  -- a withdrawal clears the line of the class that was last
+  line-left : (m : Model) (s : State row) → Good m s → (call : Call) (after : State row) → after .verdicts ≡ row .rewritten (writes m call) (writtenBy m call) (s .verdicts)
+      → LineLeft row m call after
+  unfolding writes writtenBy sheet
+  line-left m s h (add g) after e = tt
+  line-left m s h (replace c g) after e = tt
+  line-left m s h withdraw after e = λ i k.
+      let z : i ≡ length (m .groups) - 1 = omega arith in
+      ap (λ (v : row .Row). row .at v i) e
+      ∙ laws .at-changed (writes m withdraw) (writtenBy m withdraw) (s .verdicts) i
+      (omega (arith, h .holds .lines-are, h .acceptable .room, count-of-join (m .groups) (h .holds .whole))) (eq→eqb {n = length (m .groups) - 1} z)
+
   -- ---- one call
 
   module _ (m : Model) (s : State row) (h : Good m s) (d : Done row) (p : Modelled row m s d) where
@@ -201,12 +252,14 @@ module _ (row : VerdictRow) (laws : RowLaws row) where
       new-verdicts : (i : ℕ) → i < classCount (newSheet m (d .call)) → row .at (d .after .verdicts) i ≡ given i
       new-verdicts i k = ap (λ (v : row .Row). row .at v i) (row-changes row m s d p e) ∙ go (decide (writes m (d .call) i))
         where
-          go : T (writes m (d .call) i) ⊎ T (not (writes m (d .call) i)) → row .at (row .rewritten (writes m (d .call)) given (s .verdicts)) i ≡ given i
-          go (inl t) = laws .at-changed (writes m (d .call)) given (s .verdicts) i (omega (arith, h .holds .lines-are, known .acceptable .room)) t
+          go : T (writes m (d .call) i) ⊎ T (not (writes m (d .call) i)) → row .at (row .rewritten (writes m (d .call)) (writtenBy m (d .call)) (s .verdicts)) i ≡ given i
+          go (inl t) =
+              laws .at-changed (writes m (d .call)) (writtenBy m (d .call)) (s .verdicts) i (omega (arith, h .holds .lines-are, known .acceptable .room)) t
+              ∙ written-given m (h .holds .whole) (d .call) (known .suits) i k t
           go (inr t) =
-              let old = stays m (h .holds .whole) (sound (m .library) (sheet m) (h .acceptable .sheets)) (d .call) (known .suits) i k
+              let old = stays m (h .holds .whole) (sound (m .library) (sheet m) (h .acceptable .sheets)) (d .call) (known .suits) new-sound i k
               (λ c. T-not (writes m (d .call) i) t (may-written m (d .call) new-sound i k c)) in
-              laws .at-kept (writes m (d .call)) given (s .verdicts) i t ∙ h .verdicts-are i (old .0) ∙ old .1
+              laws .at-kept (writes m (d .call)) (writtenBy m (d .call)) (s .verdicts) i t ∙ h .verdicts-are i (old .0) ∙ old .1
 
       good-changed : Good (changed m (d .call)) (d .after)
       unfolding changed sheet newSheet
@@ -215,7 +268,7 @@ module _ (row : VerdictRow) (laws : RowLaws row) where
           whole = new-whole m (d .call) (h .holds .whole) (known .suits);
           user-is = user-after row m s (h .holds) d p ∙ ap buffer (model-changes row m s d p e);
           used-is = used-after row m s (h .holds) d p ∙ ap used (model-changes row m s d p e);
-          lines-are = ap (row .lines) (row-changes row m s d p e) ∙ laws .lines-same (writes m (d .call)) given (s .verdicts) ∙ h .holds .lines-are;
+          lines-are = ap (row .lines) (row-changes row m s d p e) ∙ laws .lines-same (writes m (d .call)) (writtenBy m (d .call)) (s .verdicts) ∙ h .holds .lines-are;
         };
         library-size = h .library-size;
         acceptable = known .acceptable;
@@ -225,7 +278,7 @@ module _ (row : VerdictRow) (laws : RowLaws row) where
       kept-changed : (i : ℕ) → Not (MayChange m (d .call) i) → row .at (d .after .verdicts) i ≡ row .at (s .verdicts) i
       kept-changed i n =
           ap (λ (v : row .Row). row .at v i) (row-changes row m s d p e)
-          ∙ laws .at-kept (writes m (d .call)) given (s .verdicts) i (not-T (writes m (d .call) i) (λ t. n (written-may m (d .call) new-sound i t)))
+          ∙ laws .at-kept (writes m (d .call)) (writtenBy m (d .call)) (s .verdicts) i (not-T (writes m (d .call) i) (λ t. n (written-may m (d .call) (known .suits) new-sound i t)))
 
     good-after : Good (next row m d) (d .after)
     good-after = go (why row m d) refl
@@ -244,12 +297,15 @@ module _ (row : VerdictRow) (laws : RowLaws row) where
     answers : Answers row m s d
     unfolding modelAnswer
     answers = record {
-      answer-is = p .answered;
-      refused = λ r e. (state-stays row m s d p r e, p .scratch-is ∙ as-before (why row m d) (d .scratch) _ r e);
+      answer-is = p .changes .answered;
+      refused = λ r e. (state-stays row m s d p r e, p .scratch-is ∙ sym (kept-refused (d .scratch) _ e));
       scratch-is = p .scratch-is;
       value = λ n e.
-          let a = is-accepted (why row m d) (modelValue m (d .call)) n (sym (p .answered) ∙ e) in
-          subst (Value m (d .call)) (a .1) (value-is m (d .call) (new-sound (a .0)));
+          let a = told-fine (why row m d) (modelValue m (d .call)) (sym e ∙ p .changes .answered) in
+          subst (Value m (d .call)) (sym (a .1)) (value-is m (d .call) (known (a .0) .suits) (new-sound (a .0)));
+      line = λ n e.
+          let a = told-fine (why row m d) (modelValue m (d .call)) (sym e ∙ p .changes .answered) in
+          line-left m s h (d .call) (d .after) (row-changes row m s d p (a .0));
       kept = kept-after;
     }
 
@@ -269,7 +325,7 @@ module _ (row : VerdictRow) (laws : RowLaws row) where
     bytes = take n user
 
     unrefused : judgeRefusal library user n (row .lines verdicts) (length scratch) ≡ none
-    unrefused = is-accepted (judgeRefusal library user n (row .lines verdicts) (length scratch)) (countsOf library bytes) counts (sym (p .answered) ∙ e) .0
+    unrefused = told-fine (judgeRefusal library user n (row .lines verdicts) (length scratch)) (countsOf library bytes) (sym e ∙ p .answered) .0
 
     facts : Present library user n × (classCount bytes ≤ row .lines verdicts)
     unfolding judgeRefusal
@@ -279,7 +335,7 @@ module _ (row : VerdictRow) (laws : RowLaws row) where
 
     judged : verdictsAfter ≡ row .rewritten (λ i. ltb i (classCount bytes)) (userVerdict library bytes) verdicts
     unfolding judgedRow
-    judged = p .verdicts-are ∙ anew (judgeRefusal library user n (row .lines verdicts) (length scratch)) verdicts _ unrefused
+    judged = p .verdicts-are ∙ sym (new-fine verdicts _ unrefused)
 
     cut : Clear 1 (classCount library) bytes
     cut = sound library bytes (facts .0 .sheets) .userSheet

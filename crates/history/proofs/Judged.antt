@@ -21,8 +21,8 @@ use Rattle.theory.proofs.Statics.{right-no-token}
 use Rattle.theory.proofs.Local.{locality}
 use Rattle.history.specs.Judged.{RightAt, Accepts, RowRight, RowNoToken, RowLocal}
 use Rattle.history.specs.Demand3.{RowLaws}
-use Rattle.history.proofs.Unrefused.{short-none}
-use Rattle.history.proofs.Steps.{is-accepted, anew}
+use Rattle.theory.proofs.Unrefused.{short-none}
+use Rattle.theory.proofs.Promised.{told-fine, new-fine}
 use Rattle.history.proofs.Flat.{flat-laws}
 
 module _ (row : VerdictRow) (laws : RowLaws row) where
@@ -31,7 +31,7 @@ module _ (row : VerdictRow) (laws : RowLaws row) where
     bytes = take used user
 
     unrefused : judgeRefusal library user used (row .lines (a .before)) (length (a .scratch)) ≡ none
-    unrefused = is-accepted (judgeRefusal library user used (row .lines (a .before)) (length (a .scratch))) (countsOf library bytes) (a .counts) (sym (a .promised .answered)) .0
+    unrefused = told-fine (judgeRefusal library user used (row .lines (a .before)) (length (a .scratch))) (countsOf library bytes) (a .promised .answered) .0
 
     present : presentRefusal library user used ≡ none
     unfolding judgeRefusal
@@ -44,7 +44,7 @@ module _ (row : VerdictRow) (laws : RowLaws row) where
     pub line-is : (i : ℕ) → i < classCount bytes → row .at after i ≡ verdictAt library bytes (classCount library + i)
     unfolding judgedRow userVerdict
     line-is i h =
-        ap (λ (v : row .Row). row .at v i) (a .promised .verdicts-are ∙ anew (judgeRefusal library user used (row .lines (a .before)) (length (a .scratch))) (a .before) _ unrefused)
+        ap (λ (v : row .Row). row .at v i) (a .promised .verdicts-are ∙ sym (new-fine (a .before) _ unrefused))
         ∙ laws .at-changed (λ j. ltb j (classCount bytes)) (userVerdict library bytes) (a .before) i (omega (arith, room)) (lt→ltb i (classCount bytes) h)
 
     accepted : Bytes library → Bytes user → Accepted library user used

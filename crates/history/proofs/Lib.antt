@@ -1,7 +1,7 @@
 pub mod Flat
 pub mod Counting
-pub mod Unrefused
 pub mod Model
 pub mod Steps
 pub mod Judged
 pub mod Demand3
+pub mod Undo

@@ -35,7 +35,7 @@ unfolding total
 total-count library gs w = ap (λ (n : ℕ). classCount library + n) (count-of-join gs w)
 
 module _ (library : List ℕ) (gs : List (List ℕ)) (g : List ℕ) (w : All IsGroup gs) (wg : IsGroup g) where
-  added-groups : groupsOf (concat (gs ++ (g ∷ []))) ≡ groupsOf (concat gs) ++ (recordsOf g ∷ [])
+  pub added-groups : groupsOf (concat (gs ++ (g ∷ []))) ≡ groupsOf (concat gs) ++ (recordsOf g ∷ [])
   added-groups =
       groups-of-join (gs ++ (g ∷ [])) (all-append IsGroup gs (g ∷ []) w (wg, tt))
       ∙ map-append recordsOf gs (g ∷ []) ∙ ap (λ (l : List Group). l ++ (recordsOf g ∷ [])) (sym (groups-of-join gs w))

@@ -10,14 +10,14 @@ use lib.Dec.{T}
 use lib.ListN.{length}
 use Rattle.spec.specs.Record.{Bytes}
 use Rattle.spec.specs.Sheet.{classCount, total, group}
-use Rattle.spec.specs.Rules.{Verdict}
+use Rattle.spec.specs.Rules.{Verdict, clean}
 use Rattle.spec.specs.Relations.{Depends}
 use Rattle.spec.specs.Breaks.{Not}
 use Rattle.spec.specs.Refusals.{Refusal, scratchLength, judgeRefusal}
 use Rattle.spec.specs.Verdicts.{userVerdict, VerdictRow}
-use Rattle.spec.specs.Promises.{Answer, accepted, Counts, Judges, State, Adds, Replaces, afterwards, cleared}
+use Rattle.spec.specs.Promises.{Answer, accepted, Counts, Judges, State, Adds, Replaces, Withdraws, afterwards, cleared}
 use Rattle.history.specs.Judged.{RightAt}
-use Rattle.history.specs.Model.{Call, add, replace, Model, sheet, used, buffer, opened, modelRefusal, newSheet, modelAnswer, modelStep}
+use Rattle.history.specs.Model.{Call, add, replace, withdraw, Model, sheet, used, buffer, opened, modelRefusal, newSheet, modelAnswer, modelStep}
 
 -- what a row of verdicts must satisfy: rewriting keeps how many it takes, writes the verdicts asked for and leaves every other one
 pub record RowLaws (row : VerdictRow) : Type 0 where
@@ -37,15 +37,23 @@ pub data Counted (P : ℕ → Type 0) : ℕ → ℕ → Type 0 where
 abbrev pub Dependent : Model → Call → ℕ → ℕ → Type 0
 Dependent m call c d = Depends (group (m .library) (newSheet m call)) d c
 
--- what the number that an accepted call answers is: the class's number; how many classes depend on the replaced one
+-- what the number that an accepted call answers is: the class's number; how many classes depend on the replaced one; the number of the class that was last
 abbrev pub Value : Model → Call → ℕ → Type 0
 Value m (add g) n = n ≡ classCount (m .library) + length (m .groups)
 Value m (replace c g) n = Counted (Dependent m (replace c g) c) (total (m .library) (newSheet m (replace c g))) n
+Value m withdraw n = n + 1 ≡ classCount (m .library) + length (m .groups)
 
--- the user classes whose verdicts an accepted call may change: the new one; those that depend on the replaced one
+-- the lines that an accepted call may change: the new class's; those of the classes that depend on the replaced one; that of the class that was last
 abbrev pub MayChange : Model → Call → ℕ → Type 0
 MayChange m (add g) i = i ≡ length (m .groups)
 MayChange m (replace c g) i = Dependent m (replace c g) c (classCount (m .library) + i)
+MayChange m withdraw i = i + 1 ≡ length (m .groups)
+
+-- what an accepted call leaves in the scratch; a withdrawal is lent none
+abbrev pub leftOf : Call → List ℕ → List ℕ
+leftOf (add g) scratch = cleared scratch
+leftOf (replace c g) scratch = cleared scratch
+leftOf withdraw scratch = scratch
 
 module _ (row : VerdictRow) where
   -- one call as it went: what it brought, what it answered, and what it left
@@ -60,6 +68,7 @@ module _ (row : VerdictRow) where
   abbrev pub PromisedBy : List ℕ → State row → Call → List ℕ → Answer ℕ → State row → List ℕ → Type 0
   PromisedBy library before (add g) scratch answer after scratchAfter = Adds row library g before scratch answer after scratchAfter
   PromisedBy library before (replace c g) scratch answer after scratchAfter = Replaces row library c g before scratch answer after scratchAfter
+  PromisedBy library before withdraw scratch answer after scratchAfter = Withdraws row library before answer after × (scratchAfter ≡ scratch)
 
   abbrev pub Promised : List ℕ → State row → Done → Type 0
   Promised library before d = PromisedBy library before (d .call) (d .scratch) (d .answer) (d .after) (d .scratchAfter)
@@ -82,12 +91,19 @@ module _ (row : VerdictRow) where
     -- demand 2 of the row; a slice of bytes has `Bytes` by its type
     pub verdicts-right : Bytes (m .library) → Bytes (buffer m) → (i : ℕ) → i < classCount (sheet m) → RightAt (m .library) (sheet m) i (row .at (s .verdicts) i)
 
-  -- the answer is the model's; a refused call changes nothing; an accepted one answers what it should, clears the scratch and keeps every verdict that it may not change
+  -- "its line becomes 0 0", though it is past the last class now; every other line that a call writes is one of `Agrees`
+  abbrev pub LineLeft : Model → Call → State row → Type 0
+  LineLeft m (add g) after = Unit {0}
+  LineLeft m (replace c g) after = Unit {0}
+  LineLeft m withdraw after = (i : ℕ) → i + 1 ≡ length (m .groups) → row .at (after .verdicts) i ≡ clean
+
+  -- the answer is the model's; a refused call changes nothing; an accepted one answers what it should, leaves in scratch and line what it should, and keeps every verdict that it may not change
   pub record Answers (m : Model) (before : State row) (d : Done) : Type 0 where
     pub answer-is : d .answer ≡ modelAnswer m (d .call) (length (d .scratch))
     pub refused : (r : Refusal) → modelRefusal m (d .call) (length (d .scratch)) ≡ some r → (d .after ≡ before) × (d .scratchAfter ≡ d .scratch)
-    pub scratch-is : d .scratchAfter ≡ afterwards (modelRefusal m (d .call) (length (d .scratch))) (d .scratch) (cleared (d .scratch))
+    pub scratch-is : d .scratchAfter ≡ afterwards (modelRefusal m (d .call) (length (d .scratch))) (d .scratch) (leftOf (d .call) (d .scratch))
     pub value : (n : ℕ) → d .answer ≡ accepted n → Value m (d .call) n
+    pub line : (n : ℕ) → d .answer ≡ accepted n → LineLeft m (d .call) (d .after)
     pub kept : (i : ℕ) → Not (MayChange m (d .call) i) → row .at (d .after .verdicts) i ≡ row .at (before .verdicts) i
 
   -- before the first call and after each one

@@ -1,3 +1,4 @@
 pub mod Model
 pub mod Judged
 pub mod Demand3
+pub mod Undo

@@ -7,7 +7,7 @@ use Prim.Native.Nat.{ℕ, _+_, _-_}
 use lib.ListN.{length, take, drop, set, replicate}
 use Rattle.spec.specs.Lists.{concat, count, span}
 use Rattle.spec.specs.Sheet.{groupsOf, classCount, total}
-use Rattle.spec.specs.Refusals.{Refusal, addRefusal, replaceRefusal}
+use Rattle.spec.specs.Refusals.{Refusal, addRefusal, replaceRefusal, withdrawRefusal}
 use Rattle.spec.specs.Verdicts.{dependsOn}
 use Rattle.spec.specs.Promises.{Answer, answerOf, afterwards}
 
@@ -15,6 +15,7 @@ use Rattle.spec.specs.Promises.{Answer, answerOf, afterwards}
 pub data Call : Type 0 where
   add : List ℕ → Call
   replace : ℕ → List ℕ → Call
+  withdraw : Call
 
 -- "It holds the library sheet, the slate's length, a row of groups .., and the buffer's bytes past them"
 pub record Model : Type 0 where
@@ -41,11 +42,13 @@ opened library user used lines = record { library = library; lines = lines; grou
 unfoldable pub modelRefusal : Model → Call → ℕ → Option Refusal
 modelRefusal m (add g) scratch = addRefusal (m .library) (buffer m) (used m) g (m .lines) scratch
 modelRefusal m (replace c g) scratch = replaceRefusal (m .library) (buffer m) (used m) c g (m .lines) scratch
+modelRefusal m withdraw scratch = withdrawRefusal (m .library) (buffer m) (used m) (m .lines)
 
--- "An accepted Add puts its group last", "An accepted Replace puts its group where the class's old one stood"
+-- "An accepted Add puts its group last", "An accepted Replace puts its group where the class's old one stood"; an accepted withdrawal "takes the last group out"
 unfoldable pub newGroups : Model → Call → List (List ℕ)
 newGroups m (add g) = m .groups ++ (g ∷ [])
 newGroups m (replace c g) = set (m .groups) (c - classCount (m .library)) g
+newGroups m withdraw = take (length (m .groups) - 1) (m .groups)
 
 unfoldable pub newSheet : Model → Call → List ℕ
 newSheet m call = concat (newGroups m call)
@@ -54,6 +57,7 @@ newSheet m call = concat (newGroups m call)
 unfoldable pub modelValue : Model → Call → ℕ
 modelValue m (add g) = classCount (m .library) + length (m .groups)
 modelValue m (replace c g) = let new = newSheet m (replace c g) in count (λ d. dependsOn (m .library) new c d) (span 0 (total (m .library) new))
+modelValue m withdraw = classCount (m .library) + length (m .groups) - 1
 
 unfoldable pub modelAnswer : Model → Call → ℕ → Answer ℕ
 modelAnswer m call scratch = answerOf (modelRefusal m call scratch) (modelValue m call)

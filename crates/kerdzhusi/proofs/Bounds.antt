@@ -13,8 +13,8 @@ use Rattle.spec.specs.Record.{u16}
 use Rattle.spec.specs.Sheet.{wholeFirst, recordsIn, recordsOf, wholeEnd, classCount, total}
 use Rattle.spec.specs.Verdicts.{faulted, faultedCount, flat}
 use Rattle.spec.specs.Refusals.{Refusal, refusePlain, sizeRefusal, sheetRefusal, presentRefusal, noUserRefusal, groupRefusal, roomRefusal, addedSheet, replacedSheet, judgeRefusal, addRefusal}
-use Rattle.spec.specs.Refusals.{replaceRefusal, queryRefusal}
-use Rattle.spec.specs.Promises.{Answer, refused, accepted, answerOf, Counts, countsOf, Judges, State, addition, replacement, Adds, Replaces}
+use Rattle.spec.specs.Refusals.{replaceRefusal, withdrawRefusal, queryRefusal}
+use Rattle.spec.specs.Promises.{Answer, refused, accepted, answerOf, Counts, countsOf, Judges, State, addition, replacement, withdrawal, Adds, Replaces, Withdraws}
 use Rattle.theory.specs.Claims.{sheetOf, Blames, size, torn, at, noClass, plain, BlamesEdit, present, made}
 use Rattle.laws.proofs.Bools.{not-or-l, not-or-r}
 use Rattle.laws.proofs.All.{All}
@@ -23,7 +23,8 @@ use Rattle.laws.proofs.Count.{step, count-none, count-more}
 use Rattle.theory.proofs.Answers.{first-none, first-some, first-append, skip-none, Gives, gives-first, if-none, plain-none}
 use Rattle.theory.proofs.Accept.{sound}
 use Rattle.theory.proofs.Refused.{gives-if, refusals-hold}
-use Rattle.queries.proofs.Asking.{told-fine, told-refused, sheet-fine}
+use Rattle.theory.proofs.Promised.{told-fine, told-refused}
+use Rattle.form.proofs.Unrefused.{sheet-fine}
 
 -- ---- the blamed byte lies in its sheet
 
@@ -56,9 +57,9 @@ module _ (library user : List ℕ) (hl : length library ≤ 32768) (hu : length 
   unfolding wholeEnd
   blamed-low _ (size h) = zero-le
   blamed-low _ (torn {s} h e) = omega (arith, e, end-low (sheetOf library user s), sheet-low s)
-  blamed-low _ (at {n} {s} {k} h h′ h″ b) = omega (arith, b .sum, front-low k (recordsOf (sheetOf library user s)), end-low (sheetOf library user s), sheet-low s)
+  blamed-low _ (at {n} {s} {k} h h′ b) = omega (arith, b .sum, front-low k (recordsOf (sheetOf library user s)), end-low (sheetOf library user s), sheet-low s)
   blamed-low _ (noClass z e) = omega (arith, e, hl)
-  blamed-low _ (plain h h′) = zero-le
+  blamed-low _ (plain h) = zero-le
 
 -- ---- refusals
 
@@ -131,14 +132,18 @@ pub query-low : {A : Type 0} (library user : List ℕ) (used c : ℕ) (x : A) {a
 unfolding queryRefusal
 query-low library user used c x q f = told-low library user used _ x q (refusals-hold library user used .query c .place) f
 
-module _ {library : List ℕ} (g : List ℕ) {before : State flat} {scratch : List ℕ} {a : Answer ℕ} {after : State flat} {scratch′ : List ℕ} {r : Refusal} where
+pub withdraws-low : (library : List ℕ) {before : State flat} {a : Answer ℕ} {after : State flat} → Withdraws flat library before a after → {r : Refusal} → a ≡ refused r → r .byte ≤ 32768
+unfolding withdrawal withdrawRefusal
+withdraws-low library p f = told-low _ _ _ _ _ (p .answered) (refusals-hold _ _ _ .withdraw _ .place) f
+
+module _ (library g : List ℕ) {before : State flat} {scratch : List ℕ} {a : Answer ℕ} {after : State flat} {scratch′ : List ℕ} {r : Refusal} where
   pub adds-low : Adds flat library g before scratch a after scratch′ → a ≡ refused r → r .byte ≤ 32768
   unfolding addition addRefusal groupRefusal
   adds-low p f =
       let user : List ℕ = before .user in
       let used : ℕ = before .used in
       let new : List ℕ = addedSheet (take used user) g in
-      let e = told-refused _ _ (sym f ∙ p .answered) in
+      let e = told-refused _ _ (sym f ∙ p .changes .answered) in
       edit-low library user used new (groupRefusal g ∷ roomRefusal user new ∷ []) _ (plain-low _ 14, (room-says user new, tt)) (λ q. room-low user new (q .1 .0)) e
       (refusals-hold library user used .add g _ _ .place r e)
 
@@ -148,7 +153,7 @@ module _ {library : List ℕ} (g : List ℕ) {before : State flat} {scratch : Li
       let user : List ℕ = before .user in
       let used : ℕ = before .used in
       let new : List ℕ = replacedSheet library (take used user) c g in
-      let e = told-refused _ _ (sym f ∙ p .answered) in
+      let e = told-refused _ _ (sym f ∙ p .changes .answered) in
       edit-low library user used new (noUserRefusal library (take used user) c ∷ groupRefusal g ∷ roomRefusal user new ∷ []) _
       (plain-low _ 13, (plain-low _ 14, (room-says user new, tt))) (λ q. room-low user new (q .1 .1 .0)) e
       (refusals-hold library user used .replace c g _ _ .place r e)

@@ -6,10 +6,9 @@ use verifier::Placed;
 use verifier::Refusal;
 ghost use mathlib.Core.Path.{_≡_};
 ghost use Prim.Native.Nat.{_≤_};
-ghost use Rattle.spec.specs.Promises.{refused, Judges, Adds, Replaces, Marks, Places};
+ghost use Rattle.spec.specs.Promises.{refused, Judges, Adds, Replaces, Withdraws, Marks, Places};
 ghost use Rattle.spec.specs.Verdicts.{flat};
-ghost use Rattle.form.specs.Form.{refusalOf};
-ghost use Rattle.verifier.specs.Answers.{changedAnswer};
+ghost use Rattle.form.specs.Form.{refusalOf, changedAnswer};
 ghost use Rattle.kerdzhusi.specs.Codes.{plainValue, countsValue, partValue, replyOf, Codable, Replies};
 
 // Status 0 and a value, or the refusal's status and 0.
@@ -95,6 +94,20 @@ pub extern "C" fn kz_replace<'a>(
         (now (scratch .entry)) a (record { user = now (user .exit); used = now (used .exit); verdicts = now (verdicts .exit) }) (now (scratch .exit))) r ⌝ }
 {
     changed(verifier::replace(library, user, used, class, group, verdicts, scratch))
+}
+
+#[no_mangle]
+pub extern "C" fn kz_withdraw<'a>(
+    library: &'a [u8],
+    user: &mut [u8],
+    used: &mut usize,
+    verdicts: &mut [u8],
+) -> Reply
+    ensures { λ r. ⌜ Replies plainValue (λ a. Withdraws flat (now (library .entry))
+        (record { user = now (user .entry); used = now (used .entry); verdicts = now (verdicts .entry) }) a
+        (record { user = now (user .exit); used = now (used .exit); verdicts = now (verdicts .exit) })) r ⌝ }
+{
+    changed(verifier::withdraw(library, user, used, verdicts))
 }
 
 #[no_mangle]

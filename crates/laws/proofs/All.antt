@@ -1,15 +1,16 @@
 -- A statement at every element of a list, and what depends on a list's elements alone.
 -- Assumes nothing.
 use mathlib.Core.Path.{_≡_, refl, sym, ap, ap₂, _∙_, subst}
-use mathlib.Core.Bool.{Bool, true, false, _&&_, _||_}
+use mathlib.Core.Bool.{Bool, true, false, not, _&&_, _||_}
 use mathlib.Core.List.{List, [], _∷_, _++_, map, List·Memᴰ, List·Memᴰ·head, List·Memᴰ·tail, List·Memᴰ·cases-cons}
 use mathlib.Core.Logic.{_⊎_, inl, inr}
 use Prim.Native.Nat.{ℕ, zero, suc, _+_, _<_}
 use native.Mathlib.Nat.{add-zero, add-suc, suc-add, le-of-suc-le-suc, not-suc-le-zero}
+use native.Mathlib.Omega.{arith}
 use lib.Dec.{T}
 use lib.ListN.{length, getD, take, drop, set}
 use Rattle.spec.specs.Lists.{any, all, keep, gather, numbered, span}
-use Rattle.laws.proofs.Bools.{and-l, and-r, t-and}
+use Rattle.laws.proofs.Bools.{and-l, and-r, t-and, not-or, not-or-l, not-or-r}
 
 module _ {A : Type 0} (P : A → Type 0) where
   abbrev pub All : List A → Type 0
@@ -81,6 +82,11 @@ module _ {A : Type 0} (P : A → Type 0) where
 pub weaken : {A : Type 0} (P Q : A → Type 0) → ((x : A) → P x → Q x) → (xs : List A) → All P xs → All Q xs
 weaken P Q f [] h = tt
 weaken P Q f (x ∷ xs) h = (f x (h .0), weaken P Q f xs (h .1))
+
+-- from two statements a third
+pub weaken₂ : {A : Type 0} (P Q R : A → Type 0) → ((x : A) → P x → Q x → R x) → (xs : List A) → All P xs → All Q xs → All R xs
+weaken₂ P Q R f [] h k = tt
+weaken₂ P Q R f (x ∷ xs) h k = (f x (h .0) (k .0), weaken₂ P Q R f xs (h .1) (k .1))
 
 module _ {A : Type 0} (p : A → Bool) (x : A) (xs : List A) where
   pub keep-yes : p x ≡ true → keep p (x ∷ xs) ≡ x ∷ keep p xs
@@ -159,13 +165,32 @@ unfolding all
 true-all p [] h = tt
 true-all p (x ∷ xs) h = t-and (p x) (all p xs) (h .0) (true-all p xs (h .1))
 
--- ---- a test computed over a span of numbers holds at each of them
+-- ---- a test that fails at every element
+pub not-any : {A : Type 0} (p : A → Bool) (xs : List A) → T (not (any p xs)) → All (λ x. T (not (p x))) xs
+unfolding any
+not-any p [] t = tt
+not-any p (x ∷ xs) t = (not-or-l (p x) (any p xs) t, not-any p xs (not-or-r (p x) (any p xs) t))
+
+pub none-any : {A : Type 0} (p : A → Bool) (xs : List A) → All (λ x. T (not (p x))) xs → T (not (any p xs))
+unfolding any
+none-any p [] h = tt
+none-any p (x ∷ xs) h = not-or (p x) (any p xs) (h .0) (none-any p xs (h .1))
+
+-- ---- a span of numbers
+pub at-span : (P : ℕ → Type 0) (i n : ℕ) → All P (span i n) → (k : ℕ) → k < n → P (i + k)
+unfolding span
+at-span P i zero h k l = absurd (not-suc-le-zero l)
+at-span P i (suc n) h zero l = subst P (sym (add-zero i)) (h .0)
+at-span P i (suc n) h (suc k) l = subst P (suc-add i k ∙ sym (add-suc i k)) (at-span P (suc i) n (h .1) k (le-of-suc-le-suc l))
+
+pub below-span : (i n : ℕ) → All (λ k. k < i + n) (span i n)
+unfolding span
+below-span i zero = tt
+below-span i (suc n) = (omega arith, subst (λ (m : ℕ). All (λ k. k < m) (span (suc i) n)) (suc-add i n ∙ sym (add-suc i n)) (below-span (suc i) n))
+
+-- a test computed over it holds at each of them
 pub all-span : (p : ℕ → Bool) (i n : ℕ) → T (all p (span i n)) → (k : ℕ) → k < n → T (p (i + k))
-unfolding all span
-all-span p i zero t k h = absurd (not-suc-le-zero h)
-all-span p i (suc n) t zero h = subst (λ (m : ℕ). T (p m)) (sym (add-zero i)) (and-l (p i) (all p (span (suc i) n)) t)
-all-span p i (suc n) t (suc k) h =
-    subst (λ (m : ℕ). T (p m)) (suc-add i k ∙ sym (add-suc i k)) (all-span p (suc i) n (and-r (p i) (all p (span (suc i) n)) t) k (le-of-suc-le-suc h))
+all-span p i n t = at-span (λ k. T (p k)) i n (all-true p (span i n) t)
 
 -- ---- numbered elements
 pub all-numbered : {A : Type 0} (P : A → Type 0) (i : ℕ) (xs : List A) → All P xs → All (λ n. P (n .1)) (numbered i xs)

@@ -3,9 +3,10 @@
 use mathlib.Core.Path.{_≡_, refl, sym, subst}
 use mathlib.Core.Logic.{_⊎_, inl, inr}
 use mathlib.Core.Bool.{Bool, true, false, not, _&&_, _||_}
-use Prim.Native.Nat.{ℕ, _≤_}
-use lib.Dec.{T, eqb, ltb}
-use borrow.Author.Tests.{le-ltb, eq-eqb}
+use Prim.Native.Nat.{ℕ, zero, suc, _≤_, _<_}
+use native.Mathlib.Omega.{arith}
+use lib.Dec.{T, eqb, leb, ltb}
+use borrow.Author.Tests.{le-ltb, lt-leb, eq-eqb}
 use Rattle.spec.specs.Markers.{implies}
 
 pub decide : (b : Bool) → T b ⊎ T (not b)
@@ -102,6 +103,14 @@ pub not-and-r : (a b : Bool) → T (not (a && b)) → T a → T (not b)
 not-and-r true b t u = t
 not-and-r false b t u = absurd u
 
+-- their converses
+pub not-and : (a b : Bool) → (T a → T (not b)) → T (not (a && b))
+not-and true b h = h tt
+not-and false b h = tt
+
+pub implied : (a b : Bool) → (T a → T b) → T (not (a && not b))
+implied a b h = not-and a (not b) (λ t. not-not b (h t))
+
 pub T-implies : (a b : Bool) → T (implies a b) → T a → T b
 unfolding implies
 T-implies true b t u = t
@@ -112,5 +121,12 @@ T-implies false b t u = absurd u
 pub nltb : (m n : ℕ) → n ≤ m → T (not (ltb m n))
 nltb m n h = false-t (le-ltb m n h)
 
+pub nleb : (m n : ℕ) → n < m → T (not (leb m n))
+nleb m n h = false-t (lt-leb m n h)
+
 pub eq→eqb : {m n : ℕ} → m ≡ n → T (eqb m n)
 eq→eqb {m} {n} e = true-t (eq-eqb m n e)
+
+pub positive : (n : ℕ) → T (not (eqb n 0)) → 1 ≤ n
+positive zero t = absurd t
+positive (suc n) t = omega arith

@@ -4,3 +4,5 @@ pub mod Members
 pub mod Parts
 pub mod Rows
 pub mod Count
+pub mod Zeros
+pub mod Below

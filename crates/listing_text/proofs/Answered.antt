@@ -21,7 +21,8 @@ use Rattle.form.specs.declared.Refusal.{Refusal}
 use Rattle.verifier.specs.Answers.{judgedAnswer}
 use Rattle.verifier.specs.declared.Judged.{Judged}
 use Rattle.verifier.specs.declared.Judged.the-variants.{Fine, Refused}
-use Rattle.queries.proofs.Asking.{told-fine, told-refused, some-row}
+use Rattle.theory.proofs.Promised.{told-fine, told-refused}
+use Rattle.form.proofs.Unrefused.{some-row}
 use Rattle.listing_text.specs.Listing.{classesWord, faultedWord, countsText, refusalText, lineText, listedLines, listingText}
 use Rattle.listing_text.specs.Written.{Written, RowHolds}
 use Rattle.listing_text.proofs.Texts.{then, same-text, from-start}

@@ -1,15 +1,16 @@
 -- Of the classes below n, the two that are read are those that the record names.
 -- Assumes nothing.
 use mathlib.Core.Path.{_≡_, refl, sym, ap, ap₂, _∙_}
-use mathlib.Core.Bool.{Bool, true, false}
+use mathlib.Core.Bool.{Bool, true, false, _||_}
 use mathlib.Core.List.{List, [], _∷_, _++_, append-nil}
 use mathlib.Core.Logic.{_⊎_, inl, inr}
-use Prim.Native.Nat.{ℕ, zero, suc, _≤_}
+use Prim.Native.Nat.{ℕ, zero, suc, _≤_, _<_}
+use native.Mathlib.Decide.{ℕ-discrete}
 use native.Mathlib.Omega.{arith}
 use lib.Dec.{eqb, ltb}
 use lib.ListN.{length, getD, List·getD-eq-default}
-use borrow.Author.Tests.{eq-eqb, ne-eqb, eqb-true, le-ltb}
-use Rattle.spec.specs.Lists.{keep, onlyIf}
+use borrow.Author.Tests.{eq-eqb, ne-eqb, eqb-true, le-ltb, ltb-false}
+use Rattle.spec.specs.Lists.{any, keep, onlyIf, elem}
 use Rattle.spec.specs.Record.{none16, kind, byKind, isKind, isClass, CLASS, IMPLEMENTS, FIELD, LOCAL, USES, BUILDS, MEMBER, REFERS}
 use Rattle.spec.specs.Record.{superclass, encloser, target, Ty, fieldTy, localTy, unlessNone, tyReferences, references}
 use Rattle.laws.proofs.Bools.{eq→eqb}
@@ -130,3 +131,34 @@ module _ (n : ℕ) (h : n ≤ 65535) where
     pub named-below : (builds : Bool) → Same builds
     named-below true = along-builds
     named-below false = of-record
+
+-- ---- whether a class is named
+
+-- what is above t makes no difference to it
+elem-below : (n t : ℕ) → t < n → (xs : List ℕ) → elem t (below n xs) ≡ elem t xs
+unfolding below keep elem any
+elem-below n t h [] = refl
+elem-below n t h (x ∷ xs) = go (ltb x n) refl (elem-below n t h xs)
+  where
+    go : (b : Bool) → ltb x n ≡ b → elem t (below n xs) ≡ elem t xs → elem t (elim b as (λ (c : Bool). List ℕ) [ true ↦ x ∷ below n xs | false ↦ below n xs ]) ≡ (eqb t x || elem t xs)
+    go true e k = ap (λ (c : Bool). eqb t x || c) k
+    go false e k = k ∙ sym (ap (λ (c : Bool). c || elem t xs) (ne-eqb t x (λ q. omega (arith, ltb-false x n e))))
+
+module _ (r : List ℕ) (t : ℕ) (h : t < 65535) where
+  named-is : elem t (references r) ≡ (eqb t (firstNamed false r) || (eqb t (secondNamed false r) || false))
+  unfolding elem any namedBy
+  named-is =
+      sym (elem-below 65535 t h (references r)) ∙ ap (elem t) (named-below 65535 (omega arith) r false)
+      ∙ elem-below 65535 t h (firstNamed false r ∷ secondNamed false r ∷ [])
+
+  module _ {first : ℕ} (ef : first ≡ firstNamed false r) where
+    pub first-names : first ≡ t → true ≡ elem t (references r)
+    first-names e = sym (named-is ∙ rw (eq-eqb t (firstNamed false r) (sym (sym ef ∙ e))))
+
+    pub second-names : (first ≡ t → ⊥) → {second : ℕ} → second ≡ secondNamed false r → eqb second t ≡ elem t (references r)
+    second-names n {second} es =
+        sym (named-is ∙ rw (ne-eqb t (firstNamed false r) (λ q. n (ef ∙ sym q))) (go (ℕ-discrete second t)))
+      where
+        go : Dec (second ≡ t) → (eqb t (secondNamed false r) || false) ≡ eqb second t
+        go (yes e) = rw (eq-eqb t (secondNamed false r) (sym e ∙ es), eq-eqb second t e)
+        go (no k) = rw (ne-eqb t (secondNamed false r) (λ q. k (es ∙ sym q)), ne-eqb second t k)

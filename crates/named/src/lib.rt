@@ -19,7 +19,8 @@ ghost use mathlib.Core.Path.{_≡_};
 ghost use mathlib.Core.Bool.{true, false};
 ghost use Prim.Native.Nat.{_+_, _≤_, _<_};
 ghost use lib.ListN.{length};
-ghost use Rattle.spec.specs.Record.{tyAt};
+ghost use Rattle.spec.specs.Lists.{elem};
+ghost use Rattle.spec.specs.Record.{tyAt, references};
 ghost use Rattle.records.specs.Records.{Sized, recordAt};
 ghost use Rattle.named.specs.Named.{typeNamed, firstNamed, secondNamed};
 
@@ -93,4 +94,16 @@ pub fn second_named(bytes: &[u8], at: usize, builds: bool) -> usize
         return wide(word_in(bytes, at + ENCLOSER_AT));
     }
     NONE
+}
+
+// Whether the record names class t.
+pub fn names(bytes: &[u8], at: usize, t: usize) -> bool
+    requires { ⌜ Sized (now bytes) at ⌝ }
+    requires { ⌜ (length (now bytes) ≤ 32768) × (t < 65535) ⌝ }
+    ensures { λ r. ⌜ r ≡ elem t (references (recordAt (now (bytes .entry)) at)) ⌝ }
+{
+    if any_named(bytes, at) == t {
+        return true;
+    }
+    second_named(bytes, at, false) == t
 }

@@ -20,7 +20,7 @@ use Rattle.laws.proofs.All.{all-span}
 use Rattle.theory.proofs.Closure.{bit-zero}
 use Rattle.laws.proofs.Rows.{set-below}
 use Rattle.groups.specs.Groups.{Indexed}
-use Rattle.groups.proofs.Few.{group-past}
+use Rattle.theory.proofs.Form.{group-past}
 use Rattle.overlay.specs.Memo.{memoOf}
 use Rattle.overlay.specs.Types.{Known, markersBy, typeMarkers, rowMarkers}
 use Rattle.overlay.proofs.Unions.{union-zero}

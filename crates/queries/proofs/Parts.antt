@@ -20,7 +20,9 @@ use Rattle.form.specs.declared.Refusal.{Refusal}
 use Rattle.queries.specs.Answers.{placedAnswer}
 use Rattle.queries.specs.declared.Placed.{Placed}
 use Rattle.queries.specs.declared.Placed.the-variants.{At, Refused}
-use Rattle.queries.proofs.Asking.{told-fine, told-refused, some-row, asked-sheets, asked-class}
+use Rattle.theory.proofs.Promised.{told-fine, told-refused}
+use Rattle.form.proofs.Unrefused.{some-row}
+use Rattle.queries.proofs.Asking.{asked-sheets, asked-class}
 
 -- the part by the class's sheet and start
 part-is : (library user : List ℕ) (c : ℕ)

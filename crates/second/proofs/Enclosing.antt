@@ -16,7 +16,7 @@ use Rattle.spec.specs.Sheet.{total, group, classRecord, ofKind}
 use Rattle.spec.specs.Classes.{enclosing, enclosersIn, enclosers}
 use Rattle.theory.proofs.Form.{one-record, group-one-class}
 use Rattle.groups.specs.Groups.{Indexed}
-use Rattle.groups.proofs.Few.{group-past}
+use Rattle.theory.proofs.Form.{group-past}
 use Rattle.second.specs.Second.{Enclosing}
 
 -- a class is marked, or is one of those that are left

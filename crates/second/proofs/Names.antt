@@ -1,21 +1,21 @@
 -- Names compared byte by byte: those of two classes, and those of the classes below one by one.
 -- Assumes nothing.
 use mathlib.Core.Path.{_≡_, refl, sym, ap, _∙_}
-use mathlib.Core.Bool.{Bool, true, false, _&&_, _||_}
-use mathlib.Core.List.{List, _∷_}
-use Prim.Native.Nat.{ℕ, zero, suc, _+_, _-_, _≤_, _<_}
-use native.Mathlib.Nat.{sub-zero}
+use mathlib.Core.Bool.{Bool, true, false, _&&_}
+use mathlib.Core.List.{List}
+use Prim.Native.Nat.{ℕ, _+_, _-_, _≤_, _<_}
 use native.Mathlib.Numerals.{add-one}
 use native.Mathlib.Omega.{arith}
 use lib.Dec.{eqb}
 use lib.ListN.{length, getD, take, drop, length-drop, drop-of-length-le}
 use lib.Seq.{drop-cons}
 use borrow.Author.Tests.{eq-eqb, ne-eqb}
-use Rattle.spec.specs.Lists.{any, elem, sameList, span}
+use Rattle.spec.specs.Lists.{elem, sameList}
 use Rattle.spec.specs.Record.{u16, className}
 use Rattle.spec.specs.Sheet.{Group, group, classRecord}
 use Rattle.spec.specs.Refusals.{nameMet}
 use Rattle.laws.proofs.Bools.{t-false, not-mono}
+use Rattle.laws.proofs.Below.{any-none}
 use Rattle.records.specs.Records.{recordAt, Carries}
 use Rattle.groups.specs.Groups.{Indexed}
 use Rattle.fingerprints.specs.Fingerprints.{printOf, Opens, Printed}
@@ -88,43 +88,13 @@ module _ {library user : List ℕ} {nlib n : ℕ} {row : List ℕ} (x : Indexed 
 
 -- ---- the classes below c
 
-span-step : (i n : ℕ) → i < n → span i (n - i) ≡ i ∷ span (i + 1) (n - (i + 1))
-unfolding span
-span-step i n h = let e : n - i ≡ suc (n - (i + 1)) = omega arith in rw (e, add-one i)
-
-any-none : (p : ℕ → Bool) (i n : ℕ) → ((d : ℕ) → i ≤ d → d < i + n → p d ≡ false) → any p (span i n) ≡ false
-unfolding any span
-any-none p i zero h = refl
-any-none p i (suc n) h = rw (h i (omega arith) (omega arith)) (any-none p (suc i) n (λ d l k. h d (omega arith) (omega arith)))
+-- whether class d has the name of the record r
+abbrev pub namedAs : (ℕ → Group) → List ℕ → ℕ → Bool
+namedAs g r d = sameList (className (classRecord (g d))) (className r)
 
 -- no class below c has the fingerprint of r's name
 pub none-printed : {g : ℕ → Group} {n : ℕ} {row : List ℕ} → Printed g n row → {c : ℕ} → c ≤ n → (r : List ℕ) {print : ℕ} → print ≡ printOf (className r)
     → {b : Bool} → b ≡ elem print (take c row) → b ≡ false → false ≡ nameMet g c r
 unfolding nameMet
 none-printed {g} p {c} h r e eb q =
-    sym (any-none (λ d. sameList (className (classRecord (g d))) (className r)) 0 c (λ d l k. all-told p r e h (sym q ∙ eb) d (omega arith)))
-
--- those from d on decide whether one has the name of the record r
-pub record Seeking (g : ℕ → Group) (c : ℕ) (r : List ℕ) (d : ℕ) : Type 0 where
-  pub within : d ≤ c
-  pub rest : any (λ e. sameList (className (classRecord (g e))) (className r)) (span d (c - d)) ≡ nameMet g c r
-
-pub seeks : (g : ℕ → Group) (c : ℕ) (r : List ℕ) → Seeking g c r 0
-unfolding nameMet
-seeks g c r = record { within = omega arith; rest = rw (sub-zero c) }
-
-module _ {g : ℕ → Group} {c : ℕ} {r : List ℕ} {d : ℕ} (w : Seeking g c r d) where
-  pub none-met : c ≤ d → false ≡ nameMet g c r
-  unfolding any span
-  none-met h = let e : c - d ≡ 0 = omega arith in rw e at (w .rest)
-
-  module _ (h : d < c) {b : Bool} (e : b ≡ sameList (className (classRecord (g d))) (className r)) where
-    step : (b || any (λ e. sameList (className (classRecord (g e))) (className r)) (span (d + 1) (c - (d + 1)))) ≡ nameMet g c r
-    unfolding any
-    step = rw (span-step d c h, ← e) at (w .rest)
-
-    pub met : b ≡ true → true ≡ nameMet g c r
-    met t = rw t at step
-
-    pub seeks-on : b ≡ false → Seeking g c r (d + 1)
-    seeks-on t = record { within = omega arith; rest = rw t at step }
+    sym (any-none (namedAs g r) 0 c (λ d l k. all-told p r e h (sym q ∙ eb) d (omega arith)))

@@ -2,10 +2,12 @@
 -- Assumes nothing.
 use mathlib.Core.Path.{refl}
 use Rattle.spec.specs.Evaluate.{evaluation}
-use Rattle.spec.specs.Examples.{AllHold, rowFor, answerOver, rowOver}
+use Rattle.spec.specs.Examples.{AllHold, rowFor, answerOver, rowOver, answerTo, stateTo}
 use Rattle.spec.specs.Changes.{changes}
 use Rattle.spec.proofs.Also.{_also_}
 
 pub changes-hold : AllHold changes
-unfolding changes rowFor answerOver rowOver evaluation
-changes-hold = (refl, refl) also (refl, refl) also (refl, refl) also (refl, refl) also (refl, refl) also (refl, refl) also (refl, refl) also (refl, refl) also (refl, refl) also (refl, refl) also tt
+unfolding changes rowFor answerOver rowOver answerTo stateTo evaluation
+changes-hold =
+    (refl, refl) also (refl, refl) also (refl, refl) also (refl, refl) also (refl, refl) also (refl, refl) also (refl, refl) also (refl, refl) also (refl, refl) also (refl, refl) also
+    (refl, refl) also (refl, refl) also (refl, refl) also (refl, refl) also (refl, refl) also (refl, refl) also (refl, refl) also (refl, refl) also tt

@@ -14,9 +14,10 @@ use Rattle.spec.specs.Rules.{rule7, rule8, rule9, rule10, rules, placeIn
 use Rattle.spec.specs.Refusals.{refuseIf, refusePlain, refuseRecord, sizeRefusal, tornRefusal, recordTests, recordRefusal, noClassRefusal, noSuchClass, encloserFits, noSuchIndex, superclassFits}
 use Rattle.spec.specs.Refusals.{implementsFits, usesFits, nameMet, formTests, deemedTests, formRefusal, deemedRefusal, sheetRefusal, newRefusal, presentRefusal, shortRefusal, noUserRefusal}
 use Rattle.spec.specs.Refusals.{unusedRefusal, oneClass, wholeGroup, groupRefusal, roomRefusal, addedSheet, replacedSheet, judgeRefusal, addRefusal, replaceRefusal, queryRefusal, judgeNumbers}
-use Rattle.spec.specs.Refusals.{addNumbers, replaceNumbers, queryNumbers}
+use Rattle.spec.specs.Refusals.{emptyRefusal, lastClass, namedRefusal, fewLinesRefusal, withdrawnSheet, withdrawRefusal, recordNumbers, plainNumbers, presentNumbers, addNumbers}
+use Rattle.spec.specs.Refusals.{replaceNumbers, withdrawNumbers, queryNumbers}
 use Rattle.spec.specs.Verdicts.{verdictAt, userVerdict, faulted, faultedCount, dependsOn, dependentCount, flatLines, flatAt, bytesOf, mapFrom, flatByte, flatRewritten}
-use Rattle.spec.specs.Promises.{answerOf, afterwards, cleared, countsOf, judgedRow, bufferWith, edited, addition, replacement, bytesAt, namePart}
+use Rattle.spec.specs.Promises.{answerOf, afterwards, cleared, countsOf, judgedRow, bufferWith, edited, addition, replacement, withdrawal, bytesAt, namePart}
 
 unfoldable pub evaluation : Unit {0}
 unfolding any all keep concat count numbered onlyIf firstOf gather elem sameList span ascending lowest fresh rounds reach u8 u16 bit kind byKind flags ownMarkers zeroByte
@@ -28,7 +29,8 @@ unfolding any all keep concat count numbered onlyIf firstOf gather elem sameList
     rootFits baseFits baseFaults forbidden slotFaults rootFaults rule1 rule2 rule3 rule4 rule5 rule6 rule7 rule8 rule9 rule10 rules placeIn firstBroken verdictOf dependencies
     refuseIf refusePlain refuseRecord sizeRefusal tornRefusal recordTests recordRefusal noClassRefusal noSuchClass encloserFits noSuchIndex superclassFits implementsFits usesFits
     nameMet formTests deemedTests formRefusal deemedRefusal sheetRefusal newRefusal presentRefusal shortRefusal noUserRefusal unusedRefusal oneClass wholeGroup groupRefusal
-    roomRefusal addedSheet replacedSheet judgeRefusal addRefusal replaceRefusal queryRefusal judgeNumbers addNumbers replaceNumbers queryNumbers verdictAt userVerdict faulted
-    faultedCount dependsOn dependentCount flatLines flatAt bytesOf mapFrom flatByte flatRewritten answerOf afterwards cleared countsOf judgedRow bufferWith edited addition
-    replacement bytesAt namePart
+    roomRefusal emptyRefusal lastClass namedRefusal fewLinesRefusal addedSheet replacedSheet withdrawnSheet judgeRefusal addRefusal replaceRefusal withdrawRefusal queryRefusal
+    recordNumbers plainNumbers presentNumbers judgeNumbers addNumbers replaceNumbers withdrawNumbers queryNumbers verdictAt userVerdict faulted faultedCount dependsOn
+    dependentCount flatLines flatAt bytesOf mapFrom flatByte flatRewritten answerOf afterwards cleared countsOf judgedRow bufferWith edited addition replacement withdrawal
+    bytesAt namePart
 evaluation = tt

@@ -7,7 +7,7 @@ use lib.ListN.{length, replicate}
 use Rattle.spec.specs.Markers.{closure}
 use Rattle.spec.specs.Refusals.{Refusal, scratchLength, replacedSheet, judgeRefusal}
 use Rattle.spec.specs.Verdicts.{verdictBytes, flat}
-use Rattle.spec.specs.Promises.{Answer, refused, accepted, answerOf, afterwards, Counts, countsOf, judgedRow, State, Edit, edited, replacement}
+use Rattle.spec.specs.Promises.{Answer, refused, accepted, answerOf, afterwards, Counts, countsOf, judgedRow, State, Edit, edited, replacement, withdrawal}
 
 -- ---- Judge over a library, with scratch enough
 
@@ -29,20 +29,24 @@ module _ (library user row : List ℕ) where
   unfoldable pub rowOver : List ℕ
   rowOver = afterwards (judgeRefusal library user (length user) (flat .lines row) scratchLength) row (judgedRow flat library user (length user) row [])
 
--- ---- Replace over a library, with scratch enough
+-- ---- Replace, with scratch enough, and Withdraw over a library
 
-module _ (library user row : List ℕ) (c : ℕ) (g : List ℕ) where
-  unfoldable pub stateOver : State flat
-  stateOver = record { user = user; used = length user; verdicts = row }
+-- what an edit answers, and what it leaves
+unfoldable pub answerTo : Edit → Answer ℕ
+answerTo e = answerOf (e .refusal) (e .answer)
 
-  unfoldable pub editOver : Edit
-  editOver = replacement flat library stateOver c g scratchLength
+unfoldable pub stateTo : Edit → State flat → State flat
+stateTo e s = afterwards (e .refusal) s (edited flat e s)
 
-  unfoldable pub replaceAnswer : Answer ℕ
-  replaceAnswer = answerOf (editOver .refusal) (editOver .answer)
+abbrev pub holding : List ℕ → ℕ → List ℕ → State flat
+holding user used row = record { user = user; used = used; verdicts = row }
 
-  unfoldable pub replaceState : State flat
-  replaceState = afterwards (editOver .refusal) stateOver (edited flat library editOver stateOver)
+module _ (library user : List ℕ) (used : ℕ) (row : List ℕ) where
+  abbrev pub replaceOver : ℕ → List ℕ → Edit
+  replaceOver c g = replacement flat library (holding user used row) c g scratchLength
+
+  abbrev pub withdrawOver : Edit
+  withdrawOver = withdrawal flat library (holding user used row)
 
 -- ---- the claims
 
@@ -55,14 +59,22 @@ pub data Claim : Type 0 where
   closes : ℕ → ℕ → Claim
   -- user sheet, used for the whole of its buffer, and the bytes of its verdicts; class, group; the count, the buffer and the bytes of the verdicts after the replacement
   replaces : List ℕ → List ℕ → ℕ → List ℕ → ℕ → List ℕ → List ℕ → Claim
+  -- user buffer, used length, bytes of the row; the class, the buffer, the used length and the bytes of the row after the withdrawal
+  withdraws : List ℕ → ℕ → List ℕ → ℕ → List ℕ → ℕ → List ℕ → Claim
+  -- user buffer, used length, bytes of the row; the refusal of the withdrawal, which leaves them so
+  keeps : List ℕ → ℕ → List ℕ → Refusal → Claim
 
 abbrev pub Holds : Claim → Type 0
 Holds (judges user n f row) = (answerOver L user (rowFor n) ≡ accepted (record { classes = n; faulted = f })) × (rowOver L user (rowFor n) ≡ row ++ past)
 Holds (refuses user r) = answerOver L user [] ≡ refused r
 Holds (closes m s) = closure m ≡ s
 Holds (replaces user row c g n buffer rowAfter) =
-    (replaceAnswer L user (row ++ past) c g ≡ accepted n)
-    × (replaceState L user (row ++ past) c g ≡ record { user = buffer; used = length (replacedSheet L user c g); verdicts = rowAfter ++ past })
+    (answerTo (replaceOver L user (length user) (row ++ past) c g) ≡ accepted n)
+    × (stateTo (replaceOver L user (length user) (row ++ past) c g) (holding user (length user) (row ++ past))
+    ≡ holding buffer (length (replacedSheet L user c g)) (rowAfter ++ past))
+Holds (withdraws user used row n buffer usedAfter rowAfter) =
+    (answerTo (withdrawOver L user used row) ≡ accepted n) × (stateTo (withdrawOver L user used row) (holding user used row) ≡ holding buffer usedAfter rowAfter)
+Holds (keeps user used row r) = (answerTo (withdrawOver L user used row) ≡ refused r) × (stateTo (withdrawOver L user used row) (holding user used row) ≡ holding user used row)
 
 abbrev pub AllHold : List Claim → Type 0
 AllHold [] = Unit {0}

@@ -11,7 +11,8 @@ use lib.ListN.{length, take, drop, replicate}
 use Rattle.spec.specs.Record.{nameStart}
 use Rattle.spec.specs.Sheet.{classCount, total, group, groupStart, classRecord}
 use Rattle.spec.specs.Classes.{overlay}
-use Rattle.spec.specs.Refusals.{Refusal, scratchLength, addedSheet, replacedSheet, judgeRefusal, addRefusal, replaceRefusal, queryRefusal}
+use Rattle.spec.specs.Rules.{Verdict, clean}
+use Rattle.spec.specs.Refusals.{Refusal, scratchLength, addedSheet, replacedSheet, withdrawnSheet, lastClass, judgeRefusal, addRefusal, replaceRefusal, withdrawRefusal, queryRefusal}
 use Rattle.spec.specs.Verdicts.{userVerdict, faultedCount, dependsOn, dependentCount, VerdictRow}
 
 -- an operation's answer: a refusal, or its values
@@ -49,7 +50,7 @@ module _ (row : VerdictRow) (library user : List ℕ) (used : ℕ) (verdicts : r
     pub verdicts-are : verdictsAfter ≡ afterwards (judgeRefusal library user used (row .lines verdicts) (length scratch)) verdicts judgedRow
     pub scratch-is : scratchAfter ≡ afterwards (judgeRefusal library user used (row .lines verdicts) (length scratch)) scratch (cleared scratch)
 
--- ---- Add and Replace
+-- ---- Add, Replace and Withdraw
 
 -- the user buffer around a new sheet: "freed bytes become zero", the others past it stay
 unfoldable pub bufferWith : List ℕ → List ℕ → ℕ → List ℕ
@@ -61,28 +62,35 @@ pub record State (row : VerdictRow) : Type 0 where
   pub used : ℕ
   pub verdicts : row .Row
 
--- an operation that writes a new user sheet: why it is refused, the sheet, the answer, and the user classes whose verdicts it writes
+-- an operation that writes a new user sheet: why it is refused, the sheet, the answer, the lines of the row that it writes, and what it writes there
 pub record Edit : Type 0 where
   pub refusal : Option Refusal
   pub sheet : List ℕ
   pub answer : ℕ
   pub changed : ℕ → Bool
+  pub verdict : ℕ → Verdict
 
-module _ (row : VerdictRow) (library : List ℕ) where
+module _ (row : VerdictRow) where
   unfoldable pub edited : Edit → State row → State row
   edited e s = record {
     user = bufferWith (e .sheet) (s .user) (s .used);
     used = length (e .sheet);
-    verdicts = row .rewritten (e .changed) (userVerdict library (e .sheet)) (s .verdicts);
+    verdicts = row .rewritten (e .changed) (e .verdict) (s .verdicts);
   }
 
-  pub record Makes (e : Edit) (before : State row) (scratch : List ℕ) (answer : Answer ℕ) (after : State row) (scratchAfter : List ℕ) : Type 0 where
+  -- what it makes of the answer and of what the program holds
+  pub record Changes (e : Edit) (before : State row) (answer : Answer ℕ) (after : State row) : Type 0 where
     pub answered : answer ≡ answerOf (e .refusal) (e .answer)
     pub user-is : after .user ≡ afterwards (e .refusal) (before .user) (edited e before .user)
     pub used-is : after .used ≡ afterwards (e .refusal) (before .used) (edited e before .used)
     pub verdicts-are : after .verdicts ≡ afterwards (e .refusal) (before .verdicts) (edited e before .verdicts)
+
+  -- and of the scratch, where it is lent one
+  pub record Makes (e : Edit) (before : State row) (scratch : List ℕ) (answer : Answer ℕ) (after : State row) (scratchAfter : List ℕ) : Type 0 where
+    pub changes : Changes e before answer after
     pub scratch-is : scratchAfter ≡ afterwards (e .refusal) scratch (cleared scratch)
 
+module _ (row : VerdictRow) (library : List ℕ) where
   -- Add: "the class's number; group written after the used bytes, its line written, used length raised"
   unfoldable pub addition : State row → List ℕ → ℕ → Edit
   addition s g scratch =
@@ -92,6 +100,7 @@ module _ (row : VerdictRow) (library : List ℕ) where
         sheet = addedSheet sheet g;
         answer = total library sheet;
         changed = λ i. eqb i (classCount sheet);
+        verdict = userVerdict library (addedSheet sheet g);
       }
 
   -- Replace: "the count of classes standing on it, their lines rewritten; later groups move up or down, freed bytes become zero, the used length is the new sheet's"
@@ -103,13 +112,29 @@ module _ (row : VerdictRow) (library : List ℕ) where
         sheet = new;
         answer = dependentCount library new c;
         changed = λ i. dependsOn library new c (classCount library + i);
+        verdict = userVerdict library new;
+      }
+
+  -- Withdraw (document 02, C-12): "Its bytes in the buffer become zero, the used length falls, its line becomes 0 0"; it answers "that class's number"
+  unfoldable pub withdrawal : State row → Edit
+  withdrawal s =
+      let sheet = take (s .used) (s .user) in
+      record {
+        refusal = withdrawRefusal library (s .user) (s .used) (row .lines (s .verdicts));
+        sheet = withdrawnSheet sheet;
+        answer = lastClass library sheet;
+        changed = λ i. eqb i (classCount sheet - 1);
+        verdict = λ i. clean;
       }
 
   abbrev pub Adds : List ℕ → State row → List ℕ → Answer ℕ → State row → List ℕ → Type 0
-  Adds g before scratch answer after scratchAfter = Makes (addition before g (length scratch)) before scratch answer after scratchAfter
+  Adds g before scratch answer after scratchAfter = Makes row (addition before g (length scratch)) before scratch answer after scratchAfter
 
   abbrev pub Replaces : ℕ → List ℕ → State row → List ℕ → Answer ℕ → State row → List ℕ → Type 0
-  Replaces c g before scratch answer after scratchAfter = Makes (replacement before c g (length scratch)) before scratch answer after scratchAfter
+  Replaces c g before scratch answer after scratchAfter = Makes row (replacement before c g (length scratch)) before scratch answer after scratchAfter
+
+  abbrev pub Withdraws : State row → Answer ℕ → State row → Type 0
+  Withdraws before answer after = Changes row (withdrawal before) before answer after
 
 -- ---- Marks: "Marks gives the overlay set"
 

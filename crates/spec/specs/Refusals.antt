@@ -10,7 +10,7 @@ use lib.ListN.{length, take, set}
 use Rattle.spec.specs.Lists.{any, concat, firstOf, elem, sameList, span}
 use Rattle.spec.specs.Record.{Bytes, bit, none16, isKind, isClass, IMPLEMENTS, LOCAL, USES, MEMBER, REFERS, flags, superclass, encloser, className, target, index, references, kindFits}
 use Rattle.spec.specs.Record.{lengthFits, bodyFits}
-use Rattle.spec.specs.Sheet.{Group, recordsOf, wholeEnd, groupsOf, classCount, total, group, classRecord, ofKind, isInterface, isInstanceField, Located, locatedIn, located}
+use Rattle.spec.specs.Sheet.{Group, recordsOf, wholeEnd, groupsOf, classCount, total, group, classRecord, groupReferences, ofKind, isInterface, isInstanceField, Located, locatedIn, located}
 use Rattle.spec.specs.Markers.{clash}
 use Rattle.spec.specs.Classes.{overlay, enclosers}
 
@@ -23,7 +23,7 @@ pub record Refusal : Type 0 where
 unfoldable pub refuseIf : Bool → ℕ → ℕ → ℕ → Option Refusal
 refuseIf b n s at = elim b [ true ↦ some (record { number = n; sheet = s; byte = at }) | false ↦ none ]
 
--- "Numbers 1 and 12 to 15 have byte 0, and 12 to 15 sheet 0"
+-- "Numbers 1 and 12 to 15 have byte 0, and 12 to 15 sheet 0"; document 02, C-12: "those that blame no record carry sheet 0 and byte 0"
 unfoldable pub refusePlain : Bool → ℕ → Option Refusal
 refusePlain b n = refuseIf b n 0 0
 
@@ -196,6 +196,26 @@ groupRefusal g = refusePlain (not (wholeGroup g)) 14
 unfoldable pub roomRefusal : List ℕ → List ℕ → Option Refusal
 roomRefusal user new = refusePlain (ltb (length user) (length new) || ltb sheetLimit (length new)) 15
 
+-- ---- document 02, C-12: 13, 17 and 12 of a withdrawal
+
+-- 13: "for an empty user sheet"
+unfoldable pub emptyRefusal : List ℕ → Option Refusal
+emptyRefusal user = refusePlain (eqb (classCount user) 0) 13
+
+-- the last class's number
+unfoldable pub lastClass : List ℕ → List ℕ → ℕ
+lastClass library user = total library user - 1
+
+-- 17: "when another class names the last one". All others have lower numbers.
+unfoldable pub namedRefusal : List ℕ → List ℕ → Option Refusal
+namedRefusal library user =
+    let last = lastClass library user in
+    refusePlain (any (λ c. elem last (groupReferences (group library user c))) (span 0 last)) 17
+
+-- 12: "for a slate too short"; no scratch is asked for
+unfoldable pub fewLinesRefusal : ℕ → ℕ → Option Refusal
+fewLinesRefusal needed lines = refusePlain (ltb lines needed) 12
+
 -- ---- the operations
 
 -- the user sheet that an Add, or a Replace of class c, would make
@@ -204,6 +224,10 @@ addedSheet user g = user ++ g
 
 unfoldable pub replacedSheet : List ℕ → List ℕ → ℕ → List ℕ → List ℕ
 replacedSheet library user c g = concat (set (map concat (groupsOf user)) (c - classCount library) g)
+
+-- the user sheet that a withdrawal leaves: without its last group
+unfoldable pub withdrawnSheet : List ℕ → List ℕ
+withdrawnSheet user = concat (map concat (take (classCount user - 1) (groupsOf user)))
 
 module _ (library user : List ℕ) (used : ℕ) where
   -- Judge: "Last 12". `lines` and `scratch` are how many verdicts the row takes and how long the scratch is.
@@ -238,20 +262,46 @@ module _ (library user : List ℕ) (used : ℕ) where
       ∷ shortRefusal (classCount new) lines scratch
       ∷ [])
 
+  -- Withdraw (document 02, C-12): "1 to 11, then 13 for an empty user sheet, 17 .. when another class names the last one, and 12 for a slate too short"
+  unfoldable pub withdrawRefusal : ℕ → Option Refusal
+  withdrawRefusal lines =
+      let sheet = take used user in
+      firstOf
+      (presentRefusal library user used
+      ∷ emptyRefusal sheet
+      ∷ namedRefusal library sheet
+      ∷ fewLinesRefusal (classCount sheet) lines
+      ∷ [])
+
   -- Name, Marks: "1 to 11, then 13 for a number not in use"
   unfoldable pub queryRefusal : ℕ → Option Refusal
   queryRefusal c = firstOf (presentRefusal library user used ∷ unusedRefusal library (take used user) c ∷ [])
 
--- ---- which numbers each operation can give: "Each occurs only as said"
+-- ---- which numbers each operation can give: "Each occurs only as said"; document 02, C-12: "new numbers join the fifteen"
+
+-- those that blame a record, by its sheet and byte
+unfoldable pub recordNumbers : List ℕ
+recordNumbers = 3 ∷ 4 ∷ 5 ∷ 6 ∷ 7 ∷ 8 ∷ 9 ∷ 10 ∷ 11 ∷ []
+
+-- those that blame no record, and "carry sheet 0 and byte 0"
+unfoldable pub plainNumbers : List ℕ
+plainNumbers = 12 ∷ 13 ∷ 14 ∷ 15 ∷ 17 ∷ []
+
+-- those of the present sheets, which every operation can give
+unfoldable pub presentNumbers : List ℕ
+presentNumbers = 1 ∷ 2 ∷ recordNumbers
 
 unfoldable pub judgeNumbers : List ℕ
-judgeNumbers = 1 ∷ 2 ∷ 3 ∷ 4 ∷ 5 ∷ 6 ∷ 7 ∷ 8 ∷ 9 ∷ 10 ∷ 11 ∷ 12 ∷ []
+judgeNumbers = presentNumbers ++ (12 ∷ [])
 
 unfoldable pub addNumbers : List ℕ
-addNumbers = 1 ∷ 2 ∷ 3 ∷ 4 ∷ 5 ∷ 6 ∷ 7 ∷ 8 ∷ 9 ∷ 10 ∷ 11 ∷ 12 ∷ 14 ∷ 15 ∷ []
+addNumbers = presentNumbers ++ (12 ∷ 14 ∷ 15 ∷ [])
 
 unfoldable pub replaceNumbers : List ℕ
-replaceNumbers = 1 ∷ 2 ∷ 3 ∷ 4 ∷ 5 ∷ 6 ∷ 7 ∷ 8 ∷ 9 ∷ 10 ∷ 11 ∷ 12 ∷ 13 ∷ 14 ∷ 15 ∷ []
+replaceNumbers = presentNumbers ++ (12 ∷ 13 ∷ 14 ∷ 15 ∷ [])
+
+unfoldable pub withdrawNumbers : List ℕ
+withdrawNumbers = presentNumbers ++ (12 ∷ 13 ∷ 17 ∷ [])
 
 unfoldable pub queryNumbers : List ℕ
-queryNumbers = 1 ∷ 2 ∷ 3 ∷ 4 ∷ 5 ∷ 6 ∷ 7 ∷ 8 ∷ 9 ∷ 10 ∷ 11 ∷ 13 ∷ []
+queryNumbers = presentNumbers ++ (13 ∷ [])

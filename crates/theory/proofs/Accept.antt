@@ -9,15 +9,15 @@ use native.Mathlib.Nat.{zero-add, add-zero, suc-add, add-suc}
 use native.Mathlib.Omega.{arith}
 use lib.Dec.{T, eqb, leb, ltb, eqb→eq, nleb→lt, lt→ltb}
 use lib.ListN.{length, getD}
-use Rattle.spec.specs.Lists.{any}
 use Rattle.spec.specs.Record.{kind, isKind, isClass, bit, flags, index, target, references, kindFits, lengthFits, bodyFits, IMPLEMENTS, LOCAL, USES, MEMBER, REFERS}
-use Rattle.spec.specs.Sheet.{Group, Located, locate, locatedIn, located, Split, splitGroups, recordsOf, wholeEnd, groupsOf, classCount, total, group, ofKind, isInterface, isInstanceField}
+use Rattle.spec.specs.Sheet.{Group, Located, locate, locatedIn, located, Split, splitGroups, recordsOf, wholeEnd, groupsOf, classCount, total, group, groupReferences, ofKind}
+use Rattle.spec.specs.Sheet.{isInterface, isInstanceField}
 use Rattle.spec.specs.Markers.{clash}
 use Rattle.spec.specs.Classes.{overlay}
 use Rattle.spec.specs.Refusals.{recordTests, recordRefusal, tornRefusal, noClassRefusal, noSuchClass, noSuchIndex, superclassFits}
 use Rattle.spec.specs.Refusals.{encloserFits, implementsFits, usesFits, nameMet, formTests, deemedTests, formRefusal, deemedRefusal, sheetRefusal}
 use Rattle.laws.proofs.Bools.{t-and, not-or-l, not-or-r, un-not, imply, not-and-r}
-use Rattle.laws.proofs.All.{All, all-left, all-right, weaken}
+use Rattle.laws.proofs.All.{All, all-left, all-right, weaken, all-gather, not-any}
 use Rattle.theory.proofs.Cut.{split-class, split-other}
 use Rattle.theory.proofs.Answers.{first-none, if-none, Fails, passing}
 
@@ -135,11 +135,6 @@ pub record RecordFits (nlib n : ℕ) (g : ℕ → Group) (c : ℕ) (r : List ℕ
   pub usesFits : T (isKind USES r) → T (usesFits g c r)
   pub nameFits : T (isClass r) → T (not (nameMet g c r))
 
-not-any : (p : ℕ → Bool) (xs : List ℕ) → T (not (any p xs)) → All (λ x. T (not (p x))) xs
-unfolding any
-not-any p [] t = tt
-not-any p (x ∷ xs) t = (not-or-l (p x) (any p xs) t, not-any p xs (not-or-r (p x) (any p xs) t))
-
 fits : (nlib n : ℕ) (g : ℕ → Group) (l : Located) → All Fails (formTests g nlib n l) → RecordFits nlib n g (l .class) (l .bytes)
 unfolding formTests noSuchClass noSuchIndex
 fits nlib n g l f =
@@ -227,3 +222,9 @@ sound lib user e =
       fits = form-fits lib user (q .1 .1 .1 .1 .1 .0);
       few = b .few (omega (arith, a .few zero-le, zero-add (classCount lib)));
     }
+
+-- no class names one that is not there
+pub references-below : (lib user : List ℕ) → Sound lib user → (d : ℕ) → All (λ e. e < total lib user) (groupReferences (group lib user d))
+unfolding groupReferences
+references-below lib user s d =
+    all-gather (RecordFits (classCount lib) (total lib user) (group lib user) d) (λ e. e < total lib user) references (λ r f. f .there) (group lib user d) (s .fits d)

@@ -10,7 +10,7 @@ use lib.Dec.{T}
 use Rattle.spec.specs.Lists.{firstOf}
 use Rattle.spec.specs.Sheet.{Located}
 use Rattle.spec.specs.Refusals.{refuseIf, refusePlain, refuseRecord}
-use Rattle.laws.proofs.All.{All, weaken}
+use Rattle.laws.proofs.All.{All, weaken, all-map}
 
 module _ {A : Type 0} where
   pub some≢none : (a : A) → Path (Option A) (some a) none → ⊥
@@ -117,3 +117,13 @@ pub passing : (tests : Located → List (ℕ × Bool)) (P : Located → Type 0) 
     → (ls : List Located) → firstOf (map (λ l. refuseRecord l (tests l)) ls) ≡ none → All P ls
 passing tests P f ls e =
     weaken (λ l. refuseRecord l (tests l) ≡ none) P (λ l k. f l (record-none l (tests l) k)) ls (of-map (λ o. o ≡ none) (λ l. refuseRecord l (tests l)) ls (first-none _ e))
+
+-- and where each meets none of its tests, none is refused
+none-record : (l : Located) (ts : List (ℕ × Bool)) → All Fails ts → refuseRecord l ts ≡ none
+unfolding refuseRecord
+none-record l ts h =
+    none-first _ (all-map Fails (λ o. o ≡ none) (λ t. refuseIf (t .1) (t .0) (l .sheet) (l .byte)) (λ t f. none-if (t .1) (t .0) (l .sheet) (l .byte) f) ts h)
+
+pub unrefused : (tests : Located → List (ℕ × Bool)) (P : Located → Type 0) → ((l : Located) → P l → All Fails (tests l))
+    → (ls : List Located) → All P ls → firstOf (map (λ l. refuseRecord l (tests l)) ls) ≡ none
+unrefused tests P f ls h = none-first _ (all-map P (λ o. o ≡ none) (λ l. refuseRecord l (tests l)) (λ l k. none-record l (tests l) (f l k)) ls h)

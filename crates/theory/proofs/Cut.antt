@@ -180,6 +180,11 @@ unfolding concat
 concat-append [] ys = refl
 concat-append (x ∷ xs) ys = ap (λ l. x ++ l) (concat-append xs ys) ∙ sym (append-assoc x (concat xs) (concat ys))
 
+pub map-take : {A B : Type 0} (f : A → B) (n : ℕ) (xs : List A) → map f (take n xs) ≡ take n (map f xs)
+map-take f zero xs = refl
+map-take f (suc n) [] = refl
+map-take f (suc n) (x ∷ xs) = ap (λ (l : List _). f x ∷ l) (map-take f n xs)
+
 pub front-low : (k : ℕ) (rs : List (List ℕ)) → length (concat (take k rs)) ≤ length (concat rs)
 front-low k rs =
     omega (arith, ap (λ (l : List (List ℕ)). length (concat l)) (take-append-drop k rs), ap length (concat-append (take k rs) (drop k rs)), length-append (concat (take k rs)) (concat (drop k rs)))

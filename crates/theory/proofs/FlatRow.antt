@@ -2,19 +2,20 @@
 -- Assumes nothing.
 use mathlib.Core.Path.{_≡_, refl, sym, ap, _∙_}
 use mathlib.Core.Bool.{Bool, true, false, not, _&&_}
-use mathlib.Core.List.{List, [], _∷_}
+use mathlib.Core.List.{List, [], _∷_, _++_}
 use Prim.Native.Nat.{ℕ, zero, suc, _+_, _*_, _/_, _%_, _≤_, _<_, suc-le-suc}
 use native.Mathlib.Nat.{zero-add, add-zero, add-suc, suc-add, mul-comm, mul-suc, mul-le-mul-left, mul-div-le, div-add-mod, mod-lt}
 use native.Mathlib.Nat.{le-of-suc-le-suc, not-suc-le-zero, zero-lt-suc}
 use native.Mathlib.Decide.{ℕ-discrete}
 use native.Mathlib.Omega.{arith}
 use lib.Arith.{digits-div, digits-mod}
-use lib.Dec.{T, ltb, lt→ltb}
-use lib.ListN.{length, getD, set, length-set}
-use lib.Seq.{getD-set-same, getD-set-other, ext-getD, sets, length-sets}
+use lib.Dec.{T, eqb, ltb, lt→ltb}
+use borrow.Author.Tests.{ne-eqb}
+use lib.ListN.{length, getD, set, take, drop, length-set}
+use lib.Seq.{getD-set-same, getD-set-other, ext-getD, sets, length-sets, sets-eq, paste, take-all}
 use Rattle.spec.specs.Rules.{Verdict}
 use Rattle.spec.specs.Verdicts.{verdictBytes, flatLines, flatAt, bytesOf, mapFrom, flatByte, flatRewritten}
-use Rattle.laws.proofs.Bools.{t-true, t-false, t-and, and-r, not-mono}
+use Rattle.laws.proofs.Bools.{t-true, t-false, t-and, and-r, not-mono, eq→eqb}
 
 -- ---- a row of lines of w bytes
 
@@ -197,3 +198,14 @@ module _ (v : ℕ → Verdict) (row : List ℕ) where
           sets-kept bytes r at j (λ k b e. n (ap (λ (m : ℕ). m / verdictBytes) e ∙ line-of verdictBytes i k (rw (bytes-long (v i)) at b) .0))
           ∙ read-is p j l
           ∙ byte-same p q j (getD row j 0) (same (j / verdictBytes) n)
+
+-- one verdict alone is written, all of its bytes at once
+pub line-put : (v : Verdict) (row : List ℕ) (i : ℕ) → i < flatLines row → paste row (verdictBytes * i) (bytesOf v) verdictBytes ≡ flatRewritten (λ j. eqb j i) (λ j. v) row
+line-put v row i h =
+    let at : ℕ = verdictBytes * i in
+    let w : length (bytesOf v) ≡ verdictBytes = bytes-long v in
+    ap (λ (bs : List ℕ). (take at row ++ bs) ++ drop (at + verdictBytes) row) (take-all verdictBytes (bytesOf v) (omega arith))
+    ∙ ap (λ (k : ℕ). (take at row ++ bytesOf v) ++ drop (at + k) row) (sym w)
+    ∙ sym (sets-eq (bytesOf v) row at (rw w (line-room row h)))
+    ∙ ap (λ (r : List ℕ). sets r at (bytesOf v)) (rewritten-none (λ j. v) row (λ j. false) (λ j. tt))
+    ∙ rewritten-more (λ j. v) row (λ j. false) (λ j. eqb j i) i h (eq→eqb {m = i} refl) (λ k ne. sym (ne-eqb k i ne))

@@ -9,7 +9,7 @@ use Prim.Native.Nat.{ℕ, zero, suc, _≤_, _<_}
 use native.Mathlib.Nat.{not-suc-le-zero, le-refl}
 use native.Mathlib.Omega.{arith}
 use lib.Dec.{T, T-not, eqb, ltb, eqb→eq, ltb→lt, nltb→le, lt→ltb, lit<}
-use lib.ListN.{length, getD, take, drop, length-append}
+use lib.ListN.{length, getD, take, drop, length-append, List·getD-eq-default}
 use Rattle.spec.specs.Rules.{dependencies}
 use Rattle.spec.specs.Verdicts.{dependsOn}
 use Rattle.spec.specs.Lists.{elem, any, keep, gather, concat, numbered}
@@ -97,6 +97,11 @@ class-first : (P : List ℕ → Type 0) (h : Group) → T (oneClass h) → All P
 unfolding oneClass classRecord
 class-first P [] o a = absurd o
 class-first P (r ∷ rs) o a = (a .0, and-l (isClass r) (not (any isClass rs)) o)
+
+-- past the last class there is no group
+pub group-past : (library user : List ℕ) (c : ℕ) → total library user ≤ c → group library user c ≡ []
+unfolding group total classCount
+group-past library user c h = List·getD-eq-default (groupsOf library ++ groupsOf user) [] (omega (arith, length-append (groupsOf library) (groupsOf user)))
 
 pub group-one-class : (library user : List ℕ) (c : ℕ) → c < total library user → T (oneClass (group library user c))
 unfolding group total classCount groupsOf

@@ -19,5 +19,9 @@ pub mod Demand2
 pub mod Statics
 pub mod Faults
 pub mod New
+pub mod Unrefused
+pub mod Promised
+pub mod Fitting
+pub mod Withdraw
 pub mod Refused
 pub mod FlatRow

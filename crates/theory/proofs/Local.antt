@@ -92,7 +92,7 @@ module _ (nlib : ℕ) (g g′ : ℕ → Group) (P : ℕ → Type 0) (closed : (d
       (ap (λ (ms : List ℕ). union (ownMarkers (classRecord (g c))) (unionAll ms))
       (map-cong P (gathered g n) (gathered g′ n) (gathered-same n) (supertypes (g c)) (supertypes-in c p)))
 
-  overlay-same : (c : ℕ) → P c → overlay g c ≡ overlay g′ c
+  pub overlay-same : (c : ℕ) → P c → overlay g c ≡ overlay g′ c
   unfolding overlay
   overlay-same c p = ap closure (gathered-same (suc c) c p)
 
@@ -122,7 +122,7 @@ module _ (nlib : ℕ) (g g′ : ℕ → Group) (P : ℕ → Type 0) (closed : (d
   unfolding enclosers
   enclosers-in c p = enclosersIn-in (suc c) c p
 
-  enclosers-same : (c : ℕ) → P c → enclosers g c ≡ enclosers g′ c
+  pub enclosers-same : (c : ℕ) → P c → enclosers g c ≡ enclosers g′ c
   unfolding enclosers
   enclosers-same c p = enclosersIn-same (suc c) c p
 

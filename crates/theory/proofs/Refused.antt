@@ -15,7 +15,8 @@ use Rattle.spec.specs.Record.{kind, isClass}
 use Rattle.spec.specs.Sheet.{recordsOf, wholeEnd, classCount, total, group, Located, locate, locatedIn, located}
 use Rattle.spec.specs.Refusals.{Refusal, refuseIf, refusePlain, refuseRecord, sizeRefusal, tornRefusal, recordTests, recordRefusal, noClassRefusal, formTests, deemedTests, formRefusal}
 use Rattle.spec.specs.Refusals.{deemedRefusal, sheetRefusal, newRefusal, presentRefusal, shortRefusal, noUserRefusal, unusedRefusal, groupRefusal, roomRefusal, addedSheet}
-use Rattle.spec.specs.Refusals.{replacedSheet, judgeRefusal, addRefusal, replaceRefusal, queryRefusal, judgeNumbers, addNumbers, replaceNumbers, queryNumbers}
+use Rattle.spec.specs.Refusals.{replacedSheet, emptyRefusal, namedRefusal, fewLinesRefusal, judgeRefusal, addRefusal, replaceRefusal, withdrawRefusal, queryRefusal}
+use Rattle.spec.specs.Refusals.{recordNumbers, plainNumbers, presentNumbers, judgeNumbers, addNumbers, replaceNumbers, withdrawNumbers, queryNumbers}
 use Rattle.theory.specs.Claims.{sheetOf, Begins, Blames, size, torn, at, noClass, plain, BlamesEdit, present, made, Refuses, RefusalsHold}
 use Rattle.laws.proofs.All.{All, all-append, all-if, weaken, all-true}
 use Rattle.laws.proofs.Members.{all-elem}
@@ -94,17 +95,6 @@ module _ (library user : List ℕ) where
 
 -- ---- numbers
 
-abbrev presentNumbers : List ℕ
-presentNumbers = 1 ∷ 2 ∷ 3 ∷ 4 ∷ 5 ∷ 6 ∷ 7 ∷ 8 ∷ 9 ∷ 10 ∷ 11 ∷ []
-
--- of the tests on records
-abbrev recordNumbers : List ℕ
-recordNumbers = 3 ∷ 4 ∷ 5 ∷ 6 ∷ 7 ∷ 8 ∷ 9 ∷ 10 ∷ 11 ∷ []
-
--- with sheet 0 and byte 0
-abbrev plainNumbers : List ℕ
-plainNumbers = 12 ∷ 13 ∷ 14 ∷ 15 ∷ []
-
 -- a test computed over a list of numbers passes at each of them
 at-number : (p : ℕ → Bool) (numbers : List ℕ) → T (all p numbers) → (n : ℕ) → T (elem n numbers) → T (p n)
 at-number p numbers t n h = all-elem (λ k. T (p k)) numbers n (all-true p numbers t) h
@@ -127,21 +117,21 @@ module _ (library user : List ℕ) where
   Later r = (3 ≤ r .number) × Blames library user r
 
   recorded : (o : Option Refusal) → Gives Recorded o → Gives Present o
-  unfolding elem any all
+  unfolding elem any all recordNumbers presentNumbers
   recorded o h = gives-weaken Recorded Present (λ r q. (at-number (λ m. elem m presentNumbers) recordNumbers tt (r .number) (q .0), q .1)) o h
 
   -- 1
   size-says : (buffer : List ℕ) (used : ℕ) → Gives Present (sizeRefusal library buffer used)
-  unfolding sizeRefusal elem any
+  unfolding sizeRefusal elem any presentNumbers recordNumbers
   size-says buffer used =
       gives-first Present _ (gives-if Present _ 1 0 0 (λ t. (tt, size (lit< tt))), (gives-if Present _ 1 1 0 (λ t. (tt, size (lit< tt))), tt))
 
   -- 2
   torn-says : (s : ℕ) → s < 2 → Gives Present (tornRefusal s (sheetOf library user s))
-  unfolding tornRefusal elem any
+  unfolding tornRefusal elem any presentNumbers recordNumbers
   torn-says s h = gives-if Present _ 2 s (wholeEnd (sheetOf library user s)) (λ t. (tt, torn h refl))
 
-  -- 3 to 11: along located records, by tests with those numbers
+  -- a number that blames a record: along located records, by tests with those numbers
   along-says : (tests : Located → List (ℕ × Bool)) → ((l : Located) → T (all (λ t. elem (t .0) recordNumbers) (tests l)))
       → (ls : List Located) → All (Stands library user) ls → Gives Recorded (firstOf (map (λ l. refuseRecord l (tests l)) ls))
   unfolding elem any all
@@ -150,40 +140,33 @@ module _ (library user : List ℕ) where
       (weaken (Stands library user) (λ l. Gives Recorded (refuseRecord l (tests l)))
       (λ l a. gives-record Recorded l (tests l)
       (weaken (λ t. T (elem (t .0) recordNumbers)) (λ t. Recorded (record { number = t .0; sheet = l .sheet; byte = l .byte }))
-      (λ t q. let n : ℕ = t .0 in
-      (q, at (leb→le 3 n (at-number (leb 3) recordNumbers tt n q)) (leb→le n 11 (at-number (λ m. leb m 11) recordNumbers tt n q)) (a .sheet) (a .begins)))
+      (λ t q. (q, at q (a .sheet) (a .begins)))
       (tests l) (all-true (λ t. elem (t .0) recordNumbers) (tests l) (h l))))
       ls k))
 
   record-says : (s n : ℕ) → s < 2 → Gives Recorded (recordRefusal s n (sheetOf library user s))
-  unfolding recordRefusal recordTests elem any all
+  unfolding recordRefusal recordTests elem any all recordNumbers
   record-says s n h = along-says recordTests (λ l. tt) (locatedIn s n (sheetOf library user s)) (all-stand library user s n h)
 
   form-says : Gives Recorded (formRefusal library user)
-  unfolding formRefusal formTests elem any all
+  unfolding formRefusal formTests elem any all recordNumbers
   form-says = along-says (formTests (group library user) (classCount library) (total library user)) (λ l. tt) (located library user) (both-stand library user)
 
   deemed-says : Gives Recorded (deemedRefusal library user)
-  unfolding deemedRefusal deemedTests elem any all
+  unfolding deemedRefusal deemedTests elem any all recordNumbers
   deemed-says = along-says (deemedTests (group library user) (classCount library)) (λ l. tt) (located library user) (both-stand library user)
 
   -- 7, of a library without classes
   no-class-says : Gives Present (noClassRefusal library)
-  unfolding noClassRefusal elem any
+  unfolding noClassRefusal elem any presentNumbers recordNumbers
   no-class-says = gives-if Present _ 7 0 (length library) (λ t. (tt, noClass (eqb→eq (classCount library) 0 t) refl))
 
-  -- 12 to 15
+  -- a number that blames no record
   plain-says : (numbers : List ℕ) (b : Bool) (n : ℕ) → T (elem n plainNumbers) → T (elem n numbers) → Gives (Says numbers Later) (refusePlain b n)
-  unfolding refusePlain elem any all
+  unfolding refusePlain elem any all plainNumbers
   plain-says numbers b n q h =
       gives-if (Says numbers Later) b n 0 0
-      (λ t. (
-        h,
-        (
-          leb→le 3 n (at-number (leb 3) plainNumbers tt n q),
-          plain (leb→le 12 n (at-number (leb 12) plainNumbers tt n q)) (leb→le n 15 (at-number (λ m. leb m 15) plainNumbers tt n q)),
-        ),
-      ))
+      (λ t. (h, (leb→le 3 n (at-number (leb 3) plainNumbers tt n q), plain q)))
 
   sheet-says : Gives Present (sheetRefusal library user)
   unfolding sheetRefusal
@@ -220,7 +203,7 @@ module _ (numbers : List ℕ) (among : T (all (λ n. elem n numbers) presentNumb
   number-among r h = at-number (λ n. elem n numbers) presentNumbers among (r .number) (h .0)
 
   later-new : (library new : List ℕ) → Gives (Says numbers (Later library new)) (newRefusal library new)
-  unfolding elem any all
+  unfolding elem any all recordNumbers presentNumbers
   later-new library new =
       gives-weaken (Recorded library new) (Says numbers (Later library new))
       (λ r h. (
@@ -245,7 +228,8 @@ module _ (numbers : List ℕ) (among : T (all (λ n. elem n numbers) presentNumb
       go (some r) e h = (number-among r h, first r e (h .1))
 
 pub refusals-hold : RefusalsHold
-unfolding judgeRefusal addRefusal replaceRefusal queryRefusal shortRefusal noUserRefusal unusedRefusal groupRefusal roomRefusal judgeNumbers addNumbers replaceNumbers queryNumbers elem any all
+unfolding judgeRefusal addRefusal replaceRefusal withdrawRefusal queryRefusal shortRefusal noUserRefusal unusedRefusal groupRefusal roomRefusal emptyRefusal namedRefusal
+    fewLinesRefusal recordNumbers plainNumbers presentNumbers judgeNumbers addNumbers replaceNumbers withdrawNumbers queryNumbers elem any all
 refusals-hold library user used =
     let now : List ℕ = take used user in
     record {
@@ -266,6 +250,9 @@ refusals-hold library user used =
               (plain-says library new replaceNumbers _ 15 tt tt, (later-new replaceNumbers tt library new, (plain-says library new replaceNumbers _ 12 tt tt, tt))),
             ),
           );
+      withdraw = λ lines.
+          refuses withdrawNumbers tt library user used now (Blames library now) (λ r e h. h) (λ r e h. h .1) _
+          (plain-says library now withdrawNumbers _ 13 tt tt, (plain-says library now withdrawNumbers _ 17 tt tt, (plain-says library now withdrawNumbers _ 12 tt tt, tt)));
       query = λ c.
           refuses queryNumbers tt library user used now (Blames library now) (λ r e h. h) (λ r e h. h .1) _ (plain-says library now queryNumbers _ 13 tt tt, tt);
     }

@@ -16,8 +16,9 @@ use Rattle.spec.specs.Classes.{hasMarker, inside, lineage, root, buildsInside, 
 use Rattle.spec.specs.Rules.{Verdict, clean, dependencies}
 use Rattle.spec.specs.Relations.{At, Superclass, Encloser, Implements, References, Depends, Marked, Lineage, Root, Inside, Chain, Captures}
 use Rattle.spec.specs.Breaks.{Not, Flag, Breaks}
-use Rattle.spec.specs.Refusals.{Refusal, Accepted, addedSheet, replacedSheet, judgeNumbers, addNumbers, replaceNumbers, queryNumbers, judgeRefusal}
-use Rattle.spec.specs.Refusals.{addRefusal, replaceRefusal, queryRefusal, sheetRefusal, newRefusal, presentRefusal, wholeGroup}
+use Rattle.spec.specs.Refusals.{Refusal, Accepted, addedSheet, replacedSheet, withdrawnSheet, lastClass, recordNumbers, plainNumbers, judgeNumbers, addNumbers, replaceNumbers}
+use Rattle.spec.specs.Refusals.{withdrawNumbers, queryNumbers, judgeRefusal, addRefusal, replaceRefusal, withdrawRefusal, queryRefusal, sheetRefusal, newRefusal, presentRefusal}
+use Rattle.spec.specs.Refusals.{emptyRefusal, namedRefusal, wholeGroup}
 use Rattle.spec.specs.Verdicts.{verdictAt}
 
 -- ---- the computed definitions are document 01's relations
@@ -113,12 +114,12 @@ pub data Blames (library user : List ℕ) : Refusal → Type 0 where
   size : {s : ℕ} → s < 2 → Blames library user (record { number = 1; sheet = s; byte = 0 })
   -- 2: the record that is not whole begins after the last whole one
   torn : {s byte : ℕ} → s < 2 → byte ≡ wholeEnd (sheetOf library user s) → Blames library user (record { number = 2; sheet = s; byte = byte })
-  -- 3 to 11: a record of the sheet begins there
-  at : {n s k byte : ℕ} → 3 ≤ n → n ≤ 11 → s < 2 → Begins (sheetOf library user s) k byte → Blames library user (record { number = n; sheet = s; byte = byte })
+  -- a number that blames a record: one of the sheet begins there
+  at : {n s k byte : ℕ} → T (elem n recordNumbers) → s < 2 → Begins (sheetOf library user s) k byte → Blames library user (record { number = n; sheet = s; byte = byte })
   -- 7: a library without classes, at its end
   noClass : {byte : ℕ} → classCount library ≡ 0 → byte ≡ length library → Blames library user (record { number = 7; sheet = 0; byte = byte })
-  -- 12 to 15: sheet 0, byte 0
-  plain : {n : ℕ} → 12 ≤ n → n ≤ 15 → Blames library user (record { number = n; sheet = 0; byte = 0 })
+  -- a number that blames none: sheet 0, byte 0
+  plain : {n : ℕ} → T (elem n plainNumbers) → Blames library user (record { number = n; sheet = 0; byte = 0 })
 
 -- for Add and Replace: a refusal of the present sheets blames those, any other one the new sheet, with neither 1 nor 2
 pub data BlamesEdit (library user : List ℕ) (used : ℕ) (new : List ℕ) (r : Refusal) : Type 0 where
@@ -136,6 +137,7 @@ pub record Refusals (library user : List ℕ) (used : ℕ) : Type 0 where
       → Refuses addNumbers (BlamesEdit library user used (addedSheet (take used user) g)) (addRefusal library user used g lines scratch)
   pub replace : (c : ℕ) (g : List ℕ) (lines scratch : ℕ)
       → Refuses replaceNumbers (BlamesEdit library user used (replacedSheet library (take used user) c g)) (replaceRefusal library user used c g lines scratch)
+  pub withdraw : (lines : ℕ) → Refuses withdrawNumbers (Blames library (take used user)) (withdrawRefusal library user used lines)
   pub query : (c : ℕ) → Refuses queryNumbers (Blames library (take used user)) (queryRefusal library user used c)
 
 abbrev pub RefusalsHold : Type 0
@@ -148,3 +150,16 @@ NewSheets =
     (library user : List ℕ) (used : ℕ) → presentRefusal library user used ≡ none → (g : List ℕ) → T (wholeGroup g)
     → (sheetRefusal library (addedSheet (take used user) g) ≡ newRefusal library (addedSheet (take used user) g))
     × ((c : ℕ) → sheetRefusal library (replacedSheet library (take used user) c g) ≡ newRefusal library (replacedSheet library (take used user) c g))
+
+-- ---- document 02, C-12: the sheets that a withdrawal leaves are accepted, where no other class names the last one
+
+abbrev pub WithdrawnSheets : Type 0
+WithdrawnSheets =
+    (library user : List ℕ) → sheetRefusal library user ≡ none → emptyRefusal user ≡ none → namedRefusal library user ≡ none
+    → sheetRefusal library (withdrawnSheet user) ≡ none
+
+-- the test for 17 is the request's sentence, "another class names the last one"
+abbrev pub NamedRight : Type 0
+NamedRight =
+    (library user : List ℕ) → 1 ≤ total library user
+    → (namedRefusal library user ≡ none) ↔ ((c : ℕ) → References (group library user c) (lastClass library user) → c ≡ lastClass library user)

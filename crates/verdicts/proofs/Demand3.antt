@@ -1,6 +1,6 @@
 -- Demand 3 of the row of structs, from that of the flat row: after `write` the slice reads line by line what the flat row reads.
 -- Assumes nothing.
-use mathlib.Core.Path.{_≡_, sym, ap, _∙_, subst}
+use mathlib.Core.Path.{_≡_, sym, _∙_, subst}
 use mathlib.Core.Option.{none}
 use mathlib.Core.List.{List, [], _∷_}
 use Prim.Native.Nat.{ℕ, _≤_, _<_}
@@ -15,12 +15,12 @@ use Rattle.history.specs.Judged.{RightAt}
 use Rattle.history.specs.Model.{Model, sheet, used, buffer, modelStep}
 use Rattle.history.specs.Demand3.{Done, Agrees, Follows}
 use Rattle.history.proofs.Model.{front-is}
-use Rattle.history.proofs.Unrefused.{short-none, none-short}
+use Rattle.theory.proofs.Unrefused.{short-none, none-short}
 use Rattle.history.proofs.Demand3.{flat-demand3}
 use Rattle.verdicts.specs.Row.{structs, lineAt, written}
 use Rattle.verdicts.specs.Demand3.{withLines, holding, WrittenFollows, StructDemand3}
 use Rattle.verdicts.specs.declared.Verdict.{Verdict}
-use Rattle.verdicts.proofs.Filling.{written-length, written-at}
+use Rattle.verdicts.proofs.Filling.{written-length, reads-flat}
 
 -- ---- as many lines as classes are enough, whatever their number
 
@@ -42,9 +42,7 @@ module _ (m : Model) where
 
 module _ (m : Model) (s : State flat) (a : Agrees flat m s) (row : List Verdict) (n : ℕ) (fits : classCount (sheet m) ≤ length row) (all : classCount (sheet m) ≤ n) where
   reads : (i : ℕ) → i < classCount (sheet m) → lineAt (written (s .verdicts) row n) i ≡ flatAt (s .verdicts) i
-  unfolding lineAt flatAt
-  reads i h = ap (λ (v : Verdict). record { rule = v .rule; recordNumber = v .«record» })
-      (written-at (s .verdicts) row n i (omega (arith, a .lines-are, enough m (m .lines) (a .accepted))))
+  reads i h = reads-flat (s .verdicts) row n i (omega (arith, a .lines-are, enough m (m .lines) (a .accepted)))
 
   agrees : Agrees structs (withLines m (length row)) (holding s (written (s .verdicts) row n))
   unfolding sheet used buffer

@@ -2,20 +2,25 @@
 -- Assumes nothing.
 use mathlib.Core.Path.{_≡_, refl, sym, ap, _∙_}
 use mathlib.Core.List.{List, [], _∷_, _++_, append-assoc}
-use Prim.Native.Nat.{ℕ, zero, suc, _+_, _/_, _≤_, _<_, min}
+use Prim.Native.Nat.{ℕ, zero, suc, _+_, _-_, _/_, _≤_, _<_, min}
 use native.Mathlib.Numerals.{add-one}
 use native.Mathlib.Omega.{arith}
 use lib.ListN.{length, getD, set, drop, length-append, length-drop, List·getD-append}
-use lib.Seq.{drop-cons, set-at, getD-at}
+use lib.Seq.{drop-cons, set-at, getD-at, getD-drop, getD-append-add}
 use borrow.Author.Count.{below-more}
+use Rattle.spec.specs.Rules as spec
 use Rattle.spec.specs.Verdicts.{verdictBytes, flatLines, flatAt}
-use Rattle.verdicts.specs.Row.{clean, lineOf, shared, firstLines, written}
+use Rattle.verdicts.specs.Row.{clean, lineOf, lineAt, shared, firstLines, written}
 use Rattle.verdicts.specs.declared.Verdict.{Verdict}
 
 -- how many lines there are, told from the flat row's bytes
 pub shared-is : (flat : List ℕ) (n lines : ℕ) {k : ℕ} → k ≡ min (min n lines) (length flat / verdictBytes) → k ≡ shared n lines flat
 unfolding flatLines
 shared-is flat n lines e = e
+
+-- a line as it is read
+read : Verdict → spec.Verdict
+read v = record { rule = v .rule; recordNumber = v .«record» }
 
 module _ (flat : List ℕ) where
   abbrev pub line : ℕ → Verdict
@@ -68,8 +73,23 @@ module _ (flat : List ℕ) where
       written-length = filled-length (shared n (length row) flat) (omega arith)
 
       -- the slice reads what the flat row reads
-      pub written-at : (i : ℕ) → i < shared n (length row) flat → getD (written flat row n) i clean ≡ line i
+      written-at : (i : ℕ) → i < shared n (length row) flat → getD (written flat row n) i clean ≡ line i
       unfolding written
       written-at i h =
           let k : ℕ = shared n (length row) flat in
           List·getD-append (firstLines flat k) (drop k row) clean i (omega (arith, first-length k)) ∙ first-at k i h
+
+      pub reads-flat : (i : ℕ) → i < shared n (length row) flat → lineAt (written flat row n) i ≡ flatAt flat i
+      unfolding lineAt flatAt read
+      reads-flat i h = ap read (written-at i h)
+
+      -- and past the lines that were written what it read before
+      pub reads-row : (i : ℕ) → shared n (length row) flat ≤ i → lineAt (written flat row n) i ≡ lineAt row i
+      unfolding lineAt written read
+      reads-row i h =
+          let k : ℕ = shared n (length row) flat in
+          let z : length (firstLines flat k) + (i - k) ≡ i = omega (arith, first-length k) in
+          ap read
+          (ap (λ (j : ℕ). getD (firstLines flat k ++ drop k row) j clean) (sym z)
+          ∙ getD-append-add (firstLines flat k) (drop k row) (i - k) clean ∙ getD-drop k row (i - k) clean
+          ∙ ap (λ (j : ℕ). getD row j clean) (let y : k + (i - k) ≡ i = omega arith in y))

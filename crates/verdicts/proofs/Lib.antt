@@ -1,5 +1,6 @@
 pub mod Counting
 pub mod Demand3
+pub mod Undo
 pub mod Filling
 pub mod Lending
 pub mod Lines

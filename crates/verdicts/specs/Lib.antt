@@ -1,2 +1,3 @@
 pub mod Row
 pub mod Demand3
+pub mod Undo

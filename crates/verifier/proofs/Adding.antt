@@ -11,7 +11,7 @@ use lib.ListN.{length, take, length-take, drop-of-length-le}
 use borrow.Author.Tests.{eq-eqb, ne-eqb}
 use Rattle.spec.specs.Lists.{concat}
 use Rattle.spec.specs.Sheet.{groupsOf, classCount, total}
-use Rattle.spec.specs.Verdicts.{flatLines, flat}
+use Rattle.spec.specs.Verdicts.{userVerdict, flatLines, flat}
 use Rattle.spec.specs.Refusals.{Refusal, presentRefusal, addedSheet, addRefusal}
 use Rattle.spec.specs.Promises.{Answer, refused, accepted, answerOf, State, Makes, addition}
 use Rattle.theory.proofs.Answers.{first-some, skip-none, first-none}
@@ -22,7 +22,8 @@ use Rattle.view.specs.declared.Cut.{Cut}
 use Rattle.view.specs.View.{Sits, spliced}
 use Rattle.view.proofs.Splice.{added}
 use Rattle.admit.specs.Admitting.{admitRefusal, Plain}
-use Rattle.queries.proofs.Asking.{used-there, some-row, answer-refused, answer-fine, told-fine, told-refused}
+use Rattle.theory.proofs.Promised.{answer-refused, answer-fine, told-fine, told-refused}
+use Rattle.form.proofs.Unrefused.{used-there, some-row}
 use Rattle.verifier.specs.Changing.{touches, putting, Puts}
 use Rattle.verifier.proofs.Editing.{edit-refused, makes-as}
 
@@ -37,9 +38,9 @@ module _ (library user : List ℕ) (used : ℕ) (verdicts scratch g : List ℕ) 
   abbrev last : ℕ
   last = total library (take used user)
 
-  pub add-present : {r : Refusal} → presentRefusal library user used ≡ some r → Makes flat library (addition flat library held g (length scratch)) held scratch (refused r) held scratch
+  pub add-present : {r : Refusal} → presentRefusal library user used ≡ some r → Makes flat (addition flat library held g (length scratch)) held scratch (refused r) held scratch
   unfolding addition addRefusal
-  add-present o = edit-refused library (addition flat library held g (length scratch)) held scratch (first-some _ o)
+  add-present o = edit-refused (addition flat library held g (length scratch)) held scratch (first-some _ o)
 
   module _ (o : presentRefusal library user used ≡ none) where
     now : Sound library (take used user)
@@ -94,16 +95,17 @@ module _ (library user : List ℕ) (used : ℕ) (verdicts scratch g : List ℕ) 
         go (yes e) = eq-eqb (classCount library + i) (classCount library + classCount (take used user)) (omega arith) ∙ sym (eq-eqb i (classCount (take used user)) e)
         go (no n) = ne-eqb (classCount library + i) (classCount library + classCount (take used user)) (λ q. n (omega arith)) ∙ sym (ne-eqb i (classCount (take used user)) n)
 
-    module _ {answer : Answer ℕ} {after : State flat} {cleaned : List ℕ} (m : Makes flat library (putting library held g end last (length scratch)) held scratch answer after cleaned) where
+    module _ {answer : Answer ℕ} {after : State flat} {cleaned : List ℕ} (m : Makes flat (putting library held g end last (length scratch)) held scratch answer after cleaned) where
       made : {answer′ : Answer ℕ} → answer′ ≡ answerOf (addRefusal library user used g (flatLines verdicts) (length scratch)) last
-          → Makes flat library (addition flat library held g (length scratch)) held scratch answer′ after cleaned
+          → Makes flat (addition flat library held g (length scratch)) held scratch answer′ after cleaned
       unfolding putting addition
-      made e = makes-as library (putting library held g end last (length scratch)) (addition flat library held g (length scratch)) (sym refusal-is) added-is touched m e
+      made e =
+          makes-as (putting library held g end last (length scratch)) (addition flat library held g (length scratch)) (sym refusal-is) added-is touched (ap (userVerdict library) added-is) m e
 
-      pub add-turned : {r : Refusal} → answer ≡ refused r → Makes flat library (addition flat library held g (length scratch)) held scratch (refused r) after cleaned
+      pub add-turned : {r : Refusal} → answer ≡ refused r → Makes flat (addition flat library held g (length scratch)) held scratch (refused r) after cleaned
       unfolding putting
-      add-turned e = made (answer-refused _ (refusal-is ∙ told-refused _ _ (sym e ∙ m .answered)))
+      add-turned e = made (answer-refused _ (refusal-is ∙ told-refused _ _ (sym e ∙ m .changes .answered)))
 
-      pub add-made : {v : ℕ} → answer ≡ accepted v → {c : ℕ} → c ≡ last → Makes flat library (addition flat library held g (length scratch)) held scratch (accepted c) after cleaned
+      pub add-made : {v : ℕ} → answer ≡ accepted v → {c : ℕ} → c ≡ last → Makes flat (addition flat library held g (length scratch)) held scratch (accepted c) after cleaned
       unfolding putting
-      add-made e ec = made (ap accepted ec ∙ answer-fine _ (refusal-is ∙ told-fine _ _ (sym e ∙ m .answered) .0))
+      add-made e ec = made (ap accepted ec ∙ answer-fine _ (refusal-is ∙ told-fine _ _ (sym e ∙ m .changes .answered) .0))

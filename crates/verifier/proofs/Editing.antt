@@ -12,8 +12,8 @@ use lib.Seq.{take-at}
 use borrow.Author.Tests.{ne-eqb, le-ltb, ltb-true, ltb-false}
 use Rattle.spec.specs.Lists.{count, span}
 use Rattle.spec.specs.Sheet.{classCount, total, group}
-use Rattle.spec.specs.Rules.{verdictOf}
-use Rattle.spec.specs.Verdicts.{userVerdict, flatLines, flatRewritten, flat, dependsOn}
+use Rattle.spec.specs.Rules.{Verdict, verdictOf}
+use Rattle.spec.specs.Verdicts.{flatLines, flatRewritten, flat, dependsOn}
 use Rattle.spec.specs.Refusals.{Refusal}
 use Rattle.spec.specs.Promises.{Answer, answerOf, afterwards, refused, accepted, cleared, bufferWith, State, Edit, edited, Makes}
 use Rattle.theory.proofs.FlatRow.{rewritten-same}
@@ -22,28 +22,21 @@ use Rattle.view.specs.View.{spliced}
 use Rattle.admit.specs.Admitting.{admitRefusal}
 use Rattle.admit.proofs.Turning.{Admitted}
 use Rattle.flat.specs.Row.{chosen, markedIn}
-use Rattle.queries.proofs.Asking.{answer-refused, answer-fine}
+use Rattle.theory.proofs.Promised.{kept-refused, new-fine, changes-refused, changes-made}
 use Rattle.view.specs.declared.Cut.{Cut}
 use Rattle.verifier.specs.Changing.{touches, Touched, putting}
-use Rattle.verifier.proofs.Verdicts.{kept-refused, new-fine, changed-row}
+use Rattle.verifier.proofs.Verdicts.{changed-row}
 
--- ---- any edit
+-- ---- any edit that is lent a scratch
 
-module _ (library : List ℕ) (e : Edit) (before : State flat) (scratch : List ℕ) where
-  pub edit-refused : {r : Refusal} → e .refusal ≡ some r → Makes flat library e before scratch (refused r) before scratch
-  edit-refused o = record { answered = answer-refused _ o; user-is = kept-refused _ _ o; used-is = kept-refused _ _ o; verdicts-are = kept-refused _ _ o; scratch-is = kept-refused _ _ o }
+module _ (e : Edit) (before : State flat) (scratch : List ℕ) where
+  pub edit-refused : {r : Refusal} → e .refusal ≡ some r → Makes flat e before scratch (refused r) before scratch
+  edit-refused o = record { changes = changes-refused flat e before o; scratch-is = kept-refused _ _ o }
 
-  pub edit-made : e .refusal ≡ none → {value used : ℕ} {user verdicts cleaned : List ℕ} → value ≡ e .answer → user ≡ bufferWith (e .sheet) (before .user) (before .used) → used ≡ length (e .sheet)
-      → verdicts ≡ flatRewritten (e .changed) (userVerdict library (e .sheet)) (before .verdicts) → cleaned ≡ cleared scratch
-      → Makes flat library e before scratch (accepted value) (record { user = user; used = used; verdicts = verdicts }) cleaned
-  unfolding edited
-  edit-made o ev eu en er es = record {
-    answered = ap accepted ev ∙ answer-fine _ o;
-    user-is = eu ∙ new-fine _ _ o;
-    used-is = en ∙ new-fine _ _ o;
-    verdicts-are = er ∙ new-fine _ _ o;
-    scratch-is = es ∙ new-fine _ _ o;
-  }
+  edit-made : e .refusal ≡ none → {value used : ℕ} {user verdicts cleaned : List ℕ} → value ≡ e .answer → user ≡ bufferWith (e .sheet) (before .user) (before .used) → used ≡ length (e .sheet)
+      → verdicts ≡ flatRewritten (e .changed) (e .verdict) (before .verdicts) → cleaned ≡ cleared scratch
+      → Makes flat e before scratch (accepted value) (record { user = user; used = used; verdicts = verdicts }) cleaned
+  edit-made o ev eu en er es = record { changes = changes-made flat e before o ev eu en er; scratch-is = es ∙ new-fine _ _ o }
 
 -- ---- a group put in
 
@@ -86,36 +79,38 @@ module _ (library user : List ℕ) (used : ℕ) (verdicts scratch g : List ℕ) 
   abbrev pub new : List ℕ
   new = spliced user g cut
 
-  pub put-refused : {r : Refusal} → admitRefusal library user g new (flatLines verdicts) (length scratch) ≡ some r → Makes flat library put held scratch (refused r) held scratch
+  pub put-refused : {r : Refusal} → admitRefusal library user g new (flatLines verdicts) (length scratch) ≡ some r → Makes flat put held scratch (refused r) held scratch
   unfolding putting
-  put-refused e = edit-refused library put held scratch e
+  put-refused e = edit-refused put held scratch e
 
   module _ {nlib n : ℕ} {row memo : List ℕ} (a : Admitted library user g new (flatLines verdicts) (length scratch) nlib n row memo) (eu : cut .used ≡ used) (there : c < n) where
     pub put-made : {marks : List ℕ} → Touched library new cut c marks → {value used′ : ℕ} {user′ verdicts′ cleaned : List ℕ} → value ≡ markedIn marks n
         → user′ ≡ bufferWith new user (cut .used) → used′ ≡ length new
         → verdicts′ ≡ flatRewritten (chosen nlib n marks) (λ i. verdictOf nlib (group library new) (nlib + i)) verdicts → cleaned ≡ cleared scratch
-        → Makes flat library put held scratch (accepted value) (record { user = user′; used = used′; verdicts = verdicts′ }) cleaned
+        → Makes flat put held scratch (accepted value) (record { user = user′; used = used′; verdicts = verdicts′ }) cleaned
     unfolding putting
     put-made {marks} t ev ew en er es =
-        edit-made library put held scratch (a .unrefused)
+        edit-made put held scratch (a .unrefused)
         (touched-counted library new cut c (a .n-is) there t ev) (ew ∙ ap (bufferWith new user) eu) en
         (changed-row library new n (a .nlib-is) verdicts marks (λ i. touches library new cut c (classCount library + i))
         (λ i. touched-chosen library new cut c (a .n-is) there t nlib i ∙ ap (λ (m : ℕ). touches library new cut c (m + i)) (a .nlib-is)) er) es
 
 -- ---- one edit for another
 
--- two edits with the same refusal, sheet and touched classes
-pub makes-as : (library : List ℕ) (e e′ : Edit) → e .refusal ≡ e′ .refusal → e .sheet ≡ e′ .sheet → ((i : ℕ) → e .changed i ≡ e′ .changed i)
-    → {before after : State flat} {scratch cleaned : List ℕ} {answer answer′ : Answer ℕ} → Makes flat library e before scratch answer after cleaned
-    → answer′ ≡ answerOf (e′ .refusal) (e′ .answer) → Makes flat library e′ before scratch answer′ after cleaned
+-- two edits with the same refusal, sheet, touched classes and verdicts
+pub makes-as : (e e′ : Edit) → e .refusal ≡ e′ .refusal → e .sheet ≡ e′ .sheet → ((i : ℕ) → e .changed i ≡ e′ .changed i) → e .verdict ≡ e′ .verdict
+    → {before after : State flat} {scratch cleaned : List ℕ} {answer answer′ : Answer ℕ} → Makes flat e before scratch answer after cleaned
+    → answer′ ≡ answerOf (e′ .refusal) (e′ .answer) → Makes flat e′ before scratch answer′ after cleaned
 unfolding edited
-makes-as library e e′ er es ec {before} {scratch = scratch} m ea = record {
-  answered = ea;
-  user-is = m .user-is ∙ ap₂ (λ (o : Option Refusal) (s : List ℕ). afterwards o (before .user) (bufferWith s (before .user) (before .used))) er es;
-  used-is = m .used-is ∙ ap₂ (λ (o : Option Refusal) (s : List ℕ). afterwards o (before .used) (length s)) er es;
-  verdicts-are =
-      m .verdicts-are
-      ∙ ap (afterwards (e .refusal) (before .verdicts)) (rewritten-same (userVerdict library (e .sheet)) (before .verdicts) (e .changed) (e′ .changed) ec)
-      ∙ ap₂ (λ (o : Option Refusal) (s : List ℕ). afterwards o (before .verdicts) (flatRewritten (e′ .changed) (userVerdict library s) (before .verdicts))) er es;
+makes-as e e′ er es ec ev {before} {scratch = scratch} m ea = record {
+  changes = record {
+    answered = ea;
+    user-is = m .changes .user-is ∙ ap₂ (λ (o : Option Refusal) (s : List ℕ). afterwards o (before .user) (bufferWith s (before .user) (before .used))) er es;
+    used-is = m .changes .used-is ∙ ap₂ (λ (o : Option Refusal) (s : List ℕ). afterwards o (before .used) (length s)) er es;
+    verdicts-are =
+        m .changes .verdicts-are
+        ∙ ap (afterwards (e .refusal) (before .verdicts)) (rewritten-same (e .verdict) (before .verdicts) (e .changed) (e′ .changed) ec)
+        ∙ ap₂ (λ (o : Option Refusal) (v : ℕ → Verdict). afterwards o (before .verdicts) (flatRewritten (e′ .changed) v (before .verdicts))) er ev;
+  };
   scratch-is = m .scratch-is ∙ ap (λ (o : Option Refusal). afterwards o scratch (cleared scratch)) er;
 }

@@ -12,8 +12,8 @@ use lib.ListN.{length, getD, take, drop, length-take, List·getD-append}
 use lib.Seq.{take-take}
 use borrow.Author.Tests.{ne-eqb, lt-ltb, le-ltb, le-leb, lt-leb}
 use Rattle.spec.specs.Lists.{firstOf, concat, count, span}
-use Rattle.spec.specs.Sheet.{groupsOf, classCount, groupStart, total, group}
-use Rattle.spec.specs.Verdicts.{flatLines, flat, dependsOn, dependentCount}
+use Rattle.spec.specs.Sheet.{groupsOf, classCount, groupStart, total}
+use Rattle.spec.specs.Verdicts.{userVerdict, flatLines, flat, dependsOn, dependentCount}
 use Rattle.spec.specs.Refusals.{Refusal, refuseIf, refusePlain, presentRefusal, noUserRefusal, replacedSheet, replaceRefusal}
 use Rattle.spec.specs.Promises.{Answer, answerOf, refused, State, Edit, Makes, replacement}
 use Rattle.laws.proofs.Rows.{length-values, getD-values}
@@ -29,7 +29,7 @@ use Rattle.groups.proofs.Held.{Held, in-user, group-tiled, class-there}
 use Rattle.groups.proofs.Few.{classes-ordered}
 use Rattle.reach.specs.Reach.{dependentRow}
 use Rattle.admit.specs.Admitting.{admitRefusal}
-use Rattle.queries.proofs.Asking.{used-there, some-row}
+use Rattle.form.proofs.Unrefused.{used-there, some-row}
 use Rattle.form.specs.declared.Refusal.{Refusal as Turned}
 use Rattle.form.specs.Form.{refusalOf}
 use Rattle.verifier.specs.declared.Found.the-variants.{At, Refused}
@@ -107,9 +107,9 @@ module _ (library user : List ℕ) (used c : ℕ) (verdicts scratch g : List ℕ
   why = firstOf (presentRefusal library user used ∷ noUserRefusal library (take used user) c ∷ [])
 
   -- the present sheets are refused, or have no such user class
-  pub replace-stopped : {r : Refusal} → why ≡ some r → Makes flat library edit-of was scratch (refused r) was scratch
+  pub replace-stopped : {r : Refusal} → why ≡ some r → Makes flat edit-of was scratch (refused r) was scratch
   unfolding replacement replaceRefusal
-  replace-stopped o = edit-refused library edit-of was scratch
+  replace-stopped o = edit-refused edit-of was scratch
       (first-append (presentRefusal library user used ∷ noUserRefusal library (take used user) c ∷ []) _ ∙ first-some _ o)
 
   module _ (o : why ≡ none) where
@@ -199,13 +199,13 @@ module _ (library user : List ℕ) (used c : ℕ) (verdicts scratch g : List ℕ
     unfolding touches
     touched d = rw (ne-eqb (cut .from) used (λ e. omega (arith, class-there x below, end-within)), touches)
 
-    pub replace-made : {answer : Answer ℕ} {after : State flat} {cleaned : List ℕ} → Makes flat library (putting library was g cut c (length scratch)) was scratch answer after cleaned
-        → Makes flat library edit-of was scratch answer after cleaned
+    pub replace-made : {answer : Answer ℕ} {after : State flat} {cleaned : List ℕ} → Makes flat (putting library was g cut c (length scratch)) was scratch answer after cleaned
+        → Makes flat edit-of was scratch answer after cleaned
     unfolding putting replacement dependentCount
     replace-made m =
-        makes-as library (putting library was g cut c (length scratch)) edit-of (sym refusal-is) replaced-is
-        (λ i. touched (classCount library + i) ∙ ap (λ (s : List ℕ). dependsOn library s c (classCount library + i)) replaced-is) m
-        (m .answered
+        makes-as (putting library was g cut c (length scratch)) edit-of (sym refusal-is) replaced-is
+        (λ i. touched (classCount library + i) ∙ ap (λ (s : List ℕ). dependsOn library s c (classCount library + i)) replaced-is) (ap (userVerdict library) replaced-is) m
+        (m .changes .answered
         ∙ ap₂ answerOf (sym refusal-is)
         (count-same (touches library (spliced user g cut) cut c) (dependsOn library (spliced user g cut) c) (total library (spliced user g cut)) (λ d h. touched d)
         ∙ ap (λ (s : List ℕ). count (dependsOn library s c) (span 0 (total library s))) replaced-is))

@@ -13,7 +13,7 @@ use Rattle.spec.specs.Sheet.{classCount, total, group}
 use Rattle.spec.specs.Rules.{Verdict, verdictOf}
 use Rattle.spec.specs.Verdicts.{verdictBytes, verdictAt, userVerdict, faulted, faultedCount, flatLines, flatAt, flatRewritten, flat}
 use Rattle.spec.specs.Refusals.{Refusal, scratchLength, refuseIf, refusePlain, presentRefusal, judgeRefusal}
-use Rattle.spec.specs.Promises.{countsOf, afterwards, refused, accepted, cleared, judgedRow, Judges}
+use Rattle.spec.specs.Promises.{countsOf, refused, accepted, cleared, judgedRow, Judges}
 use Rattle.theory.proofs.Answers.{first-past, first-some}
 use Rattle.laws.proofs.Bools.{not-or-l, not-or-r}
 use Rattle.laws.proofs.Count.{count-same}
@@ -26,18 +26,7 @@ use Rattle.form.specs.declared.Checked.the-variants.{Fine, Refused}
 use Rattle.flat.specs.Row.{chosen, faultedIn}
 use Rattle.form.proofs.Accepting.{turned, told}
 use Rattle.admit.proofs.Turning.{short-is}
-use Rattle.queries.proofs.Asking.{answer-refused, answer-fine}
-
--- ---- what a buffer holds
-
-module _ {A : Type 0} {o : Option Refusal} where
-  pub kept-refused : (old new : A) {r : Refusal} → o ≡ some r → old ≡ afterwards o old new
-  unfolding afterwards
-  kept-refused old new e = rw e
-
-  pub new-fine : (old new : A) → o ≡ none → new ≡ afterwards o old new
-  unfolding afterwards
-  new-fine old new e = rw e
+use Rattle.theory.proofs.Promised.{answer-refused, answer-fine, kept-refused, new-fine}
 
 -- ---- the row
 

@@ -9,7 +9,7 @@ use lib.Dec.{T, eqb}
 use lib.ListN.{length, getD, take}
 use Rattle.spec.specs.Lists.{firstOf, count, span}
 use Rattle.spec.specs.Sheet.{classCount, total}
-use Rattle.spec.specs.Verdicts.{flat, flatLines, dependsOn}
+use Rattle.spec.specs.Verdicts.{userVerdict, flat, flatLines, dependsOn}
 use Rattle.spec.specs.Refusals as spec
 use Rattle.spec.specs.Promises.{State, Edit}
 use Rattle.groups.specs.Groups.{startOf, endOf}
@@ -40,6 +40,7 @@ putting library s g cut c scratch =
       sheet = new;
       answer = count (touches library new cut c) (span 0 (total library new));
       changed = λ i. touches library new cut c (classCount library + i);
+      verdict = userVerdict library new;
     }
 
 -- a cut between whole groups of an accepted sheet, and a class that is there once a group is put in

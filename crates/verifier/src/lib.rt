@@ -5,6 +5,7 @@ use edit::write;
 use flat::faulted;
 use flat::marked;
 use flat::rejudge;
+pub use form::Changed;
 use form::Checked;
 pub use form::Refusal;
 use form::UNASKED;
@@ -25,6 +26,7 @@ pub use records::VERDICT_BYTES;
 use records::wide;
 use view::Cut;
 use view::view_len;
+pub use withdraw::withdraw;
 ghost use mathlib.Core.Path.{_≡_};
 ghost use mathlib.Core.Option.{none};
 ghost use Prim.Native.Nat.{_<_};
@@ -34,8 +36,8 @@ ghost use Rattle.spec.specs.Promises.{Judges, Adds, Replaces, Makes};
 ghost use Rattle.spec.specs.Verdicts.{flat};
 ghost use Rattle.spec.specs.Refusals.{presentRefusal, formRefusal};
 ghost use Rattle.groups.specs.Groups.{Indexed};
-ghost use Rattle.form.specs.Form.{checkedOf};
-ghost use Rattle.verifier.specs.Answers.{judgedAnswer, changedAnswer};
+ghost use Rattle.form.specs.Form.{checkedOf, changedAnswer};
+ghost use Rattle.verifier.specs.Answers.{judgedAnswer};
 ghost use Rattle.verifier.specs.Changing.{Touched, Puts, putting, CutOf};
 
 // How many user classes there are and how many are faulted, or the refusal.
@@ -84,12 +86,6 @@ pub fn judge<'a>(
 
 // ---- operations that change the user sheet
 
-// The operation's number, or the refusal.
-pub enum Changed {
-    Fine(usize),
-    Refused(Refusal),
-}
-
 // Writes 0 at each class that an edit touches: an addition, which takes nothing out, touches its class alone; a replacement the classes that depend on it.
 fn touch<'a>(
     library: &'a [u8],
@@ -125,7 +121,7 @@ fn change<'a>(
     scratch: &mut [u8],
 ) -> Changed
     requires { ⌜ Puts (now library) (now user) (now used) (now group) cut class ⌝ }
-    ensures { λ r. ⌜ Makes flat (now (library .entry))
+    ensures { λ r. ⌜ Makes flat
         (putting (now (library .entry)) (record { user = now (user .entry); used = now (used .entry); verdicts = now (verdicts .entry) })
         (now (group .entry)) cut class (length (now (scratch .entry))))
         (record { user = now (user .entry); used = now (used .entry); verdicts = now (verdicts .entry) }) (now (scratch .entry)) (changedAnswer r)

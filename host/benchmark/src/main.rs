@@ -88,6 +88,8 @@ fn time_others(family: &Family) {
     let times = measure(|verifier| operations::replace(verifier, family, class));
     let operation = format!("replace, dependents {dependents}");
     print_row(family, &operation, times, "");
+    let times = measure(|verifier| operations::withdraw(verifier, family));
+    print_row(family, "withdraw", times, "");
     let times = measure(|verifier| operations::name(verifier, family));
     print_row(family, "name", times, "");
     let times = measure(|verifier| operations::marks(verifier, family));

@@ -31,6 +31,13 @@ impl<'a> Desk<'a> {
         (desk, group)
     }
 
+    /// With the last class added again, so that no other class names it, and its group.
+    pub fn with_last_unnamed(verifier: &'a Verifier, family: &'a Family) -> (Desk<'a>, Vec<u8>) {
+        let (mut desk, group) = Desk::without_last(verifier, family);
+        desk.add(&group);
+        (desk, group)
+    }
+
     fn new(verifier: &'a Verifier, library: &'a [u8], user: Vec<u8>) -> Desk<'a> {
         let mut desk = Desk {
             verifier,
@@ -65,7 +72,8 @@ impl<'a> Desk<'a> {
         ));
     }
 
-    /// Takes back the group that was added last.
+    /// Takes back the group that was added last. By hand, so that nothing of the verifier runs
+    /// between additions.
     pub fn take_back(&mut self, group: &[u8]) {
         self.used -= group.len();
         self.user[self.used..].fill(0);
@@ -81,6 +89,23 @@ impl<'a> Desk<'a> {
             &mut self.verdicts,
             &mut self.scratch,
         ));
+    }
+
+    pub fn withdraw(&mut self) {
+        accepted((self.verifier.withdraw)(
+            self.library,
+            &mut self.user,
+            &mut self.used,
+            &mut self.verdicts,
+        ));
+    }
+
+    /// Puts back the group that was withdrawn, by hand too. Its verdict stays 0 0, which no
+    /// withdrawal reads.
+    pub fn put_back(&mut self, group: &[u8]) {
+        let start = self.used;
+        self.used += group.len();
+        self.user[start..self.used].copy_from_slice(group);
     }
 
     pub fn name(&self, class: usize) {

@@ -12,12 +12,13 @@ pub enum Call {
     Judge,
     Add,
     Replace(usize),
+    Withdraw,
     Name(usize),
     Marks(usize),
 }
 
 /// The operations, in the order of their numbers.
-pub const OPERATIONS: [&str; 5] = ["judge", "add", "replace", "name", "marks"];
+pub const OPERATIONS: [&str; 6] = ["judge", "add", "replace", "withdraw", "name", "marks"];
 
 impl Call {
     pub fn operation(self) -> usize {
@@ -25,8 +26,9 @@ impl Call {
             Call::Judge => 0,
             Call::Add => 1,
             Call::Replace(_) => 2,
-            Call::Name(_) => 3,
-            Call::Marks(_) => 4,
+            Call::Withdraw => 3,
+            Call::Name(_) => 4,
+            Call::Marks(_) => 5,
         }
     }
 }
@@ -115,6 +117,9 @@ macro_rules! answer {
                 let user = user.part_mut();
                 $verifier::replace(library, user, used, class, group, verdicts, scratch)
                     .map(Value::from)
+            }
+            Call::Withdraw => {
+                $verifier::withdraw(library, user.part_mut(), used, verdicts).map(Value::from)
             }
             Call::Name(class) => {
                 $verifier::name(library, user.part(), *used, class).map(Value::from)

@@ -2,6 +2,7 @@
 
 use kerdzhusi::{SCRATCH_BYTES, VERDICT_BYTES};
 
+use crate::addition::Addition;
 use crate::call::{ask_kerdzhusi, ask_reference, Answer, Call, Value};
 use crate::lent::Side;
 
@@ -12,6 +13,10 @@ pub struct Desk {
     before: Side,
     /// Are the verdicts those of the present sheets?
     pub judged: bool,
+    /// The last call, if it was an addition that was accepted.
+    pub addition: Option<Addition>,
+    /// Did the last call take back an addition right before it?
+    pub undone: bool,
     /// For judging from nothing; all zero.
     scratch: Vec<u8>,
 }
@@ -30,6 +35,8 @@ impl Desk {
             before: side.clone(),
             theirs: side,
             judged: false,
+            addition: None,
+            undone: false,
             scratch: vec![0; SCRATCH_BYTES],
         }
     }
@@ -66,10 +73,28 @@ impl Desk {
         match (call, ours.0) {
             (_, Err(_)) => self.require_unchanged()?,
             (Call::Judge, Ok(_)) => self.judged = true,
-            (Call::Add | Call::Replace(_), Ok(_)) => self.judge_from_nothing()?,
+            (Call::Add | Call::Replace(_) | Call::Withdraw, Ok(_)) => self.judge_from_nothing()?,
             _ => {}
         }
+        self.follow_addition(call, ours)?;
         Ok(ours)
+    }
+
+    /// A withdrawal right after an addition takes it back, if it is lent enough.
+    fn follow_addition(&mut self, call: Call, answer: Answer) -> Result<(), String> {
+        let added = self.addition.take();
+        self.undone = false;
+        match (call, answer.0, added) {
+            (Call::Add, Ok(Value::Number(class)), _) => {
+                self.addition = Some(Addition::new(class, &self.before));
+            }
+            (Call::Withdraw, _, Some(added)) if added.must_be_undone(&self.before) => {
+                self.undone = true;
+                added.require_undone(answer, &self.ours)?;
+            }
+            _ => {}
+        }
+        Ok(())
     }
 
     fn require_unchanged(&self) -> Result<(), String> {

@@ -51,6 +51,7 @@ impl<'a> History<'a> {
         for _ in 0..self.draw_length() {
             let (call, answer) = self.step()?;
             tally.count(call, answer, self.desk.side());
+            tally.undone += self.desk.undone as u64;
         }
         Ok(())
     }
@@ -73,6 +74,8 @@ impl<'a> History<'a> {
         let before = if self.random.percent(12) {
             let before = self.desk.side().clone();
             self.distort();
+            // What comes now does not follow it at once.
+            self.desk.addition = None;
             Some(before)
         } else {
             None
@@ -99,22 +102,27 @@ impl<'a> History<'a> {
 
     fn draw_call(&mut self) -> Call {
         let classes = self.classes();
+        // What was just added is often taken back.
+        if self.desk.addition.is_some() && self.random.percent(30) {
+            return Call::Withdraw;
+        }
         // Verdicts of other sheets are soon judged anew.
         if self.sound && !self.desk.judged && self.random.percent(50) {
             return Call::Judge;
         }
         match self.random.below(100) {
-            0..=11 => Call::Judge,
-            12..=33 => {
+            0..=10 => Call::Judge,
+            11..=32 => {
                 self.draw_group(&classes, classes.all);
                 Call::Add
             }
-            34..=71 => {
+            33..=67 => {
                 let class = self.draw_user_class(&classes);
                 self.draw_group(&classes, class);
                 Call::Replace(class)
             }
-            72..=85 => Call::Name(self.draw_class(&classes)),
+            68..=75 => Call::Withdraw,
+            76..=87 => Call::Name(self.draw_class(&classes)),
             _ => Call::Marks(self.draw_class(&classes)),
         }
     }
@@ -228,7 +236,8 @@ impl<'a> History<'a> {
         }
     }
 
-    /// The length of the user sheet that the call leaves if it is accepted.
+    /// The length of the user sheet that the call leaves if it is accepted; for a withdrawal that
+    /// of the present one, which it needs.
     fn new_length(&self, call: Call, classes: &Classes) -> usize {
         let side = self.desk.side();
         match call {

@@ -5,6 +5,7 @@
 //!
 //! On a difference the sheets and the call are written below `target/difference`.
 
+mod addition;
 mod call;
 mod desk;
 mod history;

@@ -9,13 +9,18 @@ use sheets::{groups, number, records};
 use crate::call::{Answer, Call, Value, OPERATIONS};
 use crate::lent::Side;
 
-const REFUSALS: usize = 15;
+/// The numbers of refusals; 16 has no meaning yet.
+const REFUSALS: [usize; 16] = [1, 2, 3, 4, 5, 6, 7, 8, 9, 10, 11, 12, 13, 14, 15, 17];
+/// All of them are below.
+const NUMBERS: usize = 18;
 const RULES: usize = 10;
 /// A replacement with so many dependents counts as one with several.
 const SEVERAL: usize = 3;
 
 /// What C-11 of document 02 is about.
 const IMMUTABLE_CONSTANTS: &str = "rule 5 at constants of Immutable types that are not Powerless";
+/// What C-12 is about.
+const UNDONE: &str = "additions that were withdrawn at once";
 
 const LEAST_CALLS: u64 = 1_000_000;
 const LEAST_ACCEPTED_IN_100: u64 = 30;
@@ -24,15 +29,19 @@ const LEAST_OF_A_REFUSAL_BY_OPERATION: u64 = 100;
 const LEAST_OF_A_RULE: u64 = 1_000;
 const LEAST_WITH_SEVERAL: u64 = 10_000;
 const LEAST_CONSTANTS: u64 = 1_000;
+const LEAST_WITHDRAWALS: u64 = 10_000;
+const LEAST_UNDONE: u64 = 10_000;
 
 pub struct Tally {
     /// By operation, then by refusal, 0 for accepted calls.
-    answers: [[u64; REFUSALS + 1]; OPERATIONS.len()],
+    answers: [[u64; NUMBERS]; OPERATIONS.len()],
     /// Verdicts of accepted judgings by rule: at record 0, at a later one.
     rules: [[u64; 2]; RULES + 1],
     with_several: u64,
     /// Verdicts of rule 5 at a constant of a class that is Immutable and not Powerless.
     immutable_constants: u64,
+    /// Additions that a withdrawal right after them took back.
+    pub undone: u64,
     /// User classes of accepted judgings by their own markers.
     own_markers: [u64; 256],
 }
@@ -40,10 +49,11 @@ pub struct Tally {
 impl Tally {
     pub fn new() -> Tally {
         Tally {
-            answers: [[0; REFUSALS + 1]; OPERATIONS.len()],
+            answers: [[0; NUMBERS]; OPERATIONS.len()],
             rules: [[0; 2]; RULES + 1],
             with_several: 0,
             immutable_constants: 0,
+            undone: 0,
             own_markers: [0; 256],
         }
     }
@@ -80,6 +90,7 @@ impl Tally {
         add_rows(&mut self.own_markers, &other.own_markers);
         self.with_several += other.with_several;
         self.immutable_constants += other.immutable_constants;
+        self.undone += other.undone;
     }
 
     pub fn calls(&self) -> u64 {
@@ -109,7 +120,7 @@ impl Tally {
         require("calls".into(), self.calls(), LEAST_CALLS);
         let accepted = self.accepted_in_100();
         require("accepted in 100".into(), accepted, LEAST_ACCEPTED_IN_100);
-        for number in 1..=REFUSALS {
+        for number in REFUSALS {
             let met = self.answered(number);
             require(format!("refusal {number}"), met, LEAST_OF_A_REFUSAL);
         }
@@ -127,6 +138,9 @@ impl Tally {
         require(several, self.with_several, LEAST_WITH_SEVERAL);
         let constants = self.immutable_constants;
         require(IMMUTABLE_CONSTANTS.into(), constants, LEAST_CONSTANTS);
+        let accepted = self.answers[Call::Withdraw.operation()][0];
+        require("accepted withdrawals".into(), accepted, LEAST_WITHDRAWALS);
+        require(UNDONE.into(), self.undone, LEAST_UNDONE);
         require("own marker sets".into(), self.marker_sets() as u64, 256);
         short
     }
@@ -148,6 +162,7 @@ fn refusals_of(operation: &str) -> &'static [usize] {
         "judge" => &[1, 2, 3, 4, 5, 6, 7, 8, 9, 10, 11, 12],
         "add" => &[1, 2, 3, 4, 5, 6, 7, 8, 9, 10, 11, 12, 14, 15],
         "replace" => &[1, 2, 3, 4, 5, 6, 7, 8, 9, 10, 11, 12, 13, 14, 15],
+        "withdraw" => &[1, 2, 3, 4, 5, 6, 7, 8, 9, 10, 11, 12, 13, 17],
         _ => &[1, 2, 3, 4, 5, 6, 7, 8, 9, 10, 11, 13],
     }
 }
@@ -172,6 +187,7 @@ impl fmt::Display for Tally {
             "replacements with {SEVERAL} or more dependents {several}"
         )?;
         writeln!(f, "{IMMUTABLE_CONSTANTS} {}", self.immutable_constants)?;
+        writeln!(f, "{UNDONE} {}", self.undone)?;
         writeln!(f, "own marker sets {} of 256", self.marker_sets())
     }
 }
@@ -188,7 +204,7 @@ impl Tally {
             "|:---------|{}",
             "---------:|".repeat(OPERATIONS.len() + 1)
         )?;
-        for number in 0..=REFUSALS {
+        for number in [0].into_iter().chain(REFUSALS) {
             let name = match number {
                 0 => "accepted".to_string(),
                 _ => format!("{number}"),

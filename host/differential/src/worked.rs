@@ -14,7 +14,7 @@ const UNTOUCHED: u8 = 0x77;
 fn worked_cases() {
     let blocks = CASES.split("\n\n");
     let cases: Vec<_> = blocks.filter(|block| block.contains("\n= ")).collect();
-    assert_eq!(cases.len(), 2);
+    assert_eq!(cases.len(), 10);
     for case in cases {
         let (expected, given): (Vec<&str>, Vec<&str>) =
             case.lines().partition(|line| line.starts_with("= "));
@@ -76,6 +76,7 @@ impl Run {
                 let (class, group) = rest.split_once(' ').expect("a class and a group");
                 (Call::Replace(number(class)), group)
             }
+            "withdraw" => (Call::Withdraw, ""),
             "name" => (Call::Name(number(rest)), ""),
             "marks" => (Call::Marks(number(rest)), ""),
             _ => panic!("no call: {word} {rest}"),

@@ -97,6 +97,27 @@ pub fn replace(
     answer.accepted().map(|value| value as usize)
 }
 
+/// Takes the last user class out and gives back its number.
+pub fn withdraw(
+    library: &[u8],
+    user: &mut [u8],
+    used: &mut usize,
+    verdicts: &mut [u8],
+) -> Result<usize, Refusal> {
+    let answer = unsafe {
+        raw::kz_withdraw(
+            library.as_ptr(),
+            library.len(),
+            user.as_mut_ptr(),
+            user.len(),
+            used,
+            verdicts.as_mut_ptr(),
+            verdicts.len(),
+        )
+    };
+    answer.accepted().map(|value| value as usize)
+}
+
 /// Where a class's name stands.
 pub fn name(library: &[u8], user: &[u8], used: usize, class: usize) -> Result<Part, Refusal> {
     let answer = unsafe {

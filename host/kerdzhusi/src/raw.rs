@@ -50,6 +50,16 @@ extern "C" {
         scratch_len: usize,
     ) -> Answer;
 
+    pub fn kz_withdraw(
+        library: *const u8,
+        library_len: usize,
+        user: *mut u8,
+        user_len: usize,
+        used: *mut usize,
+        verdicts: *mut u8,
+        verdicts_len: usize,
+    ) -> Answer;
+
     pub fn kz_name(
         library: *const u8,
         library_len: usize,

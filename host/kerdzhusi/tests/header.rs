@@ -8,6 +8,8 @@ const LIBRARY: [u8; 18] = *b"\x12\0\x01\0\0\x01\0\0\xFF\xFF\xFF\xFFObject";
 const POINT: [u8; 25] = *b"\x0E\0\x01\0\0\0\x01\0\0\0\xFF\xFFPt\x0B\0\x03\0\x01\0\0\x04\0\0x";
 /// The same class, its field not final.
 const MUTABLE: [u8; 25] = *b"\x0E\0\x01\0\0\0\x01\0\0\0\xFF\xFFPt\x0B\0\x03\0\0\0\0\x04\0\0x";
+/// Another class, which builds class 2.
+const BUILDER: [u8; 19] = *b"\x0D\0\x01\0\0\0\0\0\0\0\xFF\xFFB\x06\0\x06\0\x02\0";
 
 const CLEAN: Verdict = Verdict { rule: 0, record: 0 };
 const NOT_FINAL: Verdict = Verdict { rule: 7, record: 1 };
@@ -51,6 +53,39 @@ fn judge_add_and_replace() {
     assert_eq!((dependents, used), (Ok(1), 25));
     assert_eq!(verdicts(&row).collect::<Vec<_>>(), [NOT_FINAL]);
     assert_eq!((row[2], scratch == vec![0; SCRATCH_BYTES]), (0xEE, true));
+}
+
+#[test]
+fn withdraw_until_none_is_left() {
+    let mut user = [&MUTABLE[..], &BUILDER, &[0xEE; 5]].concat();
+    let mut used = MUTABLE.len() + BUILDER.len();
+    let mut row = [7, 1, 0xEE, 0xEE, 0xEE];
+    assert_eq!(withdraw(&LIBRARY, &mut user, &mut used, &mut row), Ok(2));
+    assert_eq!((used, row), (25, [7, 1, 0, 0, 0xEE]));
+    assert_eq!(withdraw(&LIBRARY, &mut user, &mut used, &mut row), Ok(1));
+    assert_eq!((used, row), (0, [0, 0, 0, 0, 0xEE]));
+    assert_eq!(user, [&[0; 44][..], &[0xEE; 5]].concat());
+    let answer = withdraw(&LIBRARY, &mut user, &mut used, &mut row);
+    assert_eq!(answer, Err(refusal(13, 0, 0)));
+}
+
+#[test]
+fn refusals_of_withdraw() {
+    let sheet = [&BUILDER[..], &POINT].concat();
+    let refused = |used, bytes| {
+        let (mut user, mut length, mut row) = (sheet.clone(), used, vec![0xEE; bytes]);
+        let refusal = withdraw(&LIBRARY, &mut user, &mut length, &mut row).expect_err("refused");
+        assert_eq!((user, length), (sheet.clone(), used));
+        assert!(row.iter().all(|&byte| byte == 0xEE));
+        refusal
+    };
+    assert_eq!(refused(45, 4), refusal(1, 1, 0));
+    assert_eq!(refused(3, 0), refusal(2, 1, 0));
+    assert_eq!(refused(19, 0), refusal(9, 1, 13));
+    assert_eq!(refused(44, 4), refusal(17, 0, 0));
+    assert_eq!(refused(44, 3), refusal(17, 0, 0));
+    assert_eq!(refused(13, 1), refusal(12, 0, 0));
+    assert_eq!(refused(0, 0), refusal(13, 0, 0));
 }
 
 #[test]
@@ -99,6 +134,8 @@ fn null_with_length_0() {
             library, length, none, 0, &mut used, 1, none, 0, none, 0, none, 0,
         );
         assert_eq!(status(replaced), (13, 0));
+        let withdrawn = raw::kz_withdraw(library, length, none, 0, &mut used, none, 0);
+        assert_eq!(status(withdrawn), (13, 0));
         let marked = raw::kz_marks(library, length, null(), 0, 0, 0);
         assert_eq!(status(marked), (0, 0));
         let named = raw::kz_name(library, length, null(), 0, 0, 0);

@@ -1,4 +1,4 @@
-//! Which classes depend on a class?
+//! Which classes name a class, and which depend on it?
 
 use crate::class_set::{reaching, ClassSet};
 use crate::pair::{Pair, MOST_CLASSES};
@@ -19,6 +19,13 @@ pub fn dependents(pair: &Pair, class: usize) -> ClassSet {
     let mut target = ClassSet::EMPTY;
     target.insert(class);
     reaching(&named_by, target, everything, ClassSet::EMPTY)
+}
+
+/// Does a record of another class name this one?
+pub fn named_by_another(pair: &Pair, class: usize) -> bool {
+    let others = (0..pair.classes.len()).filter(|&other| other != class);
+    let mut records = others.flat_map(|other| pair.group(other));
+    records.any(|(_, record)| references(&record).contains(&Some(class)))
 }
 
 /// The classes that a record names: at most two.

@@ -18,12 +18,12 @@ use rules::{judge_classes, Verdict};
 
 /// The most bytes of a sheet.
 pub const SHEET_LIMIT: usize = 32_768;
-/// The bytes of scratch that each call asks for, and zeroes.
+/// The bytes of scratch that `judge`, `add` and `replace` ask for, and zero.
 pub const SCRATCH_BYTES: usize = 65_536;
 /// The bytes of a verdict: rule, then record number.
 pub const VERDICT_BYTES: usize = 2;
 
-/// Why a call was turned away: document 01's number, the sheet (0 library, 1 user) and the byte
+/// Why a call was turned away: the documents' number, the sheet (0 library, 1 user) and the byte
 /// where the record begins.
 #[derive(Clone, Copy, Debug, PartialEq, Eq)]
 pub struct Refusal {
@@ -126,9 +126,7 @@ pub fn replace(
 ) -> Result<usize, Refusal> {
     let edit = {
         let pair = check(library, user, *used)?;
-        if class >= pair.classes.len() || !pair.is_user(class) {
-            return Err(Refusal::plain(13));
-        }
+        require(class < pair.classes.len() && pair.is_user(class), 13)?;
         Edit {
             from: pair.classes[class].start,
             to: pair.classes[class].end,
@@ -143,6 +141,25 @@ pub fn replace(
     store(&sheet, user, used);
     clear(scratch);
     Ok(changed.count())
+}
+
+/// Takes the last user class out and gives back its number (document 02, C-12).
+pub fn withdraw(
+    library: &[u8],
+    user: &mut [u8],
+    used: &mut usize,
+    verdicts: &mut [u8],
+) -> Result<usize, Refusal> {
+    let pair = check(library, user, *used)?;
+    require(pair.user_classes() > 0, 13)?;
+    let last = pair.classes.len() - 1;
+    require(!dependents::named_by_another(&pair, last), 17)?;
+    require_lines(&pair, verdicts)?;
+    write_verdict(verdicts, last - pair.library_classes, Verdict::CLEAN);
+    let start = pair.classes[last].start;
+    user[start..*used].fill(0);
+    *used = start;
+    Ok(last)
 }
 
 /// The overlay markers of a class.
@@ -215,19 +232,26 @@ fn check<'a>(library: &'a [u8], user: &'a [u8], used: usize) -> Result<Pair<'a>,
 
 /// Refusal 12: a verdict for each user class, and the whole scratch.
 fn require_room(pair: &Pair, verdicts: &[u8], scratch: &[u8]) -> Result<(), Refusal> {
-    let lines = verdicts.len() / VERDICT_BYTES;
-    if lines < pair.user_classes() || scratch.len() < SCRATCH_BYTES {
-        return Err(Refusal::plain(12));
-    }
-    Ok(())
+    require_lines(pair, verdicts)?;
+    require(scratch.len() >= SCRATCH_BYTES, 12)
+}
+
+/// Refusal 12 where no scratch is asked for.
+fn require_lines(pair: &Pair, verdicts: &[u8]) -> Result<(), Refusal> {
+    require(verdicts.len() / VERDICT_BYTES >= pair.user_classes(), 12)
 }
 
 /// Refusal 13 for a number not in use.
 fn require_number(pair: &Pair, class: usize) -> Result<(), Refusal> {
-    if class < pair.classes.len() {
+    require(class < pair.classes.len(), 13)
+}
+
+/// A refusal that points at no record, unless the condition holds.
+fn require(holds: bool, number: u8) -> Result<(), Refusal> {
+    if holds {
         Ok(())
     } else {
-        Err(Refusal::plain(13))
+        Err(Refusal::plain(number))
     }
 }
 
@@ -241,14 +265,10 @@ struct Edit<'a> {
 impl Edit<'_> {
     /// The sheet that results; refusals 14 and 15.
     fn new_sheet(&self, user: &[u8], used: usize) -> Result<Vec<u8>, Refusal> {
-        if !is_group(self.group) {
-            return Err(Refusal::plain(14));
-        }
+        require(is_group(self.group), 14)?;
         let kept = used - (self.to - self.from);
         let room = user.len().min(SHEET_LIMIT);
-        if self.group.len() > room - kept.min(room) {
-            return Err(Refusal::plain(15));
-        }
+        require(self.group.len() <= room - kept.min(room), 15)?;
         Ok([&user[..self.from], self.group, &user[self.to..used]].concat())
     }
 }

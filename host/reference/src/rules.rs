@@ -30,6 +30,10 @@ pub struct Verdict {
     pub record: u8,
 }
 
+impl Verdict {
+    pub const CLEAN: Verdict = Verdict { rule: 0, record: 0 };
+}
+
 /// Finds the verdict of each user class, in class order.
 pub fn judge_classes(pair: &Pair, mut found: impl FnMut(usize, Verdict)) {
     let mut judge = Judge::new(pair);

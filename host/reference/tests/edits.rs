@@ -1,9 +1,12 @@
-//! Adding and replacing classes.
+//! Adding, replacing and withdrawing classes.
 
 mod support;
 
-use reference::{add, replace, Refusal};
+use reference::{add, replace, withdraw, Refusal};
 use support::*;
+
+/// User buffer, used length, verdicts and scratch.
+type Contents = (Vec<u8>, usize, Vec<u8>, Vec<u8>);
 
 /// Everything that the calls borrow.
 struct Desk {
@@ -29,7 +32,7 @@ impl Desk {
         }
     }
 
-    fn contents(&self) -> (Vec<u8>, usize, Vec<u8>, Vec<u8>) {
+    fn contents(&self) -> Contents {
         let (verdicts, scratch) = (self.verdicts.clone(), self.scratch.clone());
         (self.user.clone(), self.used, verdicts, scratch)
     }
@@ -65,21 +68,46 @@ impl Desk {
         answer
     }
 
+    fn withdraw(&mut self) -> Result<usize, Refusal> {
+        let before = self.contents();
+        let (user, used) = (&mut self.user, &mut self.used);
+        let answer = withdraw(&LIBRARY, user, used, &mut self.verdicts);
+        match answer {
+            Ok(class) => self.check_withdrawn(before, class - 1),
+            Err(_) => assert!(self.contents() == before),
+        }
+        answer
+    }
+
     /// A refused call changes nothing; after an accepted one the lines are those of judging anew.
-    fn check_after(&self, before: (Vec<u8>, usize, Vec<u8>, Vec<u8>), accepted: bool) {
+    fn check_after(&self, before: Contents, accepted: bool) {
         if !accepted {
             assert!(self.contents() == before);
             return;
         }
         assert!(self.scratch.iter().all(|&byte| byte == 0));
+        let past = self.check_lines();
+        assert!(past.iter().all(|&line| line == (0xEE, 0xEE)));
+    }
+
+    /// The bytes in use before and not now are zero, and so is the class's line. Everything else
+    /// is as it was.
+    fn check_withdrawn(&self, before: Contents, line: usize) {
+        let (mut user, used, mut verdicts, scratch) = before;
+        user[self.used..used].fill(0);
+        verdicts[2 * line..2 * line + 2].fill(0);
+        assert!(self.contents() == (user, self.used, verdicts, scratch));
+        assert_eq!(self.check_lines()[0], (0, 0));
+    }
+
+    /// The lines are those of judging anew; gives back those past the last class.
+    fn check_lines(&self) -> Vec<(u8, u8)> {
         let fresh = lines(&self.user[..self.used]);
-        let kept: Vec<_> = self
-            .verdicts
-            .chunks_exact(2)
-            .map(|l| (l[0], l[1]))
-            .collect();
-        assert_eq!(kept[..fresh.len()], fresh);
-        assert!(kept[fresh.len()..].iter().all(|&line| line == (0xEE, 0xEE)));
+        let row = self.verdicts.chunks_exact(2);
+        let mut kept: Vec<_> = row.map(|line| (line[0], line[1])).collect();
+        let past = kept.split_off(fresh.len());
+        assert_eq!(kept, fresh);
+        past
     }
 }
 
@@ -203,4 +231,98 @@ fn twelve_comes_last() {
     assert_eq!(desk.replace(1, &plain("D")), Ok(1));
     desk.scratch.truncate(65_535);
     assert_eq!(desk.replace(1, &plain("D")), Err(refusal(12, 0, 0)));
+}
+
+#[test]
+fn withdrawing_takes_group_line_and_length_back() {
+    let last = [class(0, 1, 0, NO_CLASS, "D"), field(0, INT, "f")].concat();
+    let mut desk = Desk::new(&[&POINT[..], &last].concat(), 40);
+    assert_eq!(desk.verdicts[..6], [0, 0, 7, 1, 0xEE, 0xEE]);
+    assert_eq!(desk.withdraw(), Ok(2));
+    assert_eq!(desk.used, POINT.len());
+    assert_eq!(desk.user[..POINT.len()], POINT);
+    let (freed, past) = desk.user[POINT.len()..].split_at(last.len());
+    assert!(freed.iter().all(|&byte| byte == 0));
+    assert!(past.iter().all(|&byte| byte == 0xEE));
+    assert_eq!(desk.verdicts[..6], [0, 0, 0, 0, 0xEE, 0xEE]);
+}
+
+#[test]
+fn thirteen_once_all_are_withdrawn() {
+    let user = [plain("A"), plain("B"), builds(1), plain("C")].concat();
+    let mut desk = Desk::new(&user, 3);
+    for class in [3, 2, 1] {
+        assert_eq!(desk.withdraw(), Ok(class));
+    }
+    assert_eq!(desk.used, 0);
+    assert_eq!(desk.withdraw(), Err(refusal(13, 0, 0)));
+    desk.verdicts.clear();
+    assert_eq!(desk.withdraw(), Err(refusal(13, 0, 0)));
+}
+
+#[test]
+fn seventeen_another_class_names_the_last() {
+    let naming = [
+        builds(2),
+        field(0, [0, 0, 2, 0], "f"),
+        field(STATIC, [3, 0, 2, 0], "f"),
+        local([0, 0, 2, 0], "v"),
+        local([1, 0, 2, 0], "v"),
+    ];
+    for record in naming {
+        let user = [plain("A"), record, plain("B")].concat();
+        let mut desk = Desk::new(&user, 0);
+        assert_eq!(desk.withdraw(), Err(refusal(17, 0, 0)));
+        assert_eq!(desk.replace(1, &plain("A")), Ok(1));
+        assert_eq!(desk.withdraw(), Ok(2));
+    }
+}
+
+#[test]
+fn naming_itself_or_others_keeps_no_class() {
+    let last = [
+        class(INNER, 0, 1, 1, "B"),
+        field(0, [0, 0, 2, 0], "f"),
+        local([1, 0, 2, 0], "v"),
+        uses(2, 0),
+        builds(2),
+        builds(1),
+    ];
+    let mut desk = Desk::new(&[plain("A"), last.concat()].concat(), 0);
+    assert_eq!(desk.withdraw(), Ok(2));
+    // An index is no class.
+    let first = [plain("A"), local(INT, "v").repeat(3), uses(1, 2)];
+    let mut desk = Desk::new(&[first.concat(), plain("B")].concat(), 0);
+    assert_eq!(desk.withdraw(), Ok(2));
+}
+
+#[test]
+fn twelve_of_a_withdrawal_asks_for_present_lines_alone() {
+    let user = [plain("A"), plain("B")].concat();
+    let mut desk = Desk::new(&user, 0);
+    desk.verdicts.truncate(3);
+    assert_eq!(desk.withdraw(), Err(refusal(12, 0, 0)));
+    desk.verdicts.push(0xEE);
+    assert_eq!(desk.withdraw(), Ok(2));
+}
+
+#[test]
+fn seventeen_comes_before_twelve() {
+    let user = [plain("A"), builds(2), plain("B")].concat();
+    let mut desk = Desk::new(&user, 0);
+    desk.verdicts.clear();
+    assert_eq!(desk.withdraw(), Err(refusal(17, 0, 0)));
+}
+
+#[test]
+fn an_addition_and_a_withdrawal_give_everything_back() {
+    let mut desk = Desk::new(&POINT, 40);
+    let (mut user, used, mut verdicts, _) = desk.contents();
+    let group = [class(0, 1, 1, 1, "D"), builds(2), field(0, INT, "f")].concat();
+    assert_eq!(desk.add(&group), Ok(2));
+    assert_eq!(desk.withdraw(), Ok(2));
+    user[used..used + group.len()].fill(0);
+    verdicts[2..4].fill(0);
+    let scratch = vec![0; 65_536];
+    assert!(desk.contents() == (user, used, verdicts, scratch));
 }

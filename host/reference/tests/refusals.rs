@@ -1,8 +1,8 @@
-//! What judging turns away, in which order, and the limits.
+//! What judging and withdrawing turn away, in which order, and the limits.
 
 mod support;
 
-use reference::judge;
+use reference::{judge, withdraw};
 use support::*;
 
 /// The byte after a lone class named C.
@@ -243,4 +243,35 @@ fn twelve_room() {
     assert_eq!(call(1, 65_536), Err(refusal(12, 0, 0)));
     assert_eq!(call(2, 65_535), Err(refusal(12, 0, 0)));
     assert_eq!(call(2, 65_536), Ok(1));
+}
+
+/// The sheets come first: a withdrawal is refused for them as judging is, however short the row.
+#[test]
+fn withdrawing_meets_one_to_eleven() {
+    let marked = class(ALLOWED, 1, NO_CLASS, NO_CLASS, "O");
+    let pairs = [
+        (1, vec![0; 32_769], vec![]),
+        (1, LIBRARY.to_vec(), vec![0; 32_769]),
+        (2, LIBRARY.to_vec(), after_class(&[6, 0, 6])),
+        (3, LIBRARY.to_vec(), after_class(&member(0, "m"))),
+        (4, LIBRARY.to_vec(), after_class(&record(6, &[b"body"]))),
+        (5, LIBRARY.to_vec(), after_class(&field(8, INT, "f"))),
+        (6, LIBRARY.to_vec(), builds(1)),
+        (7, vec![], vec![]),
+        (8, LIBRARY.to_vec(), after_class(&implements(1))),
+        (9, LIBRARY.to_vec(), after_class(&builds(2))),
+        (10, LIBRARY.to_vec(), class(0, 0, 0, NO_CLASS, "Object")),
+        (11, marked, after_class(&builds(1))),
+    ];
+    for (number, library, user) in pairs {
+        let refused = judged(&library, &user).expect_err("refused");
+        assert_eq!(refused.number, number);
+        let (mut buffer, mut used) = (user.clone(), user.len());
+        let answer = withdraw(&library, &mut buffer, &mut used, &mut []);
+        assert_eq!(answer, Err(refused));
+        assert_eq!((buffer, used), (user.clone(), user.len()));
+    }
+    let (mut buffer, mut used) = (POINT, POINT.len() + 1);
+    let answer = withdraw(&LIBRARY, &mut buffer, &mut used, &mut []);
+    assert_eq!(answer, Err(refusal(1, 1, 0)));
 }

@@ -3,7 +3,7 @@
 
 use std::collections::HashSet;
 
-use reference::{add, judge, replace, Refusal, SCRATCH_BYTES};
+use reference::{add, judge, replace, withdraw, Refusal, SCRATCH_BYTES};
 use sheets::{damage, families, random_group, random_pair, Random};
 
 const NO_CLASS: u16 = 0xFFFF;
@@ -316,13 +316,18 @@ impl Pair {
         users.flat_map(|class| self.line(class)).collect()
     }
 
+    /// The classes that the records of a class name.
+    fn named_by(&self, class: usize) -> Vec<usize> {
+        let of = &self.classes[class];
+        let named = of.records.iter().filter_map(|record| self.names(record));
+        named.chain(of.superclass).chain(of.encloser).collect()
+    }
+
     fn stands_on(&self, from: usize, to: usize) -> bool {
         let mut met = HashSet::from([from]);
         let mut open = vec![from];
         while let Some(class) = open.pop() {
-            let of = &self.classes[class];
-            let named = of.records.iter().filter_map(|record| self.names(record));
-            for next in named.chain(of.superclass).chain(of.encloser) {
+            for next in self.named_by(class) {
                 if met.insert(next) {
                     open.push(next);
                 }
@@ -473,6 +478,49 @@ fn histories() {
         }
     }
     assert!(adds > 1_000 && replaces > 1_000, "{adds} {replaces}");
+}
+
+/// The last class is taken out, again and again, until none is left or another class names it. The
+/// lines stay those of judging from nothing; only the group's bytes and its line become zero.
+#[test]
+fn withdrawals() {
+    let (mut withdrawn, mut emptied, mut named) = (0, 0, 0);
+    for seed in 0..6_000 {
+        let (library, start) = random_pair(seed);
+        let Ok(mut lines) = judged(&library, &start) else {
+            continue;
+        };
+        let mut user = [&start[..], &[0xEE; 9]].concat();
+        let mut used = start.len();
+        loop {
+            let pair = Pair::parse(&library, &user[..used]);
+            let last = pair.classes.len() - 1;
+            let (mut bytes, mut row, end) = (user.clone(), lines.clone(), used);
+            let mut length = end;
+            let answer = withdraw(&library, &mut user, &mut used, &mut lines);
+            if !pair.is_user(last) {
+                emptied += 1;
+                assert_eq!(answer.map_err(|refusal| refusal.number), Err(13));
+            } else if (0..last).any(|other| pair.named_by(other).contains(&last)) {
+                named += 1;
+                assert_eq!(answer.map_err(|refusal| refusal.number), Err(17));
+            } else {
+                withdrawn += 1;
+                assert_eq!(answer, Ok(last), "seed {seed}");
+                length -= old_length(&bytes, &pair, last);
+                bytes[length..end].fill(0);
+                row[2 * (last - pair.library)..][..2].fill(0);
+            }
+            assert!((&user, used, &lines) == (&bytes, length, &row));
+            if answer.is_err() {
+                break;
+            }
+            let fresh = judged(&library, &user[..used]).expect("an accepted call");
+            assert!(lines[..fresh.len()] == fresh, "seed {seed}");
+        }
+    }
+    let counts = [withdrawn, emptied, named];
+    assert!(counts.iter().all(|&count| count > 500), "{counts:?}");
 }
 
 /// The bytes of a class's group in the user sheet.

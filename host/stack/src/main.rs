@@ -32,6 +32,10 @@ const FUNCTIONS: &[(&str, Used)] = &[
             stack_used(&mut || desk.replace(class, group))
         })
     }),
+    ("kz_withdraw", |family| {
+        let (mut desk, _) = Desk::with_last_unnamed(&KERDZHUSI, family);
+        stack_used(&mut || desk.withdraw())
+    }),
     ("kz_name", |family| {
         let desk = Desk::judged(&KERDZHUSI, family);
         most(quarters(family), |class| {

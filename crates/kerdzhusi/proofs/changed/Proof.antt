@@ -1,7 +1,7 @@
 -- `kerdzhusi::changed`: the code of the answer, by its variants.
 -- Assumes nothing.
 use mathlib.Core.Path.{sym, ap, _∙_}
-use Rattle.verifier.specs.Answers.{changedAnswer}
+use Rattle.form.specs.Form.{changedAnswer}
 use Rattle.kerdzhusi.specs.Codes.{plainValue, replyOf}
 use borrow.Author.Needs.{needs}
 use Rattle.kerdzhusi.proofs.changed.Statement.{statement}

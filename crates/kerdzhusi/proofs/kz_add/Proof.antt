@@ -15,7 +15,7 @@ kz-add-spec =
     tie.close
     (tie.spec
     (λ c κs. search needs)
-    (λ c κs. record { low = adds-low _ (added c .add .ensures) })
+    (λ c κs. record { low = adds-low _ _ (added c .add .ensures) })
     (λ c. search needs)
     (λ c. search needs)
     (λ c. search needs)

@@ -15,7 +15,7 @@ kz-replace-spec =
     tie.close
     (tie.spec
     (λ c κs. search needs)
-    (λ c κs. record { low = replaces-low _ _ (replaced c .replace .ensures) })
+    (λ c κs. record { low = replaces-low _ _ _ (replaced c .replace .ensures) })
     (λ c. search needs)
     (λ c. search needs)
     (λ c. search needs)

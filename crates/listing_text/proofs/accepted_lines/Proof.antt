@@ -3,7 +3,7 @@
 use mathlib.Core.Path.{sym, _∙_}
 use Rattle.theory.proofs.Answers.{some≢none}
 use Rattle.form.proofs.Accepting.{turned, indexed}
-use Rattle.queries.proofs.Asking.{used-there, used-part}
+use Rattle.form.proofs.Unrefused.{used-there, used-part}
 use borrow.Author.Needs.{needs}
 use Rattle.listing_text.proofs.accepted_lines.Statement.{statement}
 use Rattle.listing_text.proofs.accepted_lines.Tie as tie

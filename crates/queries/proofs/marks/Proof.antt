@@ -9,7 +9,9 @@ use Rattle.spec.specs.Promises.{accepted}
 use Rattle.spec.specs.Refusals.{queryRefusal}
 use Rattle.spec.specs.Classes.{overlay as overlayOf}
 use Rattle.form.proofs.Accepting.{turned, told, indexed, memo-is}
-use Rattle.queries.proofs.Asking.{answer-refused, answer-fine, used-there, used-part, lower-numbers, asked-sheets, asked-class}
+use Rattle.theory.proofs.Promised.{answer-refused, answer-fine}
+use Rattle.form.proofs.Unrefused.{used-there, used-part, lower-numbers}
+use Rattle.queries.proofs.Asking.{asked-sheets, asked-class}
 use Rattle.queries.proofs.marks.Statement.{statement}
 use Rattle.queries.proofs.marks.Tie as tie
 

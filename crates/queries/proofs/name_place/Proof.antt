@@ -11,7 +11,9 @@ use Rattle.spec.specs.Refusals.{queryRefusal}
 use Rattle.groups.specs.Groups.{Indexed}
 use Rattle.groups.proofs.Held.{class-long, size-read}
 use Rattle.form.proofs.Accepting.{turned, told, indexed}
-use Rattle.queries.proofs.Asking.{answer-refused, answer-fine, used-there, used-part, asked-sheets, asked-class}
+use Rattle.theory.proofs.Promised.{answer-refused, answer-fine}
+use Rattle.form.proofs.Unrefused.{used-there, used-part}
+use Rattle.queries.proofs.Asking.{asked-sheets, asked-class}
 use Rattle.queries.proofs.Parts.{part-read}
 use Rattle.queries.proofs.name_place.Statement.{statement}
 use Rattle.queries.proofs.name_place.Tie as tie

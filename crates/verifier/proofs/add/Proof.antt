@@ -6,7 +6,7 @@ use lib.ListN.{take}
 use Rattle.spec.specs.Sheet.{classCount, total}
 use Rattle.spec.specs.Refusals.{presentRefusal}
 use Rattle.form.proofs.Accepting.{fine-none, refused-is}
-use Rattle.verifier.specs.Answers.{changedAnswer}
+use Rattle.form.specs.Form.{changedAnswer}
 use Rattle.verifier.proofs.Adding.{add-present, add-puts, add-turned, add-made}
 use borrow.Author.Needs.{needs}
 use Rattle.verifier.proofs.add.Statement.{statement}

@@ -10,7 +10,7 @@ use Rattle.groups.specs.declared.Classes.{Classes}
 use Rattle.view.specs.View.{spliced}
 use Rattle.form.proofs.Accepting.{turned}
 use Rattle.admit.proofs.Turning.{Admitted, admit-facts, admitted-fits}
-use Rattle.queries.proofs.Asking.{used-part}
+use Rattle.form.proofs.Unrefused.{used-part}
 use Rattle.verifier.specs.Changing.{Touched}
 use Rattle.verifier.proofs.Editing.{written-sheet, put-refused, put-made}
 use borrow.Author.Needs.{needs}

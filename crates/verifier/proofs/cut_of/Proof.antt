@@ -8,7 +8,7 @@ use lib.ListN.{take, length-take}
 use Rattle.spec.specs.Refusals.{presentRefusal}
 use Rattle.groups.specs.Groups.{Indexed}
 use Rattle.form.proofs.Accepting.{turned, told, indexed}
-use Rattle.queries.proofs.Asking.{used-there}
+use Rattle.form.proofs.Unrefused.{used-there}
 use Rattle.verifier.proofs.Replacing.{found-refused, found-missing, found-at}
 use borrow.Author.Needs.{needs}
 use Rattle.verifier.proofs.cut_of.Statement.{statement}

@@ -3,7 +3,7 @@
 use native.Mathlib.Omega.{arith}
 use Rattle.lanes.proofs.Rows.{zeros}
 use Rattle.form.proofs.Accepting.{told, ordered, indexed, memo-is}
-use Rattle.queries.proofs.Asking.{used-part, used-there, form-fine}
+use Rattle.form.proofs.Unrefused.{used-part, used-there, form-fine}
 use Rattle.verifier.proofs.Verdicts.{sheets-stop, short-stop, room, enough, judged-all}
 use borrow.Author.Needs.{needs}
 use Rattle.verifier.proofs.judge.Statement.{statement}

@@ -8,18 +8,20 @@ use borrow.Author.Tests.{not-true}
 use lib.ListN.{getD}
 use Rattle.spec.specs.Record.{className}
 use Rattle.spec.specs.Sheet.{group as groupOf, classRecord}
+use Rattle.spec.specs.Refusals.{nameMet}
+use Rattle.laws.proofs.Below.{SeekingBelow, below-start, below-end, below-hit, below-next}
 use Rattle.view.specs.View.{spliced}
 use Rattle.fingerprints.specs.Fingerprints.{printOf}
 use Rattle.fingerprints.proofs.Printing.{class-opens}
 use Rattle.fingerprints.proofs.Telling.{told}
-use Rattle.second.proofs.Names.{second-named, none-printed, Seeking, seeks, met, seeks-on, none-met}
+use Rattle.second.proofs.Names.{namedAs, second-named, none-printed}
 use Rattle.second.proofs.naming.name_met.Statement.{statement}
 use Rattle.second.proofs.naming.name_met.Tie as tie
 
 abbrev Inv-loop : tie.InvT-loop
 Inv-loop library user group starts view prints c bytes print d₀ d =
     let g = groupOf library (spliced user group (view .cut)) in
-    Seeking g c (classRecord (g c)) d
+    SeekingBelow (namedAs g (classRecord (g c))) c d
 
 abbrev μ-loop : tie.MeasureT-loop
 μ-loop library user group starts view prints c bytes print d₀ d = c - d
@@ -53,18 +55,23 @@ named-as-requires c κs =
     (p .0, (omega arith, class-opens (p .0 .indexed) (p .1 .1 .0) (p .1 .1 .1)))
 
 returns-2 : tie.Need-returns-2 Inv-loop μ-loop
+unfolding nameMet
 returns-2 c =
     let at = c .before .before .before .before .before in
     let p = start at .pre in
-    met (at .loop .inv) (c .before .before .before .before .loop-test .taken) (second-named (p .0 .indexed) (p .1 .1 .0) (p .1 .1 .1) _ (c .before .named-as .ensures)) (c .if3 .taken)
+    below-hit (at .loop .inv) (c .before .before .before .before .loop-test .taken) (second-named (p .0 .indexed) (p .1 .1 .0) (p .1 .1 .1) _ (c .before .named-as .ensures)) (c .if3 .taken)
 
 loop-again : tie.Need-loop-again Inv-loop μ-loop
 loop-again c =
     let at = c .before .before .before in
     let p = start at .pre in
     let more = c .before .before .loop-test .taken in
-    ⊎-elim (λ a. seeks-on (at .loop .inv) more (second-named (p .0 .indexed) (p .1 .1 .0) (p .1 .1 .1) _ (a .1 .ensures)) (a .2 .left))
-    (λ a. seeks-on (at .loop .inv) more refl (told (p .1 .0) _ (own (start at)) (omega arith) (a .left))) (c .if2 .came)
+    ⊎-elim (λ a. below-next (at .loop .inv) more (second-named (p .0 .indexed) (p .1 .1 .0) (p .1 .1 .1) _ (a .1 .ensures)) (a .2 .left))
+    (λ a. below-next (at .loop .inv) more refl (told (p .1 .0) _ (own (start at)) (omega arith) (a .left))) (c .if2 .came)
+
+returns-3 : tie.Need-returns-3 Inv-loop μ-loop
+unfolding nameMet
+returns-3 c = below-end (c .before .loop .inv) (c .loop-test .left)
 
 pub name-met-spec : {M : Type 1} → statement M
 name-met-spec =
@@ -76,7 +83,7 @@ name-met-spec =
     (λ c. omega arith)
     (λ c κs. omega arith)
     returns
-    (λ c. seeks _ _ _)
+    (λ c. below-start _ _)
     (λ c. omega arith)
     (λ c. omega arith)
     named-as-requires
@@ -84,4 +91,4 @@ name-met-spec =
     (λ c. omega arith)
     (λ c. omega arith)
     loop-again
-    (λ c. none-met (c .before .loop .inv) (c .loop-test .left)))
+    returns-3)
