@@ -13,7 +13,8 @@
  *   user, user_len          the buffer of the user sheet. It may be longer than the sheet, and
  *                           longer than KZ_SHEET_BYTES
  *   used                    how many bytes of that buffer are the user sheet
- *   group, group_len        one class: a CLASS record and the records that belong to it
+ *   group, group_len        one class: a CLASS record and the records that belong to it, by kind:
+ *                           CLASS, IMPLEMENTS, FIELD and so on, as in a sheet
  *   verdicts, verdicts_len  the verdicts, KZ_VERDICT_BYTES for each user class in class order:
  *                           rule, then record number. An odd last byte belongs to no verdict
  *   scratch, scratch_len    KZ_SCRATCH_BYTES to work in, of any content; more is allowed
@@ -54,20 +55,21 @@
  *   13  no class has this number; for a replacement, no user class; for a withdrawal, there is none
  *   14  the group is not whole records with one CLASS, its first
  *   15  the new user sheet is over its buffer or over KZ_SHEET_BYTES
+ *   16  the record's kind is lower than that of the record before it in its group
  *   17  another class names the one that would be withdrawn
  *
  * 1, 12 to 15 and 17 have byte 0, and 12 to 15 and 17 have sheet 0. They are looked for in this
  * order:
  *
- *   1; then record by record, the library's first, 2, 3, 4, 6, 5, 7; then again record by record
- *   9, 8, 10; then 11; then 13, 14, 15, 17; then 3 to 11 in the new user sheet of an addition or a
- *   replacement, with the byte in it; then 12.
+ *   1; then record by record, the library's first, 2, 3, 4, 6, 5, 7, 16; then again record by
+ *   record 9, 8, 10; then 11; then 13, 14, 15, 17; then 3 to 11 and 16, in the same order, in the
+ *   new user sheet of an addition or a replacement, with the byte in it; then 12.
  *
- *   kz_judge           1 to 12
- *   kz_add             1 to 12, 14, 15
- *   kz_replace         1 to 15
- *   kz_withdraw        1 to 13, 17
- *   kz_name, kz_marks  1 to 11, 13
+ *   kz_judge           1 to 12, 16
+ *   kz_add             1 to 12, 14 to 16
+ *   kz_replace         1 to 16
+ *   kz_withdraw        1 to 13, 16, 17
+ *   kz_name, kz_marks  1 to 11, 13, 16
  */
 #ifndef KERDZHUSI_H
 #define KERDZHUSI_H

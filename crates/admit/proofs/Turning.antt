@@ -1,4 +1,4 @@
--- The first of 14, 15, 3 to 11 and 12 that turns a group away, test by test.
+-- The first of 14, 15, of 3 to 11 and 16, and of 12 that turns a group away, test by test.
 -- Assumes nothing.
 use mathlib.Core.Path.{_≡_, refl, sym, ap, _∙_}
 use mathlib.Core.Bool.{Bool, true, false, not, _||_}

@@ -1,4 +1,4 @@
--- Why a group is turned away once the present sheets are accepted: 14, 15, 3 to 11 of the new sheet, 12.
+-- Why a group is turned away once the present sheets are accepted: 14, 15, 3 to 11 and 16 of the new sheet, 12.
 -- Assumes nothing.
 use mathlib.Core.Path.{_≡_}
 use mathlib.Core.List.{List, [], _∷_}
@@ -18,6 +18,6 @@ admitRefusal library user g new lines scratch = firstOf
     ∷ shortRefusal (classCount new) lines scratch
     ∷ [])
 
--- beside accepted sheets a whole group makes a sheet that needs only 3 to 11
+-- beside accepted sheets a whole group makes a sheet that needs only 3 to 11 and 16
 pub record Plain (library g new : List ℕ) : Type 0 where
   pub is : T (wholeGroup g) → sheetRefusal library new ≡ newRefusal library new

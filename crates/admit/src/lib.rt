@@ -1,4 +1,4 @@
-// Whether a group may be put into the user sheet: 14, 15, then 3 to 11 of the sheet that it makes, read through the view, then 12.
+// Whether a group may be put into the user sheet: 14, 15, then 3 to 11 and 16 of the sheet that it makes, read through the view, then 12.
 use form::Checked;
 use form::check;
 use form::plain;

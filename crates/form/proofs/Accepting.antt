@@ -197,7 +197,7 @@ module _ {library user : List ℕ} {nlib n : ℕ} {row : List ℕ} (x : Indexed 
           pub later-fine : (c < nlib → ⊥) → Later (fine nlib n) memo
           later-fine l = (rw (then-deemed ∙ deemed-none (h .0) l), rows (λ _. l))
 
--- ---- check: 2 to 11
+-- ---- check: 2 to 11 and 16
 
 pub fine-none : (o : Option Reason) {k : Classes} {a b : ℕ} → Fine k ≡ checkedOf o a b → (o ≡ none) × ((k .library ≡ a) × (k .all ≡ b))
 fine-none none {k} {a} {b} e = let q : k ≡ record { library = a; all = b } = cc in (refl, (ap (λ (c : Classes). c .library) q, ap (λ (c : Classes). c .all) q))
@@ -230,7 +230,7 @@ module _ {library user row : List ℕ} {p : Checked} (e : (p ≡ checkedOf (pass
       let o = sheet-parts library user ∙ first-some _ q in
       record { answered = e .0 ∙ rw (q, o); ready = ready-fresh o (e .1 .long, m) }
 
--- ---- present: 1 to 11
+-- ---- present: 1 to 11 and 16
 
 module _ (library user : List ℕ) (used : ℕ) where
   -- what a call promises

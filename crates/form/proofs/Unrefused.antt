@@ -1,4 +1,4 @@
--- The present sheets, once 1 to 11 refuse nothing.
+-- The present sheets, once 1 to 11 and 16 refuse nothing.
 -- Assumes nothing.
 use mathlib.Core.Path.{_≡_, refl, ap}
 use mathlib.Core.List.{List, map}

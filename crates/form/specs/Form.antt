@@ -35,7 +35,7 @@ firstDeemed g nlib = deemedFrom g 0 nlib
 
 -- ---- the whole
 
--- 2 to 7 of two sheets, and 8 to 11
+-- 2 to 7 and 16 of two sheets, and 8 to 11
 unfoldable pub passesRefusal : List ℕ → List ℕ → Option Reason
 passesRefusal library user =
     firstOf
@@ -49,7 +49,7 @@ passesRefusal library user =
 unfoldable pub laterRefusal : List ℕ → List ℕ → Option Reason
 laterRefusal library user = firstOf (formRefusal library user ∷ deemedRefusal library user ∷ [])
 
--- where nothing is refused by 2 to 7, the row is right
+-- where the first pass refuses nothing, the row is right
 pub record Starts (library user row : List ℕ) : Type 0 where
   pub long : length row ≡ 256
   pub indexed : passesRefusal library user ≡ none → Indexed library user (classCount library) (total library user) row

@@ -1,4 +1,4 @@
-// Acceptance: the deemed markers (11), and all of 1 to 11 of a library sheet and a view.
+// Acceptance: the deemed markers (11), and all of 1 to 11 and 16 of a library sheet and a view.
 use fingerprints::prints;
 use groups::Classes;
 use markers::clash;
@@ -120,7 +120,7 @@ fn view_pass<'a>(user: &'a [u8], group: &'a [u8], cut: Cut, base: usize, starts:
     first_pass(&user[to..used], 1, c, from + group.len(), starts)
 }
 
-// The first pass of both sheets: the row of starts is filled. Refusals 2 to 7.
+// The first pass of both sheets: the row of starts is filled. Refusals 2 to 7 and 16.
 fn both_passes<'a>(
     library: &'a [u8],
     user: &'a [u8],
@@ -219,7 +219,7 @@ fn later<'a>(
     Checked::Fine(classes)
 }
 
-// All of 2 to 11 of a library sheet and a view. Where nothing is refused, the row of starts is right and the memo knows the library's classes.
+// All of 2 to 11 and 16 of a library sheet and a view. Where nothing is refused, the row of starts is right and the memo knows the library's classes.
 pub fn check<'a>(
     library: &'a [u8],
     user: &'a [u8],
@@ -246,7 +246,7 @@ pub fn check<'a>(
     passed
 }
 
-// All of 1 to 11 of the library sheet, the user buffer and its used length.
+// All of 1 to 11 and 16 of the library sheet, the user buffer and its used length.
 pub fn present<'a>(
     library: &'a [u8],
     user: &'a [u8],

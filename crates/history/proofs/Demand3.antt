@@ -4,20 +4,20 @@
 use mathlib.Core.Path.{_≡_, refl, sym, ap, _∙_, subst}
 use mathlib.Core.Logic.{_⊎_, inl, inr}
 use mathlib.Core.Bool.{not, _||_}
-use mathlib.Core.List.{List, [], _∷_, _++_, map}
+use mathlib.Core.List.{List, [], _∷_, _++_}
 use mathlib.Core.Option.{Option, none, some}
 use Prim.Native.Nat.{ℕ, _+_, _-_, _≤_, _<_}
 use native.Mathlib.Omega.{arith}
 use lib.Dec.{T, T-not, not-T, leb, ltb, eqb→eq, ltb→lt, lt→ltb, nltb→le}
 use lib.ListN.{length, take, drop, length-append, length-set, take-append-drop}
 use lib.Seq.{length-take-le}
-use Rattle.spec.specs.Lists.{concat, elem}
-use Rattle.spec.specs.Sheet.{Group, groupsOf, classCount, total, group}
+use Rattle.spec.specs.Lists.{elem}
+use Rattle.spec.specs.Sheet.{Group, classCount, total, group}
 use Rattle.spec.specs.Rules.{Verdict, dependencies}
 use Rattle.spec.specs.Relations.{Depends}
 use Rattle.spec.specs.Breaks.{Not}
-use Rattle.spec.specs.Refusals.{Refusal, sheetLimit, scratchLength, addedSheet, replacedSheet, withdrawnSheet, sheetRefusal, newRefusal, presentRefusal, noUserRefusal, shortRefusal}
-use Rattle.spec.specs.Refusals.{fewLinesRefusal, judgeRefusal, addRefusal, replaceRefusal, withdrawRefusal}
+use Rattle.spec.specs.Refusals.{Refusal, sheetLimit, scratchLength, addedSheet, replacedSheet, withdrawnSheet, sheetRefusal, presentRefusal, noUserRefusal, shortRefusal}
+use Rattle.spec.specs.Refusals.{judgeRefusal, addRefusal, replaceRefusal, withdrawRefusal}
 use Rattle.spec.specs.Verdicts.{VerdictRow, flat, verdictAt, userVerdict, dependsOn}
 use Rattle.spec.specs.Promises.{Answer, accepted, Counts, countsOf, judgedRow, Judges, State}
 use Rattle.laws.proofs.Bools.{decide, and-l, not-or-l, eq→eqb}
@@ -26,8 +26,7 @@ use Rattle.theory.proofs.Cut.{IsGroup, count-of-join, sheet-grouped, sheet-grou
 use Rattle.theory.proofs.Answers.{first-none, none-first, plain-none}
 use Rattle.theory.proofs.Demand2.{demand2}
 use Rattle.theory.proofs.Local.{verdict-same, locality}
-use Rattle.theory.proofs.New.{new-sheets}
-use Rattle.theory.proofs.Withdraw.{some-class, withdrawn-sheets, withdrawn-front, withdrawn-group, withdrawn-count}
+use Rattle.theory.proofs.Withdraw.{some-class, withdrawn-group, withdrawn-count}
 use Rattle.theory.proofs.Form.{depends-on}
 use Rattle.theory.proofs.Accept.{Clear, Sound, sound, references-below}
 use Rattle.theory.proofs.Promised.{told-fine, kept-refused, new-fine}
@@ -36,19 +35,11 @@ use Rattle.history.specs.Judged.{RightAt}
 use Rattle.history.specs.Demand3.{RowLaws, Dependent, Value, MayChange, Done, Runs, LineLeft, Agrees, Answers, Follows, Demand3}
 use Rattle.history.proofs.Flat.{flat-laws}
 use Rattle.history.proofs.Counting.{counted-by}
-use Rattle.theory.proofs.Unrefused.{Present, present-facts, facts-present, short-none, none-short, Passes, edit-passes}
+use Rattle.theory.proofs.Unrefused.{Present, present-facts, facts-present, short-none, none-short, edit-passes}
 use Rattle.history.proofs.Model.{total-count, added-group, set-group, front-is}
-use Rattle.history.proofs.Steps.{library-stays, writes, writtenBy, made, made-is, why, next, Modelled, ModelHolds}
+use Rattle.history.proofs.Made.{callRefusal, made, Acceptable, made-acceptable}
+use Rattle.history.proofs.Steps.{library-stays, writes, writtenBy, made-is, why, next, Modelled, ModelHolds}
 use Rattle.history.proofs.Steps.{modelled, user-after, used-after, state-stays, model-stays, model-changes, row-changes}
-
--- a user sheet that judging accepts beside the library, with a verdict for each class
-record Acceptable (library user : List ℕ) (lines : ℕ) : Type 0 where
-  size : length user ≤ sheetLimit
-  sheets : sheetRefusal library user ≡ none
-  room : classCount user ≤ lines
-
-acceptable-of : (library g new : List ℕ) (lines : ℕ) → Passes library g new lines → sheetRefusal library new ≡ newRefusal library new → Acceptable library new lines
-acceptable-of library g new lines p e = record { size = p .size; sheets = e ∙ p .sheets; room = p .room }
 
 -- what is known of an accepted call itself: its group is whole, and the class that it replaces is a user class; there is a class to take out, and no other names it
 abbrev Suits : Model → Call → Type 0
@@ -69,45 +60,34 @@ record Ready (m : Model) (call : Call) : Type 0 where
   acceptable : Acceptable (m .library) (newSheet m call) (m .lines)
 
 module _ (m : Model) (w : All IsGroup (m .groups)) where
-  -- the sheet that a call makes of the bytes in use is the model's new one
-  ready-of : (call : Call) → Suits m call → Acceptable (m .library) (made (m .library) (take (used m) (buffer m)) call) (m .lines) → Ready m call
-  ready-of call u a = record {
-    suits = u;
-    acceptable = subst (λ (new : List ℕ). Acceptable (m .library) new (m .lines)) (ap (λ (old : List ℕ). made (m .library) old call) (front-is m) ∙ made-is m w call) a;
-  }
-
-  ready : (call : Call) (scratch : ℕ) → modelRefusal m call scratch ≡ none → Ready m call
-  unfolding modelRefusal addRefusal replaceRefusal withdrawRefusal noUserRefusal fewLinesRefusal IsGroup
-  ready (add g) scratch e =
+  suited : (call : Call) (scratch : ℕ) → modelRefusal m call scratch ≡ none → Suits m call
+  unfolding modelRefusal addRefusal replaceRefusal withdrawRefusal noUserRefusal
+  suited (add g) scratch e = edit-passes (m .library) (buffer m) g (addedSheet (take (used m) (buffer m)) g) (m .lines) scratch (first-none _ e .1) .whole
+  suited (replace c g) scratch e =
       let q = first-none _ e in
-      let new : List ℕ = addedSheet (take (used m) (buffer m)) g in
-      let p = edit-passes (m .library) (buffer m) g new (m .lines) scratch (q .1) in
-      ready-of (add g) (p .whole) (acceptable-of (m .library) g new (m .lines) p (new-sheets (m .library) (buffer m) (used m) (q .0) g (p .whole) .0))
-  ready (replace c g) scratch e =
-      let q = first-none _ e in
-      let new : List ℕ = replacedSheet (m .library) (take (used m) (buffer m)) c g in
-      let p = edit-passes (m .library) (buffer m) g new (m .lines) scratch (q .1 .1) in
+      let p = edit-passes (m .library) (buffer m) g (replacedSheet (m .library) (take (used m) (buffer m)) c g) (m .lines) scratch (q .1 .1) in
       let all : ℕ = total (m .library) (take (used m) (buffer m)) in
       let there = not-or-l (ltb c (classCount (m .library))) (leb all c) (plain-none (ltb c (classCount (m .library)) || leb all c) 13 (q .1 .0)) in
-      ready-of (replace c g) (p .whole, nltb→le c (classCount (m .library)) there)
-      (acceptable-of (m .library) g new (m .lines) p (new-sheets (m .library) (buffer m) (used m) (q .0) g (p .whole) .1 c))
-  ready withdraw scratch e =
+      (p .whole, nltb→le c (classCount (m .library)) there)
+  suited withdraw scratch e =
       let q = first-none _ e in
       let f = present-facts (m .library) (buffer m) (used m) (q .0) in
-      let old : List ℕ = take (used m) (buffer m) in
-      let left : List ℕ = withdrawnSheet old in
-      let some : 1 ≤ classCount old = some-class old (q .1 .0) in
-      let few : classCount old ≤ m .lines = nltb→le (m .lines) (classCount old) (plain-none (ltb (m .lines) (classCount old)) 12 (q .1 .1 .1 .0)) in
       let whole : classCount (sheet m) ≡ length (m .groups) = (unfold sheet in count-of-join (m .groups) w) in
-      let parts : length old ≡ length left + length (concat (map concat (drop (classCount old - 1) (groupsOf old)))) =
-      ap length (withdrawn-front (m .library) old (f .sheets) some) ∙ length-append left (concat (map concat (drop (classCount old - 1) (groupsOf old)))) in
-      ready-of withdraw
-      (omega (arith, some, ap classCount (front-is m), whole), ap (sheetRefusal (m .library)) (sym (front-is m)) ∙ f .sheets)
-      (record {
-        size = omega (arith, f .user-size, length-take-le (used m) (buffer m) (f .in-buffer), parts);
-        sheets = withdrawn-sheets (m .library) old (f .sheets) (q .1 .0) (q .1 .1 .0);
-        room = omega (arith, few, withdrawn-count (m .library) old (f .sheets) some);
-      })
+      (omega (arith, some-class (take (used m) (buffer m)) (q .1 .0), ap classCount (front-is m), whole), ap (sheetRefusal (m .library)) (sym (front-is m)) ∙ f .sheets)
+
+  refusal-is : (call : Call) (scratch : ℕ) → callRefusal (m .library) (buffer m) (used m) (m .lines) call scratch ≡ modelRefusal m call scratch
+  unfolding modelRefusal
+  refusal-is (add g) scratch = refl
+  refusal-is (replace c g) scratch = refl
+  refusal-is withdraw scratch = refl
+
+  ready : (call : Call) (scratch : ℕ) → modelRefusal m call scratch ≡ none → Ready m call
+  ready call scratch e = record {
+    suits = suited call scratch e;
+    -- the sheet that a call makes of the bytes in use is the model's new one
+    acceptable = subst (λ (new : List ℕ). Acceptable (m .library) new (m .lines)) (ap (λ (old : List ℕ). made (m .library) old call) (front-is m) ∙ made-is m w call)
+        (made-acceptable (m .library) (buffer m) (used m) (m .lines) call scratch (refusal-is call scratch ∙ e));
+  }
 
 -- ---- the verdicts that may change are those that are written
 

@@ -1,7 +1,9 @@
 pub mod Flat
 pub mod Counting
 pub mod Model
+pub mod Made
 pub mod Steps
 pub mod Judged
 pub mod Demand3
 pub mod Undo
+pub mod InOrder

@@ -20,6 +20,7 @@ use Rattle.theory.proofs.Promised.{kept-refused, new-fine}
 use Rattle.history.specs.Model.{Call, add, replace, withdraw, Model, sheet, used, buffer, modelRefusal, newGroups, newSheet, modelValue, newPast, changed, modelStep}
 use Rattle.history.specs.Demand3.{Done, leftOf, PromisedBy, Promised}
 use Rattle.history.proofs.Model.{total-count, front-is, rest-is}
+use Rattle.history.proofs.Made.{made}
 
 -- ---- what is left afterwards
 
@@ -59,12 +60,7 @@ writtenBy m withdraw = λ i. clean
 abbrev pub modelEdit : Model → Call → ℕ → Edit
 modelEdit m call scratch = record { refusal = modelRefusal m call scratch; sheet = newSheet m call; answer = modelValue m call; changed = writes m call; verdict = writtenBy m call }
 
--- the sheet that a call makes of a user sheet
-abbrev pub made : List ℕ → List ℕ → Call → List ℕ
-made library user (add g) = addedSheet user g
-made library user (replace c g) = replacedSheet library user c g
-made library user withdraw = withdrawnSheet user
-
+-- the sheet that a call makes of the model's
 pub made-is : (m : Model) → All IsGroup (m .groups) → (call : Call) → made (m .library) (sheet m) call ≡ newSheet m call
 unfolding addedSheet replacedSheet withdrawnSheet newSheet newGroups sheet concat
 made-is m w (add g) = ap (λ (l : List ℕ). concat (m .groups) ++ l) (sym (append-nil g)) ∙ sym (concat-append (m .groups) (g ∷ []))
@@ -78,7 +74,7 @@ made-is m w withdraw =
 
 module _ (row : VerdictRow) where
   -- the edit that an operation promises
-  abbrev editOf : List ℕ → State row → Call → ℕ → Edit
+  abbrev pub editOf : List ℕ → State row → Call → ℕ → Edit
   editOf library s (add g) scratch = addition row library s g scratch
   editOf library s (replace c g) scratch = replacement row library s c g scratch
   editOf library s withdraw scratch = withdrawal row library s
@@ -88,7 +84,7 @@ module _ (row : VerdictRow) where
     pub changes : Changes row e s answer after
     pub scratch-is : scratchAfter ≡ afterwards (e .refusal) scratch (leftOf call scratch)
 
-  promised : (library : List ℕ) (s : State row) (call : Call) (scratch : List ℕ) (answer : Answer ℕ) (after : State row) (scratchAfter : List ℕ)
+  pub promised : (library : List ℕ) (s : State row) (call : Call) (scratch : List ℕ) (answer : Answer ℕ) (after : State row) (scratchAfter : List ℕ)
       → PromisedBy row library s call scratch answer after scratchAfter → Does call (editOf library s call (length scratch)) s scratch answer after scratchAfter
   promised library s (add g) scratch answer after scratchAfter p = record { changes = p .changes; scratch-is = p .scratch-is }
   promised library s (replace c g) scratch answer after scratchAfter p = record { changes = p .changes; scratch-is = p .scratch-is }

@@ -22,13 +22,15 @@ use Rattle.laws.proofs.Zeros.{past-zeros, among-zeros}
 use Rattle.theory.proofs.Answers.{first-none, none-first, none-plain}
 use Rattle.theory.proofs.Accept.{Clear, Sound, sound, references-below}
 use Rattle.theory.proofs.Cut.{IsGroup, concat-append, sheet-grouped, sheet-groups}
-use Rattle.theory.proofs.New.{new-sheets, added-count}
+use Rattle.theory.proofs.New.{added-count}
+use Rattle.history.specs.Model.{add}
 use Rattle.history.specs.Demand3.{RowLaws}
 use Rattle.history.specs.Undo.{Undone, AddThenWithdraw}
 use Rattle.history.proofs.Flat.{flat-laws}
-use Rattle.theory.proofs.Promised.{told-fine, new-fine}
+use Rattle.theory.proofs.Promised.{told-fine, new-fine, sheet-left}
 use Rattle.theory.proofs.Unrefused.{Present, present-facts, facts-present, Passes, edit-passes}
 use Rattle.history.proofs.Model.{added-groups, added-group}
+use Rattle.history.proofs.Made.{made-acceptable}
 
 module _ (row : VerdictRow) (laws : RowLaws row) (library g : List ℕ) (before after last : State row) (scratch scratchAfter : List ℕ) (class : ℕ)
     (a : Adds row library g before scratch (accepted class) after scratchAfter) where
@@ -57,8 +59,7 @@ module _ (row : VerdictRow) (laws : RowLaws row) (library g : List ℕ) (before 
   old = sound library s (present .sheets)
 
   new-accepted : sheetRefusal library new ≡ none
-  unfolding addRefusal IsGroup
-  new-accepted = new-sheets library (before .user) (before .used) (first-none _ (told .0) .0) g (passes .whole) .0 ∙ passes .sheets
+  new-accepted = made-acceptable library (before .user) (before .used) lines (add g) (length scratch) (told .0) .sheets
 
   count : classCount new ≡ classCount s + 1
   count = added-count (old .userSheet) g (passes .whole)
@@ -78,7 +79,8 @@ module _ (row : VerdictRow) (laws : RowLaws row) (library g : List ℕ) (before 
   user-after = a .changes .user-is ∙ sym (new-fine _ _ (told .0))
 
   sheet-after : take (after .used) (after .user) ≡ new
-  sheet-after = ap₂ take used-after user-after ∙ take-append-seam new _
+  unfolding addition
+  sheet-after = sheet-left row (addition row library before g (length scratch)) before (a .changes)
 
   row-after : after .verdicts ≡ row .rewritten (λ i. eqb i (classCount s)) (userVerdict library new) (before .verdicts)
   unfolding addition edited

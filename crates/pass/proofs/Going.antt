@@ -27,26 +27,17 @@ use Rattle.records.specs.Records.{recordAt}
 use Rattle.pass.proofs.Numbers.{number-torn, torn}
 use Rattle.pass.proofs.Places.{answer, place-class, place-other, place-refuses}
 use Rattle.pass.proofs.Walk.{rest, walk-stop, walk-step, walk-class, walk-other}
-use Rattle.records.proofs.Whole.{Whole, whole-at, at-whole, whole-unless, end-stop, records-here, length-here, class-here, other-here}
+use Rattle.records.proofs.Whole.{Whole, whole-at, at-whole, whole-unless, end-stop, records-here, length-here, kind-here, class-here, other-here}
 
 -- ---- one record
 
--- the kind before a record is not asked for
-tests-before : (sheet at n k b : ℕ) (r : List ℕ) → recordTests (place sheet at n k b r) ≡ recordTests (place sheet at n k 0 r)
-unfolding recordTests place
-tests-before sheet at n k b r = go (isClass r) refl
-  where
-    go : (c : Bool) → isClass r ≡ c → recordTests (place sheet at n k b r) ≡ recordTests (place sheet at n k 0 r)
-    go true e = rw (e, place)
-    go false e = rw (e, place)
-
--- the number of a whole record, whatever the kind before it, and what it refuses
+-- the number of a whole record, and what it refuses
 module _ (sheet : ℕ) (s : List ℕ) (at n k b : ℕ) (w : Whole s at) where
-  pub number-here : recordNumber sheet s at n k ≡ numberOf (recordTests (place sheet at n k b (recordAt s at)))
+  pub number-here : recordNumber sheet s at n k b ≡ numberOf (recordTests (place sheet at n k b (recordAt s at)))
   unfolding recordNumber
-  number-here = rw (at-whole w, recordNumber, tests-before sheet at n k b (recordAt s at))
+  number-here = rw (at-whole w, recordNumber)
 
-  answer-here : answer recordTests (place sheet at n k b (recordAt s at)) ≡ refuseIf (not (eqb (recordNumber sheet s at n k) 0)) (recordNumber sheet s at n k) sheet at
+  answer-here : answer recordTests (place sheet at n k b (recordAt s at)) ≡ refuseIf (not (eqb (recordNumber sheet s at n k b) 0)) (recordNumber sheet s at n k b) sheet at
   answer-here = rw number-here (place-refuses recordTests sheet at n k b (recordAt s at) (unfold recordTests all in tt))
 
 -- what a record that is not refused says of its numbers
@@ -63,21 +54,21 @@ room l e =
     let t = f .1 .1 .1 .1 .0 in
     (nleb→lt 256 (l .class) (not-or-l (leb 256 (l .class)) (leb 255 (l .recordNumber)) t), nleb→lt 255 (l .recordNumber) (not-or-r (leb 256 (l .class)) (leb 255 (l .recordNumber)) t))
 
-module _ (sheet : ℕ) (s : List ℕ) (at c k : ℕ) (z : recordNumber sheet s at c k ≡ 0) where
+module _ (sheet : ℕ) (s : List ℕ) (at c k b : ℕ) (z : recordNumber sheet s at c k b ≡ 0) where
   passed-whole : Whole s at
-  passed-whole = whole-unless s at (λ e. omega (arith, number-torn sheet s at c k e))
+  passed-whole = whole-unless s at (λ e. omega (arith, number-torn sheet s at c k b e))
 
-  passed-answer : (b : ℕ) → answer recordTests (place sheet at c k b (recordAt s at)) ≡ none
-  passed-answer b = answer-here sheet s at c k b passed-whole ∙ (unfold refuseIf in rw z)
+  passed-answer : answer recordTests (place sheet at c k b (recordAt s at)) ≡ none
+  passed-answer = answer-here sheet s at c k b passed-whole ∙ (unfold refuseIf in rw z)
 
   pub passed : Passed s at c k
   passed =
       let r : List ℕ = recordAt s at in
-      let q = room (place sheet at c k 0 r) (passed-answer 0) in
+      let q = room (place sheet at c k b r) passed-answer in
       record {
         here = passed-whole;
-        class-room = λ e. omega (arith, ap (λ (l : Located). l .class) (place-class sheet at c k 0 r (class-here passed-whole e)));
-        group-room = λ e. omega (arith, ap (λ (l : Located). l .recordNumber) (place-other sheet at c k 0 r (other-here passed-whole e)));
+        class-room = λ e. omega (arith, ap (λ (l : Located). l .class) (place-class sheet at c k b r (class-here passed-whole e)));
+        group-room = λ e. omega (arith, ap (λ (l : Located). l .recordNumber) (place-other sheet at c k b r (other-here passed-whole e)));
       }
 
 -- ---- the records from a byte on
@@ -124,10 +115,10 @@ module _ (s : List ℕ) (e : wholeFirst s ≡ false) where
 
 -- ---- the pass at a byte
 
--- the pass stands at byte `at` of some bytes that begin at byte `from` of their sheet, after c classes and k records of the open group, and has made `row` of `row₀`
-pub record Going (sheet : ℕ) (s : List ℕ) (base from : ℕ) (row₀ row : List ℕ) (at c k : ℕ) : Type 0 where
-  pub before : ℕ  -- the kind of the record before
-  pub rest : rest (answer recordTests) sheet s at c k before ≡ recordRefusal sheet base s
+-- the pass stands at byte `at` of some bytes that begin at byte `from` of their sheet, after c classes and k records of the open group, of which the last has
+-- kind b, and has made `row` of `row₀`
+pub record Going (sheet : ℕ) (s : List ℕ) (base from : ℕ) (row₀ row : List ℕ) (at c k b : ℕ) : Type 0 where
+  pub rest : rest (answer recordTests) sheet s at c k b ≡ recordRefusal sheet base s
   pub end : at + wholeEnd (drop at s) ≡ wholeEnd s
   pub rows : fill row c (from + at) (recordsOf (drop at s)) ≡ filled row₀ base from s
   pub count : c + classCount (drop at s) ≡ base + classCount s
@@ -140,10 +131,9 @@ pub record Going (sheet : ℕ) (s : List ℕ) (base from : ℕ) (row₀ row : Li
 abbrev pub Ended : ℕ → List ℕ → ℕ → ℕ → List ℕ → List ℕ → Pass → Type 0
 Ended sheet s base from row₀ row p = (p ≡ passOf (shifted from (passRefusal sheet base s)) (base + classCount s)) × Filled (passRefusal sheet base s) base from s row₀ row
 
-pub begin : (sheet : ℕ) (s : List ℕ) (base from : ℕ) (row₀ : List ℕ) → base ≤ 256 → Going sheet s base from row₀ row₀ 0 base 0
+pub begin : (sheet : ℕ) (s : List ℕ) (base from : ℕ) (row₀ : List ℕ) → base ≤ 256 → Going sheet s base from row₀ row₀ 0 base 0 0
 unfolding rest answer recordRefusal locatedIn filled
 begin sheet s base from row₀ h = record {
-  before = 0;
   rest = refl;
   end = zero-add (wholeEnd s);
   rows = rw (add-zero from);
@@ -154,7 +144,7 @@ begin sheet s base from row₀ h = record {
   inside = omega arith;
 }
 
-module _ {sheet : ℕ} {s : List ℕ} {base from : ℕ} {row₀ row : List ℕ} {at c k : ℕ} (g : Going sheet s base from row₀ row at c k) where
+module _ {sheet : ℕ} {s : List ℕ} {base from : ℕ} {row₀ row : List ℕ} {at c k b : ℕ} (g : Going sheet s base from row₀ row at c k b) where
   -- the whole sheet is passed
   module _ (h : length s ≤ at) where
     ends-none : passRefusal sheet base s ≡ none
@@ -163,7 +153,7 @@ module _ {sheet : ℕ} {s : List ℕ} {base from : ℕ} {row₀ row : List ℕ} 
         let e = end-stop s at h in
         let z = none-end (drop at s) e in
         let l : wholeEnd s ≡ length s = omega (arith, g .end, g .inside) in
-        first-past _ _ (sym (g .rest) ∙ walk-stop (answer recordTests) sheet s at c k (g .before) e) ∙ rw (eq-eqb (wholeEnd s) (length s) l)
+        first-past _ _ (sym (g .rest) ∙ walk-stop (answer recordTests) sheet s at c k b e) ∙ rw (eq-eqb (wholeEnd s) (length s) l)
 
     ends-count : c ≡ base + classCount s
     ends-count = omega (arith, g .count, none-count (drop at s) (end-stop s at h))
@@ -174,38 +164,37 @@ module _ {sheet : ℕ} {s : List ℕ} {base from : ℕ} {row₀ row : List ℕ} 
       record { long = g .long; rows = λ e. sym (none-fill (drop at s) (end-stop s at h) row c (from + at)) ∙ g .rows },
     )
 
-  module _ {number : ℕ} (e : number ≡ recordNumber sheet s at c k) where
+  module _ {number : ℕ} (e : number ≡ recordNumber sheet s at c k b) where
     refused : at < length s → (number ≡ 0 → ⊥) → passRefusal sheet base s ≡ some (record { number = number; sheet = sheet; byte = at })
     unfolding passRefusal tornRefusal refuseIf
     refused h z = go (wholeFirst (drop at s)) refl
       where
-        go : (b : Bool) → wholeFirst (drop at s) ≡ b → passRefusal sheet base s ≡ some (record { number = number; sheet = sheet; byte = at })
+        go : (t : Bool) → wholeFirst (drop at s) ≡ t → passRefusal sheet base s ≡ some (record { number = number; sheet = sheet; byte = at })
         go true w =
-            let a = answer-here sheet s at c k (g .before) (whole-at s at w) in
-            first-some _ (sym (g .rest) ∙ walk-step (answer recordTests) sheet s at c k (g .before) (whole-at s at w) ∙ first-some _ (a ∙ rw (← e, ne-eqb number 0 z)))
+            let a = answer-here sheet s at c k b (whole-at s at w) in
+            first-some _ (sym (g .rest) ∙ walk-step (answer recordTests) sheet s at c k b (whole-at s at w) ∙ first-some _ (a ∙ rw (← e, ne-eqb number 0 z)))
         go false w =
-            let n = number-torn sheet s at c k w in
+            let n = number-torn sheet s at c k b w in
             let q = none-end (drop at s) w in
             let l : wholeEnd s ≡ at = omega (arith, g .end) in
             let m : number ≡ 2 = omega arith in
-            first-past _ _ (sym (g .rest) ∙ walk-stop (answer recordTests) sheet s at c k (g .before) w) ∙ rw (ne-eqb (wholeEnd s) (length s) (λ d. omega arith), l, m)
+            first-past _ _ (sym (g .rest) ∙ walk-stop (answer recordTests) sheet s at c k b w) ∙ rw (ne-eqb (wholeEnd s) (length s) (λ d. omega arith), l, m)
 
     -- the record at hand is refused
     pub stops : at < length s → (number ≡ 0 → ⊥) → Ended sheet s base from row₀ row (Refused number (from + at))
     stops h z = (rw (refused h z), record { long = g .long; rows = λ n. absurd (some≢none _ (sym (refused h z) ∙ n)) })
 
-    module _ (z : number ≡ 0) {l kk c′ k′ : ℕ} {row′ : List ℕ} (el : l ≡ u16 s at) (ek : kk ≡ u16 s (at + 2)) where
+    module _ (z : number ≡ 0) {l kk c′ k′ b′ : ℕ} {row′ : List ℕ} (el : l ≡ u16 s at) (ek : kk ≡ u16 s (at + 2)) (eb : b′ ≡ kk) where
       -- a CLASS record is passed
-      pub class-on : kk ≡ 1 → row′ ≡ set row c (from + at) → c′ ≡ c + 1 → k′ ≡ 1 → Going sheet s base from row₀ row′ (at + l) c′ k′
+      pub class-on : kk ≡ 1 → row′ ≡ set row c (from + at) → c′ ≡ c + 1 → k′ ≡ 1 → Going sheet s base from row₀ row′ (at + l) c′ k′ b′
       class-on one es ec en =
-          let p = passed sheet s at c k (sym e ∙ z) in
+          let p = passed sheet s at c k b (sym e ∙ z) in
           let w = p .here in
           let o = sym ek ∙ one in
           let room = p .class-room o in
           record {
-            before = kind (recordAt s at);
-            rest = rw (el, ec, en, add-one)
-                (sym (first-past _ _ (passed-answer sheet s at c k (sym e ∙ z) (g .before))) ∙ sym (walk-class (answer recordTests) sheet s at c k (g .before) w o) ∙ g .rest);
+            rest = rw (el, ec, en, eb ∙ ek ∙ sym (kind-here w), add-one)
+                (sym (first-past _ _ (passed-answer sheet s at c k b (sym e ∙ z))) ∙ sym (walk-class (answer recordTests) sheet s at c k b w o) ∙ g .rest);
             end = rw el (omega (arith, end-step w, g .end));
             rows = rw (el, es, ec, add-one) (sym (rows-class w row c from o) ∙ g .rows);
             count = rw el (omega (arith, count-class w o, g .count));
@@ -216,16 +205,15 @@ module _ {sheet : ℕ} {s : List ℕ} {base from : ℕ} {row₀ row : List ℕ} 
           }
 
       -- another record is passed
-      pub other-on : (kk ≡ 1 → ⊥) → row′ ≡ row → c′ ≡ c → k′ ≡ k + 1 → Going sheet s base from row₀ row′ (at + l) c′ k′
+      pub other-on : (kk ≡ 1 → ⊥) → row′ ≡ row → c′ ≡ c → k′ ≡ k + 1 → Going sheet s base from row₀ row′ (at + l) c′ k′ b′
       other-on other es ec en =
-          let p = passed sheet s at c k (sym e ∙ z) in
+          let p = passed sheet s at c k b (sym e ∙ z) in
           let w = p .here in
           let o : u16 s (at + 2) ≡ 1 → ⊥ = λ q. other (ek ∙ q) in
           let room = p .group-room o in
           record {
-            before = kind (recordAt s at);
-            rest = rw (el, ec, en, add-one)
-                (sym (first-past _ _ (passed-answer sheet s at c k (sym e ∙ z) (g .before))) ∙ sym (walk-other (answer recordTests) sheet s at c k (g .before) w o) ∙ g .rest);
+            rest = rw (el, ec, en, eb ∙ ek ∙ sym (kind-here w), add-one)
+                (sym (first-past _ _ (passed-answer sheet s at c k b (sym e ∙ z))) ∙ sym (walk-other (answer recordTests) sheet s at c k b w o) ∙ g .rest);
             end = rw el (omega (arith, end-step w, g .end));
             rows = rw (el, es, ec) (sym (rows-other w row c from o) ∙ g .rows);
             count = rw el (omega (arith, count-other w o, g .count));
@@ -237,4 +225,4 @@ module _ {sheet : ℕ} {s : List ℕ} {base from : ℕ} {row₀ row : List ℕ} 
 
   -- fewer bytes are left than a record has
   pub torn-ends : at < length s → length s - at < 4 → Ended sheet s base from row₀ row (Refused 2 (from + at))
-  torn-ends h l = stops (torn sheet s at c k (λ w. omega arith)) h (λ e. omega arith)
+  torn-ends h l = stops (torn sheet s at c k b (λ w. omega arith)) h (λ e. omega arith)

@@ -7,7 +7,7 @@ use Prim.Native.Nat.{ℕ, zero, suc, _+_, _-_, _≤_}
 use native.Mathlib.Omega.{arith}
 use lib.Dec.{eqb, leb, ltb}
 use lib.ListN.{length, drop}
-use borrow.Author.Tests.{lt-leb}
+use borrow.Author.Tests.{le-ltb, lt-leb}
 use Rattle.spec.specs.Record.{u16, kind, isClass, bodyFits}
 use Rattle.spec.specs.Sheet.{wholeFirst}
 use Rattle.spec.specs.Refusals.{recordTests}
@@ -19,12 +19,12 @@ use Rattle.records.proofs.Sizes.{length-fits}
 
 -- ---- no whole record begins at a byte
 
-module _ (sheet : ℕ) (s : List ℕ) (at n k : ℕ) where
-  pub number-torn : wholeFirst (drop at s) ≡ false → recordNumber sheet s at n k ≡ 2
+module _ (sheet : ℕ) (s : List ℕ) (at n k b : ℕ) where
+  pub number-torn : wholeFirst (drop at s) ≡ false → recordNumber sheet s at n k b ≡ 2
   unfolding recordNumber
   number-torn e = rw (e, recordNumber)
 
-  pub torn : (Whole s at → ⊥) → 2 ≡ recordNumber sheet s at n k
+  pub torn : (Whole s at → ⊥) → 2 ≡ recordNumber sheet s at n k b
   torn w = sym (number-torn (not-whole s at w))
 
 -- ---- the tests of a whole record
@@ -34,22 +34,28 @@ abbrev pub full : Bool → ℕ → ℕ → Bool
 full true n k = leb 256 n
 full false n k = leb 255 k
 
+-- "a lower kind than the one before it in its group": kind j after kind b
+abbrev pub falling : Bool → ℕ → ℕ → Bool
+falling true j b = false
+falling false j b = ltb j b
+
 -- by the code's tables
-abbrev inOrder : ℕ → ℕ → ℕ → List ℕ → List (ℕ × Bool)
-inOrder sheet n k r =
+abbrev asked : ℕ → ℕ → ℕ → ℕ → List ℕ → List (ℕ × Bool)
+asked sheet n k b r =
     (3, not (homeFits sheet (kind r)))
     ∷ (4, not (sizeFits (kind r) (length r)))
     ∷ (6, not (isClass r || ltb 0 k))
     ∷ (5, not (bodyFits sheet r))
     ∷ (7, full (isClass r) n k)
+    ∷ (16, falling (isClass r) (kind r) b)
     ∷ []
 
-placed : (sheet at n k : ℕ) (r : List ℕ) → n ≤ 256 → recordTests (place sheet at n k 0 r) ≡ inOrder sheet n k r
+placed : (sheet at n k b : ℕ) (r : List ℕ) → n ≤ 256 → recordTests (place sheet at n k b r) ≡ asked sheet n k b r
 unfolding recordTests place
-placed sheet at n k r h = go (isClass r) refl
+placed sheet at n k b r h = go (isClass r) refl
   where
-    go : (b : Bool) → isClass r ≡ b → recordTests (place sheet at n k 0 r) ≡ inOrder sheet n k r
-    go true e = rw (e, place, kind-fits sheet r, length-fits r, or-false (leb 256 n))
+    go : (c : Bool) → isClass r ≡ c → recordTests (place sheet at n k b r) ≡ asked sheet n k b r
+    go true e = rw (e, place, kind-fits sheet r, length-fits r, or-false (leb 256 n), le-ltb (kind r) 0 (omega arith))
     go false e = rw (e, place, kind-fits sheet r, length-fits r, lt-leb 256 (n - 1) (omega arith))
 
 or-second : {i : ℕ} (m : ℕ) → i ≡ 0 → orElse i m ≡ m
@@ -63,22 +69,23 @@ or-first (suc i) m h = refl
 abbrev early : Bool → Bool → Bool → ℕ
 early a b g = elim a [ true ↦ elim b [ true ↦ elim g [ true ↦ 0 | false ↦ 6 ] | false ↦ 4 ] | false ↦ 3 ]
 
-abbrev pub late : Bool → Bool → ℕ
-late true e = elim e [ true ↦ 7 | false ↦ 0 ]
-late false e = 5
+abbrev pub late : Bool → Bool → Bool → ℕ
+late true e f = elim e [ true ↦ 7 | false ↦ elim f [ true ↦ 16 | false ↦ 0 ] ]
+late false e f = 5
 
-late-tests : (d e : Bool) → numberOf ((5, not d) ∷ (7, e) ∷ []) ≡ late d e
+late-tests : (d e f : Bool) → numberOf ((5, not d) ∷ (7, e) ∷ (16, f) ∷ []) ≡ late d e f
 unfolding numberOf
-late-tests true e = refl
-late-tests false e = refl
+late-tests true e f = refl
+late-tests false e f = refl
 
 -- the body is asked only if the length fits
-decided : (a b g d d′ e : Bool) → (b ≡ true → d ≡ d′) → numberOf ((3, not a) ∷ (4, not b) ∷ (6, not g) ∷ (5, not d) ∷ (7, e) ∷ []) ≡ orElse (early a b g) (late d′ e)
+decided : (a b g d d′ e f : Bool) → (b ≡ true → d ≡ d′)
+    → numberOf ((3, not a) ∷ (4, not b) ∷ (6, not g) ∷ (5, not d) ∷ (7, e) ∷ (16, f) ∷ []) ≡ orElse (early a b g) (late d′ e f)
 unfolding numberOf
-decided false b g d d′ e h = refl
-decided true false g d d′ e h = refl
-decided true true false d d′ e h = refl
-decided true true true d d′ e h = rw (h refl) (late-tests d′ e)
+decided false b g d d′ e f h = refl
+decided true false g d d′ e f h = refl
+decided true true false d d′ e f h = refl
+decided true true true d d′ e f h = rw (h refl) (late-tests d′ e f)
 
 early-size : (a b g : Bool) → early a b g ≡ 0 → b ≡ true
 early-size a true g e = refl
@@ -89,16 +96,17 @@ pub order-size : (sheet kind n k : ℕ) → orderNumber sheet kind n k ≡ 0 →
 unfolding orderNumber
 order-size sheet kind n k e = early-size (homeFits sheet kind) (sizeFits kind n) (eqb kind 1 || ltb 0 k) e
 
-whole-number : (sheet : ℕ) (s : List ℕ) (at n k : ℕ) → Whole s at → n ≤ 256
-    → recordNumber sheet s at n k ≡ orElse (orderNumber sheet (u16 s (at + 2)) (u16 s at) k) (late (bodyAt sheet s at (u16 s at) (u16 s (at + 2))) (full (eqb (u16 s (at + 2)) 1) n k))
+whole-number : (sheet : ℕ) (s : List ℕ) (at n k b : ℕ) → Whole s at → n ≤ 256
+    → let j = u16 s (at + 2) in
+    recordNumber sheet s at n k b ≡ orElse (orderNumber sheet j (u16 s at) k) (late (bodyAt sheet s at (u16 s at) j) (full (eqb j 1) n k) (falling (eqb j 1) j b))
 unfolding recordNumber recordAt orderNumber kind
-whole-number sheet s at n k w h =
+whole-number sheet s at n k b w h =
     let r = recordAt s at in
     let ek = kind-here w in
     let len : ℕ = u16 s at in
     let code : ℕ = u16 s (at + 2) in
-    rw (at-whole w, recordNumber, placed sheet at n k r h, length-here w, ek)
-    (decided (homeFits sheet code) (sizeFits code len) (eqb code 1 || ltb 0 k) (bodyFits sheet r) (bodyAt sheet s at len code) (full (eqb code 1) n k)
+    rw (at-whole w, recordNumber, placed sheet at n k b r h, length-here w, ek)
+    (decided (homeFits sheet code) (sizeFits code len) (eqb code 1 || ltb 0 k) (bodyFits sheet r) (bodyAt sheet s at len code) (full (eqb code 1) n k) (falling (eqb code 1) code b)
     (λ e. rw ek at (body-fits sheet s at len (rw ek e))))
 
 -- ---- the tests before the name
@@ -118,29 +126,38 @@ pub no-home : (sheet : ℕ) (s : List ℕ) (at k n j : ℕ) → homeFits sheet k
 no-home sheet s at k n j z = by-order sheet s at k n j (unfold orderNumber in rw (z, orderNumber)) (λ e. omega arith)
 
 -- what a head with a number, or without one, says of all tests
-head-some : (i : ℕ) (f g e : Bool) → (orElse i (elim f [ true ↦ 0 | false ↦ 5 ]) ≡ 0 → ⊥) → orElse i (elim f [ true ↦ 0 | false ↦ 5 ]) ≡ orElse i (late (f && g) e)
-head-some zero true g e z = absurd (z refl)
-head-some zero false g e z = refl
-head-some (suc i) f g e z = refl
+head-some : (i : ℕ) (f g e l : Bool) → (orElse i (elim f [ true ↦ 0 | false ↦ 5 ]) ≡ 0 → ⊥) → orElse i (elim f [ true ↦ 0 | false ↦ 5 ]) ≡ orElse i (late (f && g) e l)
+head-some zero true g e l z = absurd (z refl)
+head-some zero false g e l z = refl
+head-some (suc i) f g e l z = refl
 
-head-none : (i : ℕ) (f g e : Bool) → orElse i (elim f [ true ↦ 0 | false ↦ 5 ]) ≡ 0 → (i ≡ 0) × (orElse i (late (f && g) e) ≡ late g e)
-head-none zero true g e z = (refl, refl)
-head-none zero false g e z = absurd (omega (arith, z))
-head-none (suc i) f g e z = absurd (omega (arith, z))
+head-none : (i : ℕ) (f g e l : Bool) → orElse i (elim f [ true ↦ 0 | false ↦ 5 ]) ≡ 0 → (i ≡ 0) × (orElse i (late (f && g) e l) ≡ late g e l)
+head-none zero true g e l z = (refl, refl)
+head-none zero false g e l z = absurd (omega (arith, z))
+head-none (suc i) f g e l z = absurd (omega (arith, z))
 
 pub head-size : (sheet : ℕ) (s : List ℕ) (at kind n k : ℕ) {i : ℕ} → i ≡ headNumber sheet s at kind n k → i ≡ 0 → sizeFits kind n ≡ true
 unfolding headNumber
-head-size sheet s at kind n k e z = order-size sheet kind n k (head-none (orderNumber sheet kind n k) (fixedAt sheet s at kind) true true (sym e ∙ z) .0)
+head-size sheet s at kind n k e z = order-size sheet kind n k (head-none (orderNumber sheet kind n k) (fixedAt sheet s at kind) true true true (sym e ∙ z) .0)
 
-module _ (sheet k : ℕ) {s : List ℕ} {at n : ℕ} (w : Whole s at) (h : n ≤ 256) {len kind i : ℕ} (el : len ≡ u16 s at) (ek : kind ≡ u16 s (at + 2)) (ei : i ≡ headNumber sheet s at kind len k) where
-  in-all : recordNumber sheet s at n k ≡ orElse (orderNumber sheet kind len k) (late (fixedAt sheet s at kind && nameAt s at len (nameStart kind len)) (full (eqb kind 1) n k))
-  in-all = rw (el, ek) (whole-number sheet s at n k w h)
+module _ (sheet k b : ℕ) {s : List ℕ} {at n : ℕ} (w : Whole s at) (h : n ≤ 256) {len kind i : ℕ} (el : len ≡ u16 s at) (ek : kind ≡ u16 s (at + 2)) (ei : i ≡ headNumber sheet s at kind len k) where
+  -- what is asked after the head
+  abbrev named : Bool
+  named = nameAt s at len (nameStart kind len)
 
-  pub by-head : (i ≡ 0 → ⊥) → i ≡ recordNumber sheet s at n k
+  abbrev filled : Bool
+  filled = full (eqb kind 1) n k
+
+  abbrev falls : Bool
+  falls = falling (eqb kind 1) kind b
+
+  in-all : recordNumber sheet s at n k b ≡ orElse (orderNumber sheet kind len k) (late (fixedAt sheet s at kind && named) filled falls)
+  in-all = rw (el, ek) (whole-number sheet s at n k b w h)
+
+  pub by-head : (i ≡ 0 → ⊥) → i ≡ recordNumber sheet s at n k b
   unfolding headNumber
-  by-head z = ei ∙ head-some (orderNumber sheet kind len k) (fixedAt sheet s at kind) (nameAt s at len (nameStart kind len)) (full (eqb kind 1) n k) (λ q. z (ei ∙ q)) ∙ sym in-all
+  by-head z = ei ∙ head-some (orderNumber sheet kind len k) (fixedAt sheet s at kind) named filled falls (λ q. z (ei ∙ q)) ∙ sym in-all
 
-  pub by-name : i ≡ 0 → recordNumber sheet s at n k ≡ late (nameAt s at len (nameStart kind len)) (full (eqb kind 1) n k)
+  pub by-name : i ≡ 0 → recordNumber sheet s at n k b ≡ late named filled falls
   unfolding headNumber
-  by-name z =
-      in-all ∙ head-none (orderNumber sheet kind len k) (fixedAt sheet s at kind) (nameAt s at len (nameStart kind len)) (full (eqb kind 1) n k) (sym ei ∙ z) .1
+  by-name z = in-all ∙ head-none (orderNumber sheet kind len k) (fixedAt sheet s at kind) named filled falls (sym ei ∙ z) .1

@@ -80,12 +80,12 @@ place sheet at n k b r = elim (isClass r) [
 ]
 
 -- the number that refuses what begins at a byte, or 0
-unfoldable pub recordNumber : ℕ → List ℕ → ℕ → ℕ → ℕ → ℕ
-recordNumber sheet s at n k = elim (wholeFirst (drop at s)) [ true ↦ numberOf (recordTests (place sheet at n k 0 (recordAt s at))) | false ↦ 2 ]
+unfoldable pub recordNumber : ℕ → List ℕ → ℕ → ℕ → ℕ → ℕ → ℕ
+recordNumber sheet s at n k b = elim (wholeFirst (drop at s)) [ true ↦ numberOf (recordTests (place sheet at n k b (recordAt s at))) | false ↦ 2 ]
 
 -- ---- the whole pass
 
--- 2 to 7 of one sheet, where n classes stand before it
+-- 2 to 7 and 16 of one sheet, where n classes stand before it
 unfoldable pub passRefusal : ℕ → ℕ → List ℕ → Option Refusal
 passRefusal sheet n s = firstOf (recordRefusal sheet n s ∷ tornRefusal sheet s ∷ [])
 

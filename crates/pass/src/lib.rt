@@ -1,5 +1,5 @@
-// The first pass over a sheet, or over whole groups of one: each record by itself, refusals 2 to 7. On the way it fills the row of the bytes where the
-// groups begin.
+// The first pass over a sheet, or over whole groups of one: each record by itself and beside the one before it, refusals 2 to 7 and 16.
+// On the way it fills the row of the bytes where the groups begin.
 use records::ALLOWED;
 use records::BUILDS;
 use records::CLASS;
@@ -296,12 +296,22 @@ fn head_number(bytes: &[u8], sheet: u8, at: usize, kind: u16, len: u16, k: usize
     }
 }
 
-// The number that refuses what begins at `at`, whose length and kind are read already, after c classes and k records of the open group, or 0.
-fn record_number(bytes: &[u8], sheet: u8, at: usize, kind: u16, len: u16, c: usize, k: usize) -> u8
+// The number that refuses what begins at `at`, whose length and kind are read already, after c classes and k records of the open group, of which the last has
+// kind `before`, or 0.
+fn record_number(
+    bytes: &[u8],
+    sheet: u8,
+    at: usize,
+    kind: u16,
+    len: u16,
+    c: usize,
+    k: usize,
+    before: u16,
+) -> u8
     requires { ⌜ (sheet < 2) × (c ≤ 256) ⌝ }
     requires { ⌜ at + 4 ≤ length (now bytes) ⌝ }
     requires { ⌜ (len ≡ u16 (now bytes) at) × (kind ≡ u16 (now bytes) (at + 2)) ⌝ }
-    ensures { λ r. ⌜ r ≡ recordNumber sheet (now (bytes .entry)) at c k ⌝ }
+    ensures { λ r. ⌜ r ≡ recordNumber sheet (now (bytes .entry)) at c k before ⌝ }
 {
     let n = len as usize;
     if n < HEAD_BYTES {
@@ -324,6 +334,9 @@ fn record_number(bytes: &[u8], sheet: u8, at: usize, kind: u16, len: u16, c: usi
         if RECORD_LIMIT <= k {
             return 7;
         }
+        if kind < before {
+            return 16;
+        }
         return 0;
     }
     5
@@ -340,10 +353,11 @@ pub fn first_pass(bytes: &[u8], sheet: u8, base: usize, from: usize, starts: &mu
     let mut at = 0;
     let mut c = base;
     let mut k = 0;
+    let mut before = 0;
     while HEAD_BYTES <= end - at {
         let len = word_in(bytes, at);
         let kind = word_in(bytes, at + KIND_AT);
-        let number = record_number(bytes, sheet, at, kind, len, c, k);
+        let number = record_number(bytes, sheet, at, kind, len, c, k, before);
         if number != 0 {
             return Pass::Refused(number, from + at);
         }
@@ -354,6 +368,7 @@ pub fn first_pass(bytes: &[u8], sheet: u8, base: usize, from: usize, starts: &mu
         } else {
             k += 1;
         }
+        before = kind;
         at += len as usize;
     }
     if at < end {

@@ -10,4 +10,5 @@ pub changes-hold : AllHold changes
 unfolding changes rowFor answerOver rowOver answerTo stateTo evaluation
 changes-hold =
     (refl, refl) also (refl, refl) also (refl, refl) also (refl, refl) also (refl, refl) also (refl, refl) also (refl, refl) also (refl, refl) also (refl, refl) also (refl, refl) also
-    (refl, refl) also (refl, refl) also (refl, refl) also (refl, refl) also (refl, refl) also (refl, refl) also (refl, refl) also (refl, refl) also tt
+    (refl, refl) also (refl, refl) also (refl, refl) also (refl, refl) also (refl, refl) also (refl, refl) also (refl, refl) also (refl, refl) also
+    refl also (refl, refl) also refl also refl also refl also (refl, refl) also tt

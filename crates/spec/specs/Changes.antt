@@ -3,7 +3,7 @@
 use mathlib.Core.List.{List, [], _∷_, _++_}
 use Prim.Native.Nat.{ℕ}
 use lib.ListN.{replicate}
-use Rattle.spec.specs.Examples.{Claim, judges, withdraws, keeps, none², class, x, builds}
+use Rattle.spec.specs.Examples.{Claim, judges, refuses, withdraws, keeps, none², class, x, builds}
 
 -- class 1 with own markers, and class 2 with fields
 abbrev pub static : ℕ → List ℕ → List ℕ
@@ -47,4 +47,13 @@ changes =
     -- "and 12 for a slate too short": a line for each class that is there; 17 comes first
     ∷ keeps (A ++ B) 26 (7 ∷ 7 ∷ 7 ∷ []) (record { number = 12; sheet = 0; byte = 0 })
     ∷ keeps (A ++ (builds 2 ++ B)) 32 [] (record { number = 17; sheet = 0; byte = 0 })
+    -- C-13, "a lower kind than the one before it in its group": a FIELD after a BUILDS, in a withdrawal too; a torn record after it is not looked at
+    ∷ refuses (A ++ (builds 1 ++ x 1 0 4 0)) (record { number = 16; sheet = 1; byte = 19 })
+    ∷ keeps (A ++ (builds 1 ++ x 1 0 4 0)) 30 (7 ∷ 7 ∷ []) (record { number = 16; sheet = 1; byte = 19 })
+    ∷ refuses (A ++ (builds 1 ++ (x 1 0 4 0 ++ (9 ∷ [])))) (record { number = 16; sheet = 1; byte = 19 })
+    -- "right after 7": an undefined flag of that FIELD comes before it, and so does the record's 16 before a class that isn't there
+    ∷ refuses (A ++ (builds 1 ++ x 8 0 4 0)) (record { number = 5; sheet = 1; byte = 19 })
+    ∷ refuses (A ++ (builds 9 ++ x 1 0 4 0)) (record { number = 16; sheet = 1; byte = 19 })
+    -- equal kinds pass, and a group is compared with no other
+    ∷ judges (A ++ (builds 1 ++ (builds 1 ++ (B ++ x 1 0 4 0)))) 2 0 (0 ∷ 0 ∷ 0 ∷ 0 ∷ [])
     ∷ []

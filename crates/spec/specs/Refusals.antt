@@ -8,7 +8,7 @@ use Prim.Native.Nat.{ℕ, _-_}
 use lib.Dec.{eqb, leb, ltb}
 use lib.ListN.{length, take, set}
 use Rattle.spec.specs.Lists.{any, concat, firstOf, elem, sameList, span}
-use Rattle.spec.specs.Record.{Bytes, bit, none16, isKind, isClass, IMPLEMENTS, LOCAL, USES, MEMBER, REFERS, flags, superclass, encloser, className, target, index, references, kindFits}
+use Rattle.spec.specs.Record.{Bytes, bit, none16, kind, isKind, isClass, IMPLEMENTS, LOCAL, USES, MEMBER, REFERS, flags, superclass, encloser, className, target, index, references, kindFits}
 use Rattle.spec.specs.Record.{lengthFits, bodyFits}
 use Rattle.spec.specs.Sheet.{Group, recordsOf, wholeEnd, groupsOf, classCount, total, group, classRecord, groupReferences, ofKind, isInterface, isInstanceField, Located, locatedIn, located}
 use Rattle.spec.specs.Markers.{clash}
@@ -42,7 +42,7 @@ sizeRefusal library user used = firstOf
     ∷ refuseIf (ltb sheetLimit used || ltb (length user) used) 1 1 0
     ∷ [])
 
--- ---- 2 to 7: "record by record"
+-- ---- 2 to 7 and 16: "record by record"
 
 -- 2: "under four bytes left, or a length below 4 or past the end"
 unfoldable pub tornRefusal : ℕ → List ℕ → Option Refusal
@@ -60,9 +60,11 @@ recordTests l =
     ∷ (5, not (bodyFits (l .sheet) (l .bytes)))
     -- "class 257 or a group's record 256"
     ∷ (7, leb 256 (l .class) || leb 255 (l .recordNumber))
+    -- document 02, C-13: "A record of a lower kind than the one before it in its group is refused with 16, right after 7"
+    ∷ (16, ltb (kind (l .bytes)) (l .before))
     ∷ []
 
--- 3 to 7 along the records of one sheet, where `n` classes stand before it
+-- 3 to 7 and 16 along the records of one sheet, where `n` classes stand before it
 unfoldable pub recordRefusal : ℕ → ℕ → List ℕ → Option Refusal
 recordRefusal sheet n s = firstOf (map (λ l. refuseRecord l (recordTests l)) (locatedIn sheet n s))
 
@@ -138,7 +140,7 @@ module _ (library user : List ℕ) where
   unfoldable pub deemedRefusal : Option Refusal
   deemedRefusal = firstOf (map (λ l. refuseRecord l (deemedTests (group library user) (classCount library) l)) (located library user))
 
-  -- 2 to 11 of two sheets: "library before user"
+  -- 2 to 11 and 16 of two sheets: "library before user"
   unfoldable pub sheetRefusal : Option Refusal
   sheetRefusal = firstOf
       (recordRefusal 0 0 library
@@ -150,15 +152,16 @@ module _ (library user : List ℕ) where
       ∷ deemedRefusal
       ∷ [])
 
-  -- "the new sheet by 3 to 11, byte in it": the user sheet that an Add or a Replace would make, beside a library that was accepted
+  -- "the new sheet by 3 to 11, byte in it", and 16: the user sheet that an Add or a Replace would make, beside a library that was accepted
   unfoldable pub newRefusal : Option Refusal
   newRefusal = firstOf (recordRefusal 1 (classCount library) user ∷ formRefusal ∷ deemedRefusal ∷ [])
 
--- 1 to 11 of the library sheet, the user buffer and its used length
+-- 1 to 11 and 16 of the library sheet, the user buffer and its used length. Where an operation's sentence says "1 to 11" or "3 to 11", 16 is among them
+-- (document 02, C-13: "wherever a sheet meets 1 to 11 or 3 to 11: in adding, replacing, withdrawing, Name and Marks too").
 unfoldable pub presentRefusal : List ℕ → List ℕ → ℕ → Option Refusal
 presentRefusal library user used = firstOf (sizeRefusal library user used ∷ sheetRefusal library (take used user) ∷ [])
 
--- the two sheets are bytes and meet none of 1 to 11
+-- the two sheets are bytes and meet none of 1 to 11 and 16
 pub record Accepted (library user : List ℕ) (used : ℕ) : Type 0 where
   pub libraryBytes : Bytes library
   pub userBytes : Bytes user
@@ -281,7 +284,7 @@ module _ (library user : List ℕ) (used : ℕ) where
 
 -- those that blame a record, by its sheet and byte
 unfoldable pub recordNumbers : List ℕ
-recordNumbers = 3 ∷ 4 ∷ 5 ∷ 6 ∷ 7 ∷ 8 ∷ 9 ∷ 10 ∷ 11 ∷ []
+recordNumbers = 3 ∷ 4 ∷ 5 ∷ 6 ∷ 7 ∷ 8 ∷ 9 ∷ 10 ∷ 11 ∷ 16 ∷ []
 
 -- those that blame no record, and "carry sheet 0 and byte 0"
 unfoldable pub plainNumbers : List ℕ

@@ -5,7 +5,7 @@ use mathlib.Core.Logic.{_≢_}
 use mathlib.Core.List.{List, _∷_, List·Memᴰ}
 use Prim.Native.Nat.{ℕ, suc, _≤_, _<_}
 use lib.Dec.{T}
-use Rattle.spec.specs.Record.{bit, none16, isKind, CLASS, IMPLEMENTS, USES, BUILDS, ownMarkers, superclass, encloser, target, index, references}
+use Rattle.spec.specs.Record.{kind, bit, none16, isKind, CLASS, IMPLEMENTS, USES, BUILDS, ownMarkers, superclass, encloser, target, index, references}
 use Rattle.spec.specs.Sheet.{Group}
 use Rattle.spec.specs.Markers.{gives}
 
@@ -15,6 +15,10 @@ use Rattle.spec.specs.Markers.{gives}
 pub data At {A : Type 0} : List A → ℕ → A → Type 0 where
   here : {x : A} {xs : List A} → At (x ∷ xs) 0 x
   next : {x y : A} {xs : List A} {k : ℕ} → At xs k x → At (y ∷ xs) (suc k) x
+
+-- document 02, C-13: "kinds inside a group never fall"
+abbrev pub Rising : Group → Type 0
+Rising g = (k : ℕ) (r s : List ℕ) → At g k r → At g (suc k) s → kind r ≤ kind s
 
 -- a record of the group has that kind, and a number in it is v
 pub record Says (kind : ℕ) (number : List ℕ → ℕ) (g : Group) (v : ℕ) : Type 0 where

@@ -7,7 +7,7 @@ use mathlib.Core.Option.{none, some}
 use Prim.Native.Nat.{ℕ, zero, suc, _+_, _-_, _≤_, _<_, zero-le}
 use native.Mathlib.Nat.{zero-add, add-zero, suc-add, add-suc}
 use native.Mathlib.Omega.{arith}
-use lib.Dec.{T, eqb, leb, ltb, eqb→eq, nleb→lt, lt→ltb}
+use lib.Dec.{T, eqb, leb, ltb, eqb→eq, nleb→lt, nltb→le, lt→ltb}
 use lib.ListN.{length, getD}
 use Rattle.spec.specs.Record.{kind, isKind, isClass, bit, flags, index, target, references, kindFits, lengthFits, bodyFits, IMPLEMENTS, LOCAL, USES, MEMBER, REFERS}
 use Rattle.spec.specs.Sheet.{Group, Located, locate, locatedIn, located, Split, splitGroups, recordsOf, wholeEnd, groupsOf, classCount, total, group, groupReferences, ofKind}
@@ -38,6 +38,7 @@ pub record Passed (l : Located) : Type 0 where
   pub bodyFits : T (bodyFits (l .sheet) (l .bytes))
   pub class : l .class < 256
   pub recordNumber : l .recordNumber < 255
+  pub ordered : l .before ≤ kind (l .bytes)
 
 passed : (l : Located) → All Fails (recordTests l) → Passed l
 unfolding recordTests
@@ -48,6 +49,7 @@ passed l f = record {
   bodyFits = un-not (bodyFits (l .sheet) (l .bytes)) (f .1 .1 .1 .0);
   class = nleb→lt 256 (l .class) (not-or-l (leb 256 (l .class)) (leb 255 (l .recordNumber)) (f .1 .1 .1 .1 .0));
   recordNumber = nleb→lt 255 (l .recordNumber) (not-or-r (leb 256 (l .class)) (leb 255 (l .recordNumber)) (f .1 .1 .1 .1 .0));
+  ordered = nltb→le (kind (l .bytes)) (l .before) (f .1 .1 .1 .1 .1 .0);
 }
 
 -- no record stands before the first CLASS record

@@ -1,11 +1,12 @@
 -- Answers and what is left afterwards, of a call that is refused or accepted; so the promise of an edit at each of its ends.
 -- Assumes nothing.
-use mathlib.Core.Path.{_≡_, refl, ap, _∙_}
+use mathlib.Core.Path.{_≡_, refl, sym, ap, ap₂, _∙_}
 use mathlib.Core.List.{List}
 use mathlib.Core.Option.{Option, none, some}
 use Prim.Native.Nat.{ℕ}
 use native.Mathlib.Omega.{arith}
-use lib.ListN.{length}
+use lib.ListN.{length, take}
+use lib.Seq.{take-append-seam}
 use Rattle.spec.specs.Refusals.{Refusal}
 use Rattle.spec.specs.Verdicts.{VerdictRow}
 use Rattle.spec.specs.Promises.{refused, accepted, answerOf, afterwards, bufferWith, State, Edit, edited, Changes}
@@ -49,3 +50,10 @@ module _ (row : VerdictRow) (e : Edit) (before : State row) where
       → Changes row e before (accepted value) (record { user = user; used = used; verdicts = verdicts })
   unfolding edited
   changes-made o ev eu en er = record { answered = ap accepted ev ∙ answer-fine _ o; user-is = eu ∙ new-fine _ _ o; used-is = en ∙ new-fine _ _ o; verdicts-are = er ∙ new-fine _ _ o }
+
+  -- an accepted one has the new sheet as its used bytes
+  pub sheet-left : {n : ℕ} {after : State row} → Changes row e before (accepted n) after → take (after .used) (after .user) ≡ e .sheet
+  unfolding edited bufferWith
+  sheet-left c =
+      let o = told-fine (e .refusal) (e .answer) (c .answered) .0 in
+      ap₂ take (c .used-is ∙ sym (new-fine _ _ o)) (c .user-is ∙ sym (new-fine _ _ o)) ∙ take-append-seam (e .sheet) _

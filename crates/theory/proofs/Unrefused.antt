@@ -14,7 +14,7 @@ use Rattle.laws.proofs.All.{All}
 use Rattle.theory.proofs.Cut.{IsGroup}
 use Rattle.theory.proofs.Answers.{first-none, none-first, if-none, none-if, plain-none, none-plain}
 
--- ---- 1 to 11 of the present sheets
+-- ---- 1 to 11 and 16 of the present sheets
 
 pub record Present (library user : List ℕ) (used : ℕ) : Type 0 where
   pub library-size : length library ≤ sheetLimit
@@ -63,7 +63,7 @@ unfolding shortRefusal
 none-short needed lines h =
     none-plain (ltb lines needed || ltb scratchLength scratchLength) 12 (not-or (ltb lines needed) (ltb scratchLength scratchLength) (nltb lines needed h) tt)
 
--- ---- 14, 15, 3 to 11 and 12, as every operation that writes a new sheet asks them last
+-- ---- 14, 15, 3 to 11 and 16, and 12, as every operation that writes a new sheet asks them last
 
 pub record Passes (library g new : List ℕ) (lines : ℕ) : Type 0 where
   pub whole : IsGroup g

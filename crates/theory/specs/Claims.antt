@@ -14,7 +14,7 @@ use Rattle.spec.specs.Sheet.{Group, recordsOf, wholeEnd, classCount, total, gro
 use Rattle.spec.specs.Markers.{Token}
 use Rattle.spec.specs.Classes.{hasMarker, inside, lineage, root, buildsInside, captured}
 use Rattle.spec.specs.Rules.{Verdict, clean, dependencies}
-use Rattle.spec.specs.Relations.{At, Superclass, Encloser, Implements, References, Depends, Marked, Lineage, Root, Inside, Chain, Captures}
+use Rattle.spec.specs.Relations.{At, Rising, Superclass, Encloser, Implements, References, Depends, Marked, Lineage, Root, Inside, Chain, Captures}
 use Rattle.spec.specs.Breaks.{Not, Flag, Breaks}
 use Rattle.spec.specs.Refusals.{Refusal, Accepted, addedSheet, replacedSheet, withdrawnSheet, lastClass, recordNumbers, plainNumbers, judgeNumbers, addNumbers, replaceNumbers}
 use Rattle.spec.specs.Refusals.{withdrawNumbers, queryNumbers, judgeRefusal, addRefusal, replaceRefusal, withdrawRefusal, queryRefusal, sheetRefusal, newRefusal, presentRefusal}
@@ -143,7 +143,7 @@ pub record Refusals (library user : List ℕ) (used : ℕ) : Type 0 where
 abbrev pub RefusalsHold : Type 0
 RefusalsHold = (library user : List ℕ) (used : ℕ) → Refusals library user used
 
--- ---- "the new sheet by 3 to 11": 2 cannot occur there, and neither can a refusal of the library's first pass
+-- ---- "the new sheet by 3 to 11", and 16: 2 cannot occur there, and neither can a refusal of the library's first pass
 
 abbrev pub NewSheets : Type 0
 NewSheets =
@@ -163,3 +163,11 @@ abbrev pub NamedRight : Type 0
 NamedRight =
     (library user : List ℕ) → 1 ≤ total library user
     → (namedRefusal library user ≡ none) ↔ ((c : ℕ) → References (group library user c) (lastClass library user) → c ≡ lastClass library user)
+
+-- ---- document 02, C-13: "From now on kinds inside a group never fall .. in both sheets"
+
+abbrev pub InOrder : List ℕ → List ℕ → Type 0
+InOrder library user = (c : ℕ) → Rising (group library user c)
+
+abbrev pub OrderHolds : Type 0
+OrderHolds = (library user : List ℕ) (used : ℕ) → presentRefusal library user used ≡ none → InOrder library (take used user)

@@ -1,4 +1,4 @@
--- The first of 1 to 11, 13, 17 and 12 that stands against a withdrawal, test by test.
+-- The first of 1 to 11 and 16, then 13, 17 and 12, that stands against a withdrawal, test by test.
 -- Assumes nothing.
 use mathlib.Core.Path.{_≡_, sym, ap, _∙_}
 use mathlib.Core.Bool.{Bool, true, false}

@@ -5,8 +5,8 @@ use std::fmt;
 use crate::raw::Answer;
 use crate::VERDICT_BYTES;
 
-/// Why a call was turned away: one of sixteen numbers (1 to 15 and 17), the sheet (0 library, 1
-/// user) and the byte where the record begins.
+/// Why a call was turned away: one of seventeen numbers (1 to 17), the sheet (0 library, 1 user) and
+/// the byte where the record begins.
 #[derive(Clone, Copy, Debug, PartialEq, Eq)]
 pub struct Refusal {
     pub number: u8,

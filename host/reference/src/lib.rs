@@ -219,7 +219,7 @@ fn name_text(pair: &Pair, class: usize) -> String {
     String::from_utf8_lossy(&bytes[start..start + length]).into_owned()
 }
 
-/// Refusals 1 to 11.
+/// Refusals 1 to 11 and 16.
 fn check<'a>(library: &'a [u8], user: &'a [u8], used: usize) -> Result<Pair<'a>, Refusal> {
     if library.len() > SHEET_LIMIT {
         return Err(Refusal::new(1, 0, 0));

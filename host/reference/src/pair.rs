@@ -1,4 +1,4 @@
-//! A library sheet and a user sheet that have passed refusals 2 to 11.
+//! A library sheet and a user sheet that have passed refusals 2 to 11 and 16.
 
 use crate::class_set::ClassSet;
 use crate::markers::{self, Markers, CLOSURE};
@@ -52,7 +52,7 @@ pub struct Pair<'a> {
 }
 
 impl<'a> Pair<'a> {
-    /// Checks two sheets by refusals 2 to 11.
+    /// Checks two sheets by refusals 2 to 11 and 16.
     pub fn check(library: &'a [u8], user: &'a [u8]) -> Result<Pair<'a>, Refusal> {
         let mut pair = Pair {
             library,
@@ -75,21 +75,25 @@ impl<'a> Pair<'a> {
         Ok(pair)
     }
 
-    /// First pass over one sheet: refusals 2 to 7. Fills the row of classes.
+    /// First pass over one sheet: refusals 2 to 7 and 16. Fills the row of classes.
     fn survey(&mut self, sheet: &'a [u8], number: u8) -> Result<(), Refusal> {
         let mut records = 0;
+        let mut before = CLASS;
         let mut at = 0;
         while at < sheet.len() {
             let refused = |reason| Refusal::new(reason, number, at);
             let record = whole_record(&sheet[at..]).ok_or_else(|| refused(2))?;
             check(record, number == 1, records > 0).map_err(refused)?;
-            match kind(record) {
+            let kind = kind(record);
+            match kind {
                 CLASS => {
                     if records > 0 {
                         self.close_group(at);
                     }
                     self.open_group(record, at).ok_or_else(|| refused(7))?;
                     records = 0;
+                    // No record of its group is before it.
+                    before = CLASS;
                 }
                 LOCAL | MEMBER => self.items.push(at as u16),
                 _ => {}
@@ -98,6 +102,11 @@ impl<'a> Pair<'a> {
             if records > MOST_RECORDS {
                 return Err(refused(7));
             }
+            // Document 02, C-13: inside a group kinds never fall.
+            if kind < before {
+                return Err(refused(16));
+            }
+            before = kind;
             at += record.len();
         }
         if records > 0 {

@@ -210,6 +210,49 @@ fn fifteen_no_room_in_a_sheet() {
     assert_eq!(desk.add(&last), Err(refusal(15, 0, 0)));
 }
 
+/// Document 02, C-13: the new sheet is refused, with the byte in it.
+#[test]
+fn sixteen_in_the_new_group() {
+    let falling = [plain("D"), builds(0), field(0, INT, "f")].concat();
+    let rising = [plain("D"), field(0, INT, "f"), builds(0)].concat();
+    let mut desk = Desk::new(&POINT, 40);
+    assert_eq!(desk.add(&falling), Err(refusal(16, 1, 25 + 13 + 6)));
+    assert_eq!(desk.add(&rising), Ok(2));
+    let user = [
+        plain("A"),
+        local(INT, "v"),
+        class(0, 0, 0, 1, "B"),
+        uses(1, 0),
+    ];
+    let mut desk = Desk::new(&user.concat(), 40);
+    assert_eq!(desk.replace(2, &falling), Err(refusal(16, 1, 22 + 13 + 6)));
+    assert_eq!(desk.replace(2, &rising), Ok(1));
+    // Class 2 loses the LOCAL that it uses, which the second pass would find.
+    let mut desk = Desk::new(&user.concat(), 40);
+    assert_eq!(desk.replace(1, &falling), Err(refusal(16, 1, 13 + 6)));
+    assert_eq!(desk.replace(1, &rising), Err(refusal(9, 1, 30 + 13)));
+}
+
+#[test]
+fn sixteen_comes_after_thirteen_to_fifteen_and_before_twelve() {
+    let falling = [plain("DD"), builds(0), implements(0)].concat();
+    let torn = [&falling[..], &[6, 0, 6]].concat();
+    let two = [&falling[..], &plain("E")].concat();
+    for group in [torn, two] {
+        let mut desk = Desk::new(&POINT, 100);
+        assert_eq!(desk.add(&group), Err(refusal(14, 0, 0)));
+        assert_eq!(desk.replace(1, &group), Err(refusal(14, 0, 0)));
+    }
+    let mut desk = Desk::new(&POINT, 0);
+    assert_eq!(desk.replace(2, &falling), Err(refusal(13, 0, 0)));
+    assert_eq!(desk.replace(1, &falling), Err(refusal(15, 0, 0)));
+    assert_eq!(desk.add(&falling), Err(refusal(15, 0, 0)));
+    let mut desk = Desk::new(&POINT, falling.len());
+    desk.verdicts.clear();
+    assert_eq!(desk.replace(1, &falling), Err(refusal(16, 1, 14 + 6)));
+    assert_eq!(desk.add(&falling), Err(refusal(16, 1, 25 + 14 + 6)));
+}
+
 #[test]
 fn a_replacement_can_break_another_group() {
     let user = [
@@ -318,7 +361,7 @@ fn seventeen_comes_before_twelve() {
 fn an_addition_and_a_withdrawal_give_everything_back() {
     let mut desk = Desk::new(&POINT, 40);
     let (mut user, used, mut verdicts, _) = desk.contents();
-    let group = [class(0, 1, 1, 1, "D"), builds(2), field(0, INT, "f")].concat();
+    let group = [class(0, 1, 1, 1, "D"), field(0, INT, "f"), builds(2)].concat();
     assert_eq!(desk.add(&group), Ok(2));
     assert_eq!(desk.withdraw(), Ok(2));
     user[used..used + group.len()].fill(0);

@@ -113,8 +113,8 @@ fn a_local_of_the_class_itself_is_not_captured() {
     let user = [
         class(0, 0, 0, NO_CLASS, "One"),
         class(0, 1, 0, 1, "Two"),
-        builds(3),
         local(OBJECT, "v"),
+        builds(3),
         class(0, 0, 0, 2, "Three"),
         uses(2, 0),
     ];

@@ -1,8 +1,8 @@
-//! What judging and withdrawing turn away, in which order, and the limits.
+//! What judging turns away, in which order, the limits, and that the other calls follow it.
 
 mod support;
 
-use reference::{judge, withdraw};
+use reference::{add, judge, listing, marks, name, replace, withdraw};
 use support::*;
 
 /// The byte after a lone class named C.
@@ -14,6 +14,11 @@ fn after_class(record: &[u8]) -> Vec<u8> {
 
 fn with_library(classes: &[Vec<u8>]) -> Vec<u8> {
     [&LIBRARY, &classes.concat()[..]].concat()
+}
+
+/// Its IMPLEMENTS, at byte 25, comes after a MEMBER.
+fn falling_library() -> Vec<u8> {
+    with_library(&[member(0, "m"), implements(0)])
 }
 
 #[test]
@@ -119,6 +124,111 @@ fn seven_limits_of_classes_and_records() {
     assert_eq!(lines(&group(255)), [(0, 0)]);
     assert_eq!(refused(&group(256)), (7, 1, AFTER + 254 * 6));
     assert_eq!(refused_pair(&[], &[1]), (7, 0, 0));
+}
+
+/// Document 02, C-13.
+#[test]
+fn sixteen_falling_kinds() {
+    let rising = [
+        implements(1),
+        field(0, INT, "f"),
+        local(INT, "v"),
+        uses(1, 0),
+        builds(1),
+        refers(0, 0),
+    ];
+    for (place, low) in rising.iter().enumerate() {
+        for high in &rising[place + 1..] {
+            let user = after_class(&[&high[..], low].concat());
+            assert_eq!(refused(&user), (16, 1, AFTER + high.len()));
+        }
+    }
+    assert_eq!(refused_pair(&falling_library(), &[]), (16, 0, 25));
+}
+
+#[test]
+fn equal_kinds_pass_and_a_class_begins_anew() {
+    let library = with_library(&[
+        member(1, "m").repeat(2),
+        class(INTERFACE | ALLOWED, 0, NO_CLASS, NO_CLASS, "I"),
+        class(0, 0, 0, NO_CLASS, "L"),
+        implements(1).repeat(2),
+        member(0, "m").repeat(2),
+    ]);
+    let group = |number, name| {
+        let records = [
+            implements(1),
+            field(0, INT, "f"),
+            local(INT, "v"),
+            uses(number, 1),
+            builds(number),
+            refers(0, 1),
+        ];
+        let twice = records.map(|record| record.repeat(2)).concat();
+        [class(0, 0, 0, NO_CLASS, name), twice].concat()
+    };
+    let user = [group(3, "C"), group(4, "D")].concat();
+    assert_eq!(judged(&library, &user), Ok(vec![(0, 0), (0, 0)]));
+}
+
+#[test]
+fn sixteen_is_the_last_question_about_a_record() {
+    let falling = [
+        (2, vec![6, 0, 6, 0, 0]),
+        (3, member(0, "m")),
+        (4, record(6, &[b"body"])),
+        (5, field(8, INT, "f")),
+        (16, field(0, INT, "f")),
+    ];
+    for (number, record) in falling {
+        let user = after_class(&[&refers(0, 0)[..], &record].concat());
+        assert_eq!(refused(&user), (number, 1, AFTER + 8));
+    }
+    let headless = [refers(0, 0), builds(0)].concat();
+    assert_eq!(refused(&headless), (6, 1, 0));
+    let group = |records: usize| {
+        let builds = builds(0).repeat(records - 2);
+        after_class(&[builds, implements(0)].concat())
+    };
+    assert_eq!(refused(&group(255)), (16, 1, AFTER + 253 * 6));
+    assert_eq!(refused(&group(256)), (7, 1, AFTER + 254 * 6));
+}
+
+#[test]
+fn sixteen_comes_before_later_records() {
+    let fall = [refers(0, 0), builds(0)].concat();
+    let torn = after_class(&[&fall[..], &[1]].concat());
+    assert_eq!(refused(&torn), (16, 1, AFTER + 8));
+    let bad = [
+        (3, member(0, "m")),
+        (4, record(6, &[b"body"])),
+        (5, field(8, INT, "f")),
+    ];
+    for (number, record) in bad {
+        let later = after_class(&[&fall[..], &record].concat());
+        assert_eq!(refused(&later), (16, 1, AFTER + 8));
+        let earlier = after_class(&[&record[..], &fall].concat());
+        assert_eq!(refused(&earlier), (number, 1, AFTER));
+    }
+    for user in [vec![1], fall.clone(), after_class(&fall)] {
+        assert_eq!(refused_pair(&falling_library(), &user), (16, 0, 25));
+    }
+}
+
+#[test]
+fn sixteen_comes_after_one_and_before_the_second_pass() {
+    let fall = after_class(&[refers(0, 0), builds(9)].concat());
+    let marked = class(ALLOWED, 1, NO_CLASS, NO_CLASS, "O");
+    for library in [with_library(&[implements(9)]), marked] {
+        assert_eq!(refused_pair(&library, &fall), (16, 1, AFTER + 8));
+    }
+    let mut long = fall.clone();
+    long.resize(32_769, 0);
+    let call =
+        |library: &[u8], used| judge(library, &long, used, &mut [], &mut []).expect_err("refused");
+    assert_eq!(call(&falling_library(), 32_769), refusal(1, 1, 0));
+    assert_eq!(call(&falling_library(), fall.len()), refusal(16, 0, 25));
+    assert_eq!(call(&LIBRARY, fall.len()), refusal(16, 1, AFTER + 8));
 }
 
 #[test]
@@ -245,10 +355,11 @@ fn twelve_room() {
     assert_eq!(call(2, 65_536), Ok(1));
 }
 
-/// The sheets come first: a withdrawal is refused for them as judging is, however short the row.
+/// The sheets come first: each call is refused for them as judging is, whatever else it is given.
 #[test]
-fn withdrawing_meets_one_to_eleven() {
+fn every_call_meets_one_to_eleven_and_sixteen() {
     let marked = class(ALLOWED, 1, NO_CLASS, NO_CLASS, "O");
+    let fall = after_class(&[builds(1), implements(1)].concat());
     let pairs = [
         (1, vec![0; 32_769], vec![]),
         (1, LIBRARY.to_vec(), vec![0; 32_769]),
@@ -262,14 +373,24 @@ fn withdrawing_meets_one_to_eleven() {
         (9, LIBRARY.to_vec(), after_class(&builds(2))),
         (10, LIBRARY.to_vec(), class(0, 0, 0, NO_CLASS, "Object")),
         (11, marked, after_class(&builds(1))),
+        (16, LIBRARY.to_vec(), fall),
+        (16, falling_library(), POINT.to_vec()),
     ];
     for (number, library, user) in pairs {
         let refused = judged(&library, &user).expect_err("refused");
         assert_eq!(refused.number, number);
+        assert_eq!(marks(&library, &user, user.len(), 999), Err(refused));
+        assert_eq!(name(&library, &user, user.len(), 999), Err(refused));
+        assert_eq!(listing(&library, &user), format!("{refused}\n"));
         let (mut buffer, mut used) = (user.clone(), user.len());
-        let answer = withdraw(&library, &mut buffer, &mut used, &mut []);
-        assert_eq!(answer, Err(refused));
-        assert_eq!((buffer, used), (user.clone(), user.len()));
+        let (bytes, length) = (&mut buffer[..], &mut used);
+        let answers = [
+            add(&library, bytes, length, &[], &mut [], &mut []),
+            replace(&library, bytes, length, 999, &[], &mut [], &mut []),
+            withdraw(&library, bytes, length, &mut []),
+        ];
+        assert_eq!(answers, [Err(refused); 3]);
+        assert_eq!((&buffer, used), (&user, user.len()));
     }
     let (mut buffer, mut used) = (POINT, POINT.len() + 1);
     let answer = withdraw(&LIBRARY, &mut buffer, &mut used, &mut []);

@@ -2,11 +2,13 @@
 //! over lists, searched without cleverness. Random pairs are judged by both.
 
 use std::collections::HashSet;
+use std::ops::Range;
 
 use reference::{add, judge, replace, withdraw, Refusal, SCRATCH_BYTES};
-use sheets::{damage, families, random_group, random_pair, Random};
+use sheets::{damage, families, groups, kind, random_group, random_pair, records, Random};
 
 const NO_CLASS: u16 = 0xFFFF;
+const CLASS: usize = 1;
 const PAIRS: u64 = 40_000;
 
 #[derive(Clone, Copy)]
@@ -350,11 +352,37 @@ fn least_closed(set: u8) -> u8 {
     }
 }
 
+/// Where records begin whose kind is lower than that of the one before them in their group.
+fn falls(sheet: &[u8]) -> Vec<usize> {
+    let (mut at, mut rows) = (0, Vec::new());
+    for record in records(sheet) {
+        rows.push((at, kind(record)));
+        at += record.len();
+    }
+    let falling = |two: &&[(usize, usize)]| two[1].1 != CLASS && two[1].1 < two[0].1;
+    let found = rows.windows(2).filter(falling);
+    found.map(|two| two[1].0).collect()
+}
+
+/// Document 02, C-13: refusal 16 blames the first fall of two sheets. The other refusals of the
+/// first pass come before it or blame the same record; with all later answers there is none.
+fn check_order(library: &[u8], user: &[u8], refusal: Option<Refusal>) {
+    let in_library = falls(library).into_iter().map(|at| (0, at));
+    let in_user = falls(user).into_iter().map(|at| (1, at));
+    let first = in_library.chain(in_user).next();
+    match refusal.map(|refusal| (refusal.number, (refusal.sheet, refusal.byte))) {
+        Some((16, place)) => assert_eq!(first, Some(place)),
+        Some((2..=7, place)) => assert!(first.is_none_or(|first| first >= place)),
+        _ => assert_eq!(first, None),
+    }
+}
+
 fn judged(library: &[u8], user: &[u8]) -> Result<Vec<u8>, Refusal> {
     let mut verdicts = vec![0xEE; 512];
     let mut scratch = vec![0; SCRATCH_BYTES];
-    let counts = judge(library, user, user.len(), &mut verdicts, &mut scratch)?;
-    verdicts.truncate(2 * counts.classes);
+    let answer = judge(library, user, user.len(), &mut verdicts, &mut scratch);
+    check_order(library, user, answer.err());
+    verdicts.truncate(2 * answer?.classes);
     Ok(verdicts)
 }
 
@@ -384,10 +412,11 @@ fn random_pairs_get_the_lines_of_the_definitions() {
         assert!(!zero || found.contains(&(rule, false)), "rule {rule}");
         assert!(!later || found.contains(&(rule, true)), "rule {rule}");
     }
+    let met = |number, sheet| refusals.contains(&(number, sheet));
     for number in 2..=11 {
-        let met = |sheet| refusals.contains(&(number, sheet));
-        assert!(met(0) || met(1), "refusal {number}");
+        assert!(met(number, 0) || met(number, 1), "refusal {number}");
     }
+    assert!(met(16, 0) && met(16, 1), "refusal 16");
 }
 
 #[test]
@@ -407,7 +436,7 @@ fn families_get_the_lines_of_the_definitions() {
 /// and a replacement counts and rewrites exactly the classes that stand on it.
 #[test]
 fn histories() {
-    let (mut adds, mut replaces) = (0, 0);
+    let (mut adds, mut replaces, mut falling) = (0, 0, 0);
     for seed in 0..6_000 {
         let (library, start) = random_pair(seed);
         let Ok(mut lines) = judged(&library, &start) else {
@@ -447,37 +476,40 @@ fn histories() {
                     &library, &mut user, &mut used, class, &group, &mut lines, scratch,
                 )
             };
-            let Ok(answer) = answer else {
-                assert!((user.clone(), used, lines.clone()) == before);
-                assert!(scratch.iter().all(|&byte| byte == 0xEE));
-                continue;
+            let new = || with_group(&before.0[..before.1], class - pair.library, &group);
+            let answer = match answer {
+                Ok(answer) => answer,
+                Err(refusal) => {
+                    assert!((user.clone(), used, lines.clone()) == before);
+                    assert!(scratch.iter().all(|&byte| byte == 0xEE));
+                    if !(13..=15).contains(&refusal.number) {
+                        check_order(&library, &new(), Some(refusal));
+                    }
+                    falling += (refusal.number == 16) as usize;
+                    continue;
+                }
             };
             assert!(scratch.iter().all(|&byte| byte == 0));
             let fresh = judged(&library, &user[..used]).expect("an accepted call");
             assert!(lines[..fresh.len()] == fresh, "seed {seed}");
             assert!(lines[fresh.len()..].iter().all(|&byte| byte == 0xEE));
+            assert_eq!(user[..used], new());
+            let end = used.max(before.1);
+            assert!(user[used..end].iter().all(|&byte| byte == 0));
+            assert_eq!(user[end..], before.0[end..]);
             if adding {
                 adds += 1;
                 assert_eq!(answer, classes);
-                assert_eq!(user[..before.1], before.0[..before.1]);
-                assert_eq!(user[before.1..used], group);
-                assert_eq!(user[used..], before.0[used..]);
             } else {
                 replaces += 1;
                 let new = Pair::parse(&library, &user[..used]);
                 let standing = (0..classes).filter(|&from| new.stands_on(from, class));
                 assert_eq!(answer, standing.count(), "seed {seed}");
-                assert_eq!(
-                    used,
-                    before.1 + group.len() - old_length(&before.0, &pair, class)
-                );
-                let end = used.max(before.1);
-                assert!(user[used..end].iter().all(|&byte| byte == 0));
-                assert_eq!(user[end..], before.0[end..]);
             }
         }
     }
     assert!(adds > 1_000 && replaces > 1_000, "{adds} {replaces}");
+    assert!(falling > 100, "{falling}");
 }
 
 /// The last class is taken out, again and again, until none is left or another class names it. The
@@ -507,7 +539,7 @@ fn withdrawals() {
             } else {
                 withdrawn += 1;
                 assert_eq!(answer, Ok(last), "seed {seed}");
-                length -= old_length(&bytes, &pair, last);
+                length = group_bytes(&bytes[..end], last - pair.library).start;
                 bytes[length..end].fill(0);
                 row[2 * (last - pair.library)..][..2].fill(0);
             }
@@ -523,17 +555,15 @@ fn withdrawals() {
     assert!(counts.iter().all(|&count| count > 500), "{counts:?}");
 }
 
-/// The bytes of a class's group in the user sheet.
-fn old_length(user: &[u8], pair: &Pair, class: usize) -> usize {
-    let records = |class: &Class| 1 + class.records.len();
-    let skipped: usize = pair.classes[pair.library..class].iter().map(records).sum();
-    let mut at = 0;
-    for _ in 0..skipped {
-        at += number(user, at) as usize;
-    }
-    let start = at;
-    for _ in 0..records(&pair.classes[class]) {
-        at += number(user, at) as usize;
-    }
-    at - start
+/// The user sheet with a group in the place of a user class, or after the last.
+fn with_group(user: &[u8], number: usize, group: &[u8]) -> Vec<u8> {
+    let old = group_bytes(user, number);
+    [&user[..old.start], group, &user[old.end..]].concat()
+}
+
+/// Where a user class's group lies in its sheet; after the last class there is an empty one.
+fn group_bytes(user: &[u8], number: usize) -> Range<usize> {
+    let lengths: Vec<_> = groups(user).iter().map(|group| group.len()).collect();
+    let start = lengths[..number].iter().sum();
+    start..start + lengths.get(number).unwrap_or(&0)
 }

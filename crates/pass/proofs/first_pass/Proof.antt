@@ -1,7 +1,7 @@
 -- In the loop the records before `at` have passed, and the row holds their starts.
 -- Assumes nothing.
 use Prim.Native.Nat.{_-_}
-use mathlib.Core.Path.{sym, _∙_}
+use mathlib.Core.Path.{refl, sym, _∙_}
 use mathlib.Core.Logic.{⊎-elim}
 use native.Mathlib.Omega.{arith}
 use Rattle.pass.proofs.Going.{Passed, passed, Going, begin, ends, stops, torn-ends, class-on, other-on}
@@ -9,10 +9,10 @@ use Rattle.pass.proofs.first_pass.Statement.{statement}
 use Rattle.pass.proofs.first_pass.Tie as tie
 
 abbrev Inv-loop : tie.InvT-loop
-Inv-loop bytes sheet base from starts₀ end at₀ c₀ k₀ starts at c k = Going sheet bytes base from starts₀ starts at c k
+Inv-loop bytes sheet base from starts₀ end at₀ c₀ k₀ before₀ starts at c k before = Going sheet bytes base from starts₀ starts at c k before
 
 abbrev μ-loop : tie.MeasureT-loop
-μ-loop bytes sheet base from starts₀ end at₀ c₀ k₀ starts at c k = end - at
+μ-loop bytes sheet base from starts₀ end at₀ c₀ k₀ before₀ starts at c k before = end - at
 
 record-number-requires : tie.Need-record-number-requires Inv-loop μ-loop
 record-number-requires c κs =
@@ -26,7 +26,7 @@ at-loop c = c .before .before .before .before
 fine : (c : tie.Else1 Inv-loop μ-loop)
     → let l = at-loop (c .before) in
     Passed (l .before .before .before .args .bytes .now) (l .loop .at) (l .loop .c) (l .loop .k)
-fine c = passed _ _ _ _ _ (sym (c .before .record-number .ensures) ∙ c .if1 .left)
+fine c = passed _ _ _ _ _ _ (sym (c .before .record-number .ensures) ∙ c .if1 .left)
 
 slice-write-starts : tie.Need-slice-write-starts Inv-loop μ-loop
 slice-write-starts c =
@@ -42,8 +42,8 @@ loop-again c =
     let el = n .before .before .word-in .ensures in
     let ek = n .before .word-in2 .ensures in
     ⊎-elim
-    (λ w. class-on g e z el ek (w .0 .taken) (w .1) (w .2) (w .3))
-    (λ w. other-on g e z el ek (w .0 .left) (w .1) (w .2) (w .3))
+    (λ w. class-on g e z el ek refl (w .0 .taken) (w .1) (w .2) (w .3))
+    (λ w. other-on g e z el ek refl (w .0 .left) (w .1) (w .2) (w .3))
     (c .if2 .came)
 
 pub first-pass-spec : {M : Type 1} → statement M
