@@ -30,7 +30,8 @@ fn main() -> ExitCode {
     ExitCode::SUCCESS
 }
 
-/// Judges a family once, or only gets ready to; false for an unknown word.
+/// Judges a family once, or only gets ready to; false for an unknown word. A refusal is not what
+/// is to be counted, so it ends the program.
 fn count(what: &str, name: &str) -> bool {
     let Some(family) = families().into_iter().find(|family| family.name == name) else {
         return false;
@@ -51,8 +52,9 @@ fn count(what: &str, name: &str) -> bool {
         &mut verdicts,
         &mut scratch,
     );
+    assert!(accepted, "{name} is refused");
     println!("{}", family.bytes());
-    accepted
+    true
 }
 
 fn table() {

@@ -20,13 +20,13 @@ pub struct Desk<'a> {
 
 impl<'a> Desk<'a> {
     pub fn judged(verifier: &'a Verifier, family: &'a Family) -> Desk<'a> {
-        Desk::new(verifier, &family.library, family.user.clone())
+        Desk::new(verifier, family, family.user.clone())
     }
 
     /// Without the last class, and its group. The buffer has room for it.
     pub fn without_last(verifier: &'a Verifier, family: &'a Family) -> (Desk<'a>, Vec<u8>) {
         let (sheet, group) = without_last(family);
-        let mut desk = Desk::new(verifier, &family.library, sheet);
+        let mut desk = Desk::new(verifier, family, sheet);
         desk.user.resize(desk.used + group.len(), 0);
         (desk, group)
     }
@@ -38,17 +38,20 @@ impl<'a> Desk<'a> {
         (desk, group)
     }
 
-    fn new(verifier: &'a Verifier, library: &'a [u8], user: Vec<u8>) -> Desk<'a> {
-        let mut desk = Desk {
+    fn new(verifier: &'a Verifier, family: &'a Family, user: Vec<u8>) -> Desk<'a> {
+        let (library, used) = (&family.library, user.len());
+        let mut verdicts = vec![0; CLASS_LIMIT * VERDICT_BYTES];
+        let mut scratch = vec![0; SCRATCH_BYTES];
+        let judged = (verifier.judge)(library, &user, used, &mut verdicts, &mut scratch);
+        assert!(judged, "{} is refused", family.name);
+        Desk {
             verifier,
             library,
-            used: user.len(),
             user,
-            verdicts: vec![0; CLASS_LIMIT * VERDICT_BYTES],
-            scratch: vec![0; SCRATCH_BYTES],
-        };
-        desk.judge();
-        desk
+            used,
+            verdicts,
+            scratch,
+        }
     }
 
     pub fn judge(&mut self) {

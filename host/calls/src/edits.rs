@@ -59,9 +59,9 @@ pub fn most_needed(family: &Family) -> (usize, usize) {
             &mut verdicts,
             &mut scratch,
         );
-        match answer {
-            Ok(dependents) if dependents > best.1 => best = (class, dependents),
-            _ => {}
+        let dependents = answer.unwrap_or_else(|refusal| panic!("{}: {refusal}", family.name));
+        if dependents > best.1 {
+            best = (class, dependents);
         }
     }
     best

@@ -1,18 +1,18 @@
 //! What has been met, and what has to be.
 
 use std::fmt;
+use std::ops::Range;
 
-use kerdzhusi::verdicts;
+use kerdzhusi::{verdicts, Refusal};
 use sheets::build::{FINAL, IMMUTABLE, POWERLESS};
 use sheets::{groups, number, records};
 
 use crate::call::{Answer, Call, Value, OPERATIONS};
 use crate::lent::Side;
 
-/// The numbers of refusals; 16 has no meaning yet.
-const REFUSALS: [usize; 16] = [1, 2, 3, 4, 5, 6, 7, 8, 9, 10, 11, 12, 13, 14, 15, 17];
-/// All of them are below.
-const NUMBERS: usize = 18;
+/// The numbers of refusals.
+const REFUSALS: Range<usize> = 1..18;
+const SHEETS: [&str; 2] = ["library", "user"];
 const RULES: usize = 10;
 /// A replacement with so many dependents counts as one with several.
 const SEVERAL: usize = 3;
@@ -21,6 +21,8 @@ const SEVERAL: usize = 3;
 const IMMUTABLE_CONSTANTS: &str = "rule 5 at constants of Immutable types that are not Powerless";
 /// What C-12 is about.
 const UNDONE: &str = "additions that were withdrawn at once";
+/// What C-13 is about.
+const OUT_OF_ORDER: usize = 16;
 
 const LEAST_CALLS: u64 = 1_000_000;
 const LEAST_ACCEPTED_IN_100: u64 = 30;
@@ -34,7 +36,9 @@ const LEAST_UNDONE: u64 = 10_000;
 
 pub struct Tally {
     /// By operation, then by refusal, 0 for accepted calls.
-    answers: [[u64; NUMBERS]; OPERATIONS.len()],
+    answers: [[u64; REFUSALS.end]; OPERATIONS.len()],
+    /// Refusals of records out of order, by sheet.
+    out_of_order: [u64; SHEETS.len()],
     /// Verdicts of accepted judgings by rule: at record 0, at a later one.
     rules: [[u64; 2]; RULES + 1],
     with_several: u64,
@@ -49,7 +53,8 @@ pub struct Tally {
 impl Tally {
     pub fn new() -> Tally {
         Tally {
-            answers: [[0; NUMBERS]; OPERATIONS.len()],
+            answers: [[0; REFUSALS.end]; OPERATIONS.len()],
+            out_of_order: [0; SHEETS.len()],
             rules: [[0; 2]; RULES + 1],
             with_several: 0,
             immutable_constants: 0,
@@ -60,9 +65,12 @@ impl Tally {
 
     /// Counts a call, given what it left.
     pub fn count(&mut self, call: Call, answer: Answer, after: &Side) {
-        let number = answer.0.map_or_else(|refusal| refusal.number, |_| 0);
-        self.answers[call.operation()][number as usize] += 1;
+        let number = answer.0.map_or_else(|refusal| refusal.number, |_| 0) as usize;
+        self.answers[call.operation()][number] += 1;
         match (call, answer.0) {
+            (_, Err(Refusal { sheet, .. })) if number == OUT_OF_ORDER => {
+                self.out_of_order[sheet as usize] += 1;
+            }
             (Call::Judge, Ok(Value::Counts { classes, .. })) => self.count_verdicts(after, classes),
             (Call::Replace(_), Ok(Value::Number(SEVERAL..))) => self.with_several += 1,
             _ => {}
@@ -86,6 +94,7 @@ impl Tally {
             self.answers.as_flattened_mut(),
             other.answers.as_flattened(),
         );
+        add_rows(&mut self.out_of_order, &other.out_of_order);
         add_rows(self.rules.as_flattened_mut(), other.rules.as_flattened());
         add_rows(&mut self.own_markers, &other.own_markers);
         self.with_several += other.with_several;
@@ -125,10 +134,14 @@ impl Tally {
             require(format!("refusal {number}"), met, LEAST_OF_A_REFUSAL);
         }
         for (operation, row) in OPERATIONS.iter().zip(&self.answers) {
-            for &number in refusals_of(operation) {
+            for number in refusals_of(operation) {
                 let what = format!("refusal {number} of {operation}");
                 require(what, row[number], LEAST_OF_A_REFUSAL_BY_OPERATION);
             }
+        }
+        for (sheet, met) in SHEETS.iter().zip(self.out_of_order) {
+            let what = format!("refusal {OUT_OF_ORDER} in the {sheet} sheet");
+            require(what, met, LEAST_OF_A_REFUSAL);
         }
         for (rule, places) in self.rules.iter().enumerate() {
             let met = places.iter().sum();
@@ -156,15 +169,16 @@ fn is_immutable_constant(after: &Side, group: &[u8], record: usize) -> bool {
     flags & FINAL as usize != 0 && dimensions_and_code == 0 && immutable
 }
 
-/// The refusals that an operation can give.
-fn refusals_of(operation: &str) -> &'static [usize] {
-    match operation {
-        "judge" => &[1, 2, 3, 4, 5, 6, 7, 8, 9, 10, 11, 12],
-        "add" => &[1, 2, 3, 4, 5, 6, 7, 8, 9, 10, 11, 12, 14, 15],
-        "replace" => &[1, 2, 3, 4, 5, 6, 7, 8, 9, 10, 11, 12, 13, 14, 15],
-        "withdraw" => &[1, 2, 3, 4, 5, 6, 7, 8, 9, 10, 11, 12, 13, 17],
-        _ => &[1, 2, 3, 4, 5, 6, 7, 8, 9, 10, 11, 13],
-    }
+/// The refusals that an operation can give: those of the sheets, and some more.
+fn refusals_of(operation: &str) -> impl Iterator<Item = usize> {
+    let more: &[usize] = match operation {
+        "judge" => &[12],
+        "add" => &[12, 14, 15],
+        "replace" => &[12, 13, 14, 15],
+        "withdraw" => &[12, 13, 17],
+        _ => &[13],
+    };
+    (1..=11).chain([OUT_OF_ORDER]).chain(more.iter().copied())
 }
 
 fn add_rows(sums: &mut [u64], counts: &[u64]) {
@@ -188,6 +202,9 @@ impl fmt::Display for Tally {
         )?;
         writeln!(f, "{IMMUTABLE_CONSTANTS} {}", self.immutable_constants)?;
         writeln!(f, "{UNDONE} {}", self.undone)?;
+        for (sheet, met) in SHEETS.iter().zip(self.out_of_order) {
+            writeln!(f, "refusal {OUT_OF_ORDER} in the {sheet} sheet {met}")?;
+        }
         writeln!(f, "own marker sets {} of 256", self.marker_sets())
     }
 }

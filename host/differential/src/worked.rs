@@ -14,7 +14,7 @@ const UNTOUCHED: u8 = 0x77;
 fn worked_cases() {
     let blocks = CASES.split("\n\n");
     let cases: Vec<_> = blocks.filter(|block| block.contains("\n= ")).collect();
-    assert_eq!(cases.len(), 10);
+    assert_eq!(cases.len(), 16);
     for case in cases {
         let (expected, given): (Vec<&str>, Vec<&str>) =
             case.lines().partition(|line| line.starts_with("= "));
@@ -126,9 +126,16 @@ fn state(side: &Side) -> String {
     };
     let lines: Vec<_> = verdicts(side.verdicts.part()).map(line).collect();
     let (used, lines) = (side.used, lines.join(" "));
-    let bytes = side.user.part().iter();
-    let buffer: String = bytes.map(|byte| format!("{byte:02x}")).collect();
+    let buffer = digits(side.user.part());
     format!("used={used} buffer={buffer} slate={lines}")
+}
+
+/// The bytes as `hex` reads them.
+fn digits(bytes: &[u8]) -> String {
+    if bytes.is_empty() {
+        return "-".to_string();
+    }
+    bytes.iter().map(|byte| format!("{byte:02x}")).collect()
 }
 
 fn number(text: &str) -> usize {

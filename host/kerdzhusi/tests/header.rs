@@ -10,6 +10,9 @@ const POINT: [u8; 25] = *b"\x0E\0\x01\0\0\0\x01\0\0\0\xFF\xFFPt\x0B\0\x03\0\x01\
 const MUTABLE: [u8; 25] = *b"\x0E\0\x01\0\0\0\x01\0\0\0\xFF\xFFPt\x0B\0\x03\0\0\0\0\x04\0\0x";
 /// Another class, which builds class 2.
 const BUILDER: [u8; 19] = *b"\x0D\0\x01\0\0\0\0\0\0\0\xFF\xFFB\x06\0\x06\0\x02\0";
+/// A class that builds itself before its local variable is named.
+const OUT_OF_ORDER: [u8; 28] =
+    *b"\x0D\0\x01\0\0\0\0\0\0\0\xFF\xFFA\x06\0\x06\0\x01\0\x09\0\x04\0\0\x04\0\0v";
 
 const CLEAN: Verdict = Verdict { rule: 0, record: 0 };
 const NOT_FINAL: Verdict = Verdict { rule: 7, record: 1 };
@@ -108,6 +111,29 @@ fn refusals() {
     assert_eq!(judge_used(3), Err(refusal(2, 1, 0)));
     assert_eq!(judge_used(24), Err(refusal(2, 1, 14)));
     assert!(row.iter().chain(&scratch).all(|&byte| byte == 0xEE));
+}
+
+#[test]
+fn every_call_refuses_records_out_of_order() {
+    let (mut user, mut used) = (OUT_OF_ORDER, OUT_OF_ORDER.len());
+    let mut row = [0xEE; 4];
+    let mut scratch = vec![0xEE; SCRATCH_BYTES];
+    let refused = refusal(16, 1, 19);
+    let (library, row, scratch) = (&LIBRARY, &mut row, &mut scratch);
+    assert_eq!(judge(library, &user, used, row, scratch), Err(refused));
+    let added = add(library, &mut user, &mut used, &POINT, row, scratch);
+    assert_eq!(added, Err(refused));
+    let replaced = replace(library, &mut user, &mut used, 1, &POINT, row, scratch);
+    assert_eq!(replaced, Err(refused));
+    let withdrawn = withdraw(library, &mut user, &mut used, row);
+    assert_eq!(withdrawn, Err(refused));
+    assert_eq!(name(library, &user, used, 1), Err(refused));
+    assert_eq!(marks(library, &user, used, 1), Err(refused));
+    used = 0;
+    let added = add(library, &mut user, &mut used, &OUT_OF_ORDER, row, scratch);
+    assert_eq!(added, Err(refused));
+    assert_eq!((user, used), (OUT_OF_ORDER, 0));
+    assert!(row.iter().chain(&*scratch).all(|&byte| byte == 0xEE));
 }
 
 /// A pointer may be NULL where its length is 0.

@@ -1,5 +1,7 @@
 //! Records and groups, written one after the other.
 
+use crate::read::ordered;
+
 /// Superclass or encloser of a class that has none.
 pub const NO_CLASS: u16 = 0xFFFF;
 /// The most bytes of a sheet.
@@ -159,6 +161,8 @@ pub struct Sheet {
     classes: usize,
     records: usize,
     in_group: usize,
+    /// Where the last group begins.
+    group: usize,
 }
 
 impl Sheet {
@@ -179,6 +183,7 @@ impl Sheet {
 
     pub fn class(&mut self, class: Class, name: &[u8]) -> &mut Sheet {
         self.in_group = 0;
+        self.group = self.bytes.len();
         self.classes += 1;
         let flags = class.flags.to_le_bytes();
         let superclass = class.superclass.to_le_bytes();
@@ -225,6 +230,12 @@ impl Sheet {
         };
         let name = vec![b'z'; length - least + 1];
         self.field(STATIC | FINAL, INT, &name)
+    }
+
+    /// Puts the last group's records in the order that they have to stand in.
+    pub fn order_group(&mut self) {
+        let group = self.bytes.split_off(self.group);
+        self.bytes.extend(ordered(&group));
     }
 
     /// Bytes that are free below the limit of a sheet.

@@ -3,7 +3,7 @@
 use crate::build::Sheet;
 use crate::plan::{Plan, OWN};
 use crate::random::{damage, Random};
-use crate::read::{kind, records};
+use crate::read::{kind, ordered, records};
 
 /// A new group for a user class of an accepted pair, or for the one after the last. Mostly it is
 /// accepted.
@@ -22,7 +22,13 @@ pub fn edited_group(random: &mut Random, group: &[u8], classes: usize) -> Vec<u8
     for _ in 0..1 + random.below(2) {
         edit(random, &mut rows, classes);
     }
-    rows.concat()
+    let group = rows.concat();
+    // What was doubled or shuffled stays where it is now and then.
+    if random.percent(15) {
+        group
+    } else {
+        ordered(&group)
+    }
 }
 
 /// Something that is no group, mostly: nothing, a part, two groups, records without a CLASS.
@@ -47,7 +53,7 @@ fn edit(random: &mut Random, rows: &mut Vec<Vec<u8>>, classes: usize) {
         2 if at > 0 => {
             rows.remove(at);
         }
-        3 if at > 0 => rows.insert(at, rows[at].clone()),
+        3 if at > 0 => rows.insert(1 + random.below(rows.len()), rows[at].clone()),
         4 => random.shuffle(&mut rows[1..]),
         _ => retouch(random, &mut rows[at], classes),
     }

@@ -94,6 +94,8 @@ fn nested_chains() -> Pair {
             head = head.inside(class - 1);
         }
         user.class(head, &short_name(class));
+        user.field(FINAL, object(class), b"f");
+        user.field(FINAL, object(first), b"g");
         let locals = if class == first { LOCALS } else { 1 };
         for _ in 0..locals {
             user.local(object(1), b"v");
@@ -103,8 +105,6 @@ fn nested_chains() -> Pair {
                 user.uses(first, index);
             }
         }
-        user.field(FINAL, object(class), b"f");
-        user.field(FINAL, object(first), b"g");
         for step in 1..=7 {
             user.builds(if class + step < 256 {
                 class + step
@@ -399,7 +399,9 @@ fn spread_references() -> Pair {
         let other = |stride: usize| 1 + (class + stride * stride) % CHAIN;
         for stride in 1..=3 {
             user.field(FINAL, object(other(stride)), b"f");
-            user.local(object(other(stride + 3)).array(), b"v");
+        }
+        for stride in 4..=6 {
+            user.local(object(other(stride)).array(), b"v");
         }
         for stride in 7..=15 {
             user.builds(other(stride));
@@ -430,11 +432,12 @@ fn equal_prefixes() -> Pair {
     for class in HALF..256 {
         user.class(Class::below(0), &name(class));
         user.field(FINAL, INT, &[b'f'; NAME_LIMIT]);
-        user.refers(class % HALF, 0).builds(class);
+        user.builds(class).refers(class % HALF, 0);
     }
     while user.fits(110) {
         user.field(FINAL, INT, &[b'f'; NAME_LIMIT]);
     }
+    user.order_group();
     (library, user)
 }
 

@@ -13,7 +13,7 @@ mod real_names;
 
 pub use groups::{broken_group, edited_group, fitting_group};
 pub use random::{damage, random_group, random_pair, varied_pair, Random};
-pub use read::{groups, kind, number, records};
+pub use read::{groups, is_in_order, kind, number, records};
 
 use build::Sheet;
 

@@ -168,6 +168,7 @@ impl Mixed {
             self.write_record(class, interface, field);
             field += 1;
         }
+        self.user.order_group();
         self.remember(pattern, class);
     }
 
@@ -318,5 +319,6 @@ impl Mixed {
             let room = self.user.room();
             self.user.constant(room);
         }
+        self.user.order_group();
     }
 }

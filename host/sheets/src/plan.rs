@@ -10,6 +10,8 @@ pub const OWN: [u8; 20] = [
 ];
 /// Deemed markers of library classes.
 const DEEMED: [u8; 14] = [0, 0, 0, 1, 2, 4, 8, 16, 32, 64, 128, 130, 66, 3];
+/// So many pairs in a hundred, and so many groups drawn alone, need not keep the order of kinds.
+pub const LOOSE_IN_100: usize = 4;
 
 /// A class before its records are written.
 struct Draft {
@@ -35,6 +37,8 @@ pub struct Plan {
     wrong: Option<(usize, usize)>,
     /// The class whose group gets at least so many records.
     long: Option<(usize, usize)>,
+    /// From this class on some records stand behind ones of a higher kind.
+    loose: Option<usize>,
 }
 
 impl Plan {
@@ -44,6 +48,11 @@ impl Plan {
         for class in 0..library + users {
             let draft = plan.draft(random, class, nesting);
             plan.drafts.push(draft);
+        }
+        if random.percent(LOOSE_IN_100) {
+            let any = random.below(library + users);
+            // Often all, since few library groups have records of two kinds.
+            plan.loose = Some(random.pick(&[0, 0, any]));
         }
         plan
     }
@@ -65,6 +74,7 @@ impl Plan {
             drafts: Vec::new(),
             wrong: None,
             long: None,
+            loose: None,
         }
     }
 
@@ -193,7 +203,17 @@ impl Plan {
             4 => draft.class.own = random.number() as u8,
             5 => draft.interfaces.push(other),
             6 => draft.name = format!("C{other}"),
-            _ => self.wrong = Some((class, random.below(8))),
+            _ => {
+                self.wrong = Some((class, random.below(8)));
+                self.loosen(random, class);
+            }
+        }
+    }
+
+    /// Now and then the record with a mistake, or one too many, is out of order too.
+    fn loosen(&mut self, random: &mut Random, class: usize) {
+        if random.percent(20) {
+            self.loose = Some(class);
         }
     }
 
@@ -210,6 +230,7 @@ impl Plan {
         let others = 10 + self.drafts[class].interfaces.len();
         self.drafts[class].items = records.saturating_sub(others);
         self.long = Some((class, records));
+        self.loosen(random, class);
     }
 
     /// Draws a user class anew, or the one after the last. What other classes ask of it is kept
@@ -223,6 +244,9 @@ impl Plan {
         }
         if random.percent(4) {
             draft.name = self.any_name(random);
+        }
+        if random.percent(LOOSE_IN_100) {
+            self.loose = Some(class);
         }
         match self.drafts.get_mut(class) {
             Some(place) => *place = draft,
@@ -246,7 +270,7 @@ impl Plan {
         let draft = &self.drafts[class];
         sheet.class(draft.class, draft.name.as_bytes());
         let mut body = self.body(random, class);
-        random.shuffle(&mut body);
+        let late = body.split_off(body.len() - self.late(random, class, body.len()));
         for part in body {
             self.write_record(random, class, part, sheet);
         }
@@ -254,6 +278,18 @@ impl Plan {
             while sheet.records_in_group() < records {
                 self.write_record(random, class, self.filler(class), sheet);
             }
+        }
+        sheet.order_group();
+        for part in late {
+            self.write_record(random, class, part, sheet);
+        }
+    }
+
+    /// How many of the group's records are put last, whatever their kinds.
+    fn late(&self, random: &mut Random, class: usize, body: usize) -> usize {
+        match self.loose {
+            Some(first) if first <= class => random.pick(&[1, 2, body]).min(body),
+            _ => 0,
         }
     }
 
@@ -265,7 +301,7 @@ impl Plan {
         }
     }
 
-    /// What the group holds beside its CLASS.
+    /// What the group holds beside its CLASS, a wrong record last.
     fn body(&self, random: &mut Random, class: usize) -> Vec<Part> {
         let draft = &self.drafts[class];
         let mut body: Vec<Part> = draft.interfaces.iter().map(|&i| Part::Extends(i)).collect();
@@ -282,6 +318,7 @@ impl Plan {
                 ]));
             }
         }
+        random.shuffle(&mut body);
         if let Some((_, kind)) = self.wrong.filter(|&(wrong, _)| wrong == class) {
             body.push(Part::Wrong(kind));
         }

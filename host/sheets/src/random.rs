@@ -1,7 +1,7 @@
 //! Random pairs, mostly well formed, and damage to bytes.
 
 use crate::build::*;
-use crate::plan::{Plan, OWN};
+use crate::plan::{Plan, LOOSE_IN_100, OWN};
 use crate::read::records;
 
 /// A small generator of numbers (splitmix64).
@@ -162,6 +162,9 @@ pub fn random_group(seed: u64, library_classes: usize, classes: usize, class: us
                 sheet.field(flags, ty, b"f")
             }
         };
+    }
+    if !random.percent(LOOSE_IN_100) {
+        sheet.order_group();
     }
     sheet.into_bytes()
 }

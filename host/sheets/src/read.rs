@@ -22,6 +22,20 @@ pub fn records(mut sheet: &[u8]) -> impl Iterator<Item = &[u8]> {
     })
 }
 
+/// Do kinds never fall inside a group?
+pub fn is_in_order(sheet: &[u8]) -> bool {
+    let kinds: Vec<_> = records(sheet).map(kind).collect();
+    kinds.windows(2).all(|two| two[1] == 1 || two[0] <= two[1])
+}
+
+/// A group with its records in order of kind, those of one kind as they stood.
+pub fn ordered(group: &[u8]) -> Vec<u8> {
+    let mut rows: Vec<_> = records(group).collect();
+    // The first one is the CLASS; a wrong record may have a lower kind.
+    rows[1..].sort_by_key(|record| kind(record));
+    rows.concat()
+}
+
 /// The groups of a sheet; records before the first CLASS belong to none.
 pub fn groups(sheet: &[u8]) -> Vec<&[u8]> {
     let mut groups = Vec::new();

@@ -1,9 +1,9 @@
-//! Each family is accepted, within the limits, and judged in a moment.
+//! Each family is accepted, in order, within the limits, and judged in a moment.
 
 use std::time::{Duration, Instant};
 
 use reference::{judge, Counts, SCRATCH_BYTES, SHEET_LIMIT};
-use sheets::{families, full, typical, Family};
+use sheets::{families, full, is_in_order, typical, Family};
 
 struct Buffers {
     verdicts: Vec<u8>,
@@ -40,6 +40,14 @@ fn every_family_is_accepted_and_within_the_limits() {
         assert!(family.classes <= 256, "{name}");
         let counts = Buffers::new().judge(&family);
         assert!(counts.classes > 0 && counts.classes < family.classes);
+    }
+}
+
+#[test]
+fn every_family_is_in_order() {
+    for family in families() {
+        assert!(is_in_order(&family.library), "{}", family.name);
+        assert!(is_in_order(&family.user), "{}", family.name);
     }
 }
 

@@ -2,16 +2,61 @@
 
 use reference::{add, judge, replace, SCRATCH_BYTES};
 use sheets::build::{CLASS_LIMIT, GROUP_LIMIT, SHEET_LIMIT};
-use sheets::{edited_group, fitting_group, groups, records, varied_pair, Random};
+use sheets::{
+    edited_group, fitting_group, groups, is_in_order, random_group, random_pair, records,
+    varied_pair, Random,
+};
 
-const PAIRS: u64 = 8_000;
+const PAIRS: u64 = 10_000;
+
+/// The number of the refusal, 0 for an accepted pair.
+fn judged((library, user): &(Vec<u8>, Vec<u8>)) -> u8 {
+    let mut scratch = vec![0; SCRATCH_BYTES];
+    let answer = judge(library, user, user.len(), &mut [0; 512], &mut scratch);
+    answer.map_or_else(|refusal| refusal.number, |_| 0)
+}
 
 /// The accepted ones among many varied pairs.
 fn accepted_pairs() -> impl Iterator<Item = (Vec<u8>, Vec<u8>)> {
-    (0..PAIRS).map(varied_pair).filter(|(library, user)| {
-        let mut scratch = vec![0; SCRATCH_BYTES];
-        judge(library, user, user.len(), &mut [0; 512], &mut scratch).is_ok()
+    (0..PAIRS).map(varied_pair).filter(|pair| judged(pair) == 0)
+}
+
+/// Groups drawn for an accepted pair.
+struct Drawn {
+    library: Vec<u8>,
+    user: Vec<u8>,
+    /// For the class after the last.
+    added: Vec<u8>,
+    /// For this class: one drawn anew, and the present one with changes.
+    class: usize,
+    fitting: Vec<u8>,
+    edited: Vec<u8>,
+}
+
+fn drawn_groups() -> impl Iterator<Item = Drawn> {
+    let mut random = Random::new(7);
+    accepted_pairs().filter_map(move |(library, user)| {
+        let (first, users) = (groups(&library).len(), groups(&user).len());
+        let small = user.len() < 2_000 && first + users < CLASS_LIMIT;
+        if users == 0 || !small {
+            return None;
+        }
+        let class = first + random.below(users);
+        let old = groups(&user)[class - first];
+        Some(Drawn {
+            added: fitting_group(&mut random, &library, &user, first + users),
+            fitting: fitting_group(&mut random, &library, &user, class),
+            edited: edited_group(&mut random, old, first + users),
+            class,
+            library,
+            user,
+        })
     })
+}
+
+fn assert_few(count: usize, all: usize) {
+    let in_100 = 100 * count / all;
+    assert!((1..6).contains(&in_100), "{count} of {all}");
 }
 
 #[test]
@@ -39,23 +84,37 @@ fn groups_end_to_end_are_the_sheet() {
 }
 
 #[test]
+fn few_pairs_are_out_of_order() {
+    for draw in [random_pair, varied_pair] {
+        let refused = (0..PAIRS).filter(|&seed| judged(&draw(seed)) == 16);
+        assert_few(refused.count(), PAIRS as usize);
+    }
+}
+
+#[test]
+fn few_groups_are_out_of_order() {
+    let drawn: Vec<_> = drawn_groups().collect();
+    let out_of_order = |group: fn(&Drawn) -> &Vec<u8>| {
+        let groups = drawn.iter().map(group);
+        groups.filter(|group| !is_in_order(group)).count()
+    };
+    assert_few(out_of_order(|drawn| &drawn.added), drawn.len());
+    assert_few(out_of_order(|drawn| &drawn.fitting), drawn.len());
+    assert_few(out_of_order(|drawn| &drawn.edited), drawn.len());
+    let random = (0..PAIRS).map(|seed| random_group(seed, 5, 10, 8));
+    let random = random.filter(|group| !is_in_order(group));
+    assert_few(random.count(), PAIRS as usize);
+}
+
+#[test]
 fn most_groups_fit() {
-    let mut random = Random::new(7);
     let (mut calls, mut added, mut fitted, mut edited) = (0, 0, 0, 0);
-    for (library, user) in accepted_pairs() {
-        let (first, users) = (groups(&library).len(), groups(&user).len());
-        let small = user.len() < 2_000 && first + users < CLASS_LIMIT;
-        if users == 0 || !small {
-            continue;
-        }
+    for drawn in drawn_groups() {
+        let (library, user, class) = (&drawn.library, &drawn.user, drawn.class);
         calls += 1;
-        let class = first + random.below(users);
-        let group = fitting_group(&mut random, &library, &user, first + users);
-        added += is_added(&library, &user, &group) as usize;
-        let group = fitting_group(&mut random, &library, &user, class);
-        fitted += is_replaced(&library, &user, class, &group) as usize;
-        let group = edited_group(&mut random, groups(&user)[class - first], first + users);
-        edited += is_replaced(&library, &user, class, &group) as usize;
+        added += is_added(library, user, &drawn.added) as usize;
+        fitted += is_replaced(library, user, class, &drawn.fitting) as usize;
+        edited += is_replaced(library, user, class, &drawn.edited) as usize;
     }
     let least = calls * 6 / 10;
     let counts = format!("{added}, {fitted}, {edited} of {calls}");
