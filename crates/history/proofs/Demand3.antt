@@ -19,7 +19,7 @@ use Rattle.spec.specs.Breaks.{Not}
 use Rattle.spec.specs.Refusals.{Refusal, sheetLimit, scratchLength, addedSheet, replacedSheet, withdrawnSheet, sheetRefusal, presentRefusal, noUserRefusal, shortRefusal}
 use Rattle.spec.specs.Refusals.{judgeRefusal, addRefusal, replaceRefusal, withdrawRefusal}
 use Rattle.spec.specs.Verdicts.{VerdictRow, flat, verdictAt, userVerdict, dependsOn}
-use Rattle.spec.specs.Promises.{Answer, accepted, Counts, countsOf, judgedRow, Judges, State}
+use Rattle.spec.specs.Promises.{Answer, accepted, Counts, countsOf, judgedRow, Judges, State, Edit}
 use Rattle.laws.proofs.Bools.{decide, and-l, not-or-l, eq→eqb}
 use Rattle.laws.proofs.All.{All, all-append, all-set, all-take}
 use Rattle.theory.proofs.Cut.{IsGroup, count-of-join, sheet-grouped, sheet-groups}
@@ -37,9 +37,9 @@ use Rattle.history.proofs.Flat.{flat-laws}
 use Rattle.history.proofs.Counting.{counted-by}
 use Rattle.theory.proofs.Unrefused.{Present, present-facts, facts-present, short-none, none-short, edit-passes}
 use Rattle.history.proofs.Model.{total-count, added-group, set-group, front-is}
-use Rattle.history.proofs.Made.{callRefusal, made, Acceptable, made-acceptable}
 use Rattle.history.proofs.Steps.{library-stays, writes, writtenBy, made-is, why, next, Modelled, ModelHolds}
-use Rattle.history.proofs.Steps.{modelled, user-after, used-after, state-stays, model-stays, model-changes, row-changes}
+use Rattle.history.proofs.Steps.{edit-is, modelled, user-after, used-after, state-stays, model-stays, model-changes, row-changes}
+use Rattle.history.proofs.Made.{Acceptable, made-acceptable}
 
 -- what is known of an accepted call itself: its group is whole, and the class that it replaces is a user class; there is a class to take out, and no other names it
 abbrev Suits : Model → Call → Type 0
@@ -75,19 +75,14 @@ module _ (m : Model) (w : All IsGroup (m .groups)) where
       let whole : classCount (sheet m) ≡ length (m .groups) = (unfold sheet in count-of-join (m .groups) w) in
       (omega (arith, some-class (take (used m) (buffer m)) (q .1 .0), ap classCount (front-is m), whole), ap (sheetRefusal (m .library)) (sym (front-is m)) ∙ f .sheets)
 
-  refusal-is : (call : Call) (scratch : ℕ) → callRefusal (m .library) (buffer m) (used m) (m .lines) call scratch ≡ modelRefusal m call scratch
-  unfolding modelRefusal
-  refusal-is (add g) scratch = refl
-  refusal-is (replace c g) scratch = refl
-  refusal-is withdraw scratch = refl
-
-  ready : (call : Call) (scratch : ℕ) → modelRefusal m call scratch ≡ none → Ready m call
-  ready call scratch e = record {
-    suits = suited call scratch e;
-    -- the sheet that a call makes of the bytes in use is the model's new one
-    acceptable = subst (λ (new : List ℕ). Acceptable (m .library) new (m .lines)) (ap (λ (old : List ℕ). made (m .library) old call) (front-is m) ∙ made-is m w call)
-        (made-acceptable (m .library) (buffer m) (used m) (m .lines) call scratch (refusal-is call scratch ∙ e));
-  }
+-- what the operation's edit says of the program's buffers, the model's says of its own
+ready : (row : VerdictRow) (m : Model) (s : State row) → ModelHolds row m s → (call : Call) (scratch : ℕ) → modelRefusal m call scratch ≡ none → Ready m call
+ready row m s h call scratch e = record {
+  suits = suited m (h .whole) call scratch e;
+  acceptable = subst (Acceptable (m .library) (newSheet m call)) (h .lines-are)
+      (subst (λ (t : Edit). t .refusal ≡ none → Acceptable (m .library) (t .sheet) (row .lines (s .verdicts))) (edit-is row m s h call scratch)
+      (made-acceptable row (m .library) s call scratch) e);
+}
 
 -- ---- the verdicts that may change are those that are written
 
@@ -221,7 +216,7 @@ module _ (row : VerdictRow) (laws : RowLaws row) where
     -- where it is not refused
     module _ (e : why row m d ≡ none) where
       known : Ready m (d .call)
-      known = ready m (h .holds .whole) (d .call) (length (d .scratch)) e
+      known = ready row m s (h .holds) (d .call) (length (d .scratch)) e
 
       new-sound : Sound (m .library) (newSheet m (d .call))
       new-sound = sound (m .library) (newSheet m (d .call)) (known .acceptable .sheets)

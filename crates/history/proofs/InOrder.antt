@@ -8,41 +8,27 @@ use Prim.Native.Nat.{ℕ}
 use lib.ListN.{length, take}
 use Rattle.spec.specs.Refusals.{Refusal, judgeRefusal, queryRefusal}
 use Rattle.spec.specs.Verdicts.{VerdictRow}
-use Rattle.spec.specs.Promises.{accepted, State, Changes, addition, replacement, withdrawal, bytesAt, noPart, Names}
+use Rattle.spec.specs.Promises.{accepted, State, Changes, bytesAt, noPart, Names}
 use Rattle.theory.specs.Claims.{InOrder}
 use Rattle.theory.proofs.Answers.{first-none}
 use Rattle.theory.proofs.Order.{sheets-in-order, order-holds}
 use Rattle.theory.proofs.Promised.{told-fine, kept-refused, sheet-left}
-use Rattle.history.specs.Model.{Call, add, replace, withdraw}
 use Rattle.history.specs.Demand3.{Done, Promised}
 use Rattle.history.specs.InOrder.{HeldInOrder, ReadsInOrder}
-use Rattle.history.proofs.Made.{callRefusal, made, present-of, made-acceptable}
+use Rattle.history.proofs.Made.{present-of, made-acceptable}
 use Rattle.history.proofs.Steps.{editOf, promised}
 
-module _ (row : VerdictRow) (library : List ℕ) (before : State row) where
-  refusal-is : (call : Call) (scratch : ℕ) → callRefusal library (before .user) (before .used) (row .lines (before .verdicts)) call scratch ≡ editOf row library before call scratch .refusal
-  unfolding addition replacement withdrawal
-  refusal-is (add g) scratch = refl
-  refusal-is (replace c g) scratch = refl
-  refusal-is withdraw scratch = refl
-
-  sheet-is : (call : Call) (scratch : ℕ) → editOf row library before call scratch .sheet ≡ made library (take (before .used) (before .user)) call
-  unfolding addition replacement withdrawal
-  sheet-is (add g) scratch = refl
-  sheet-is (replace c g) scratch = refl
-  sheet-is withdraw scratch = refl
-
-  changed-in-order : (d : Done row) (n : ℕ) → Promised row library before d → d .answer ≡ accepted n → HeldInOrder row library before × HeldInOrder row library (d .after)
-  changed-in-order d n p e =
-      let c = promised row library before (d .call) (d .scratch) (d .answer) (d .after) (d .scratchAfter) p .changes in
-      let edit = editOf row library before (d .call) (length (d .scratch)) in
-      let lines : ℕ = row .lines (before .verdicts) in
-      let fine = refusal-is (d .call) (length (d .scratch)) ∙ told-fine (edit .refusal) (edit .answer) (sym e ∙ c .answered) .0 in (
-        order-holds library (before .user) (before .used) (present-of library (before .user) (before .used) lines (d .call) (length (d .scratch)) fine),
-        subst (InOrder library) (sym (sheet-left row edit before (subst (λ a. Changes row edit before a (d .after)) e c) ∙ sheet-is (d .call) (length (d .scratch))))
-            (sheets-in-order library (made library (take (before .used) (before .user)) (d .call))
-            (made-acceptable library (before .user) (before .used) lines (d .call) (length (d .scratch)) fine .sheets)),
-      )
+changed-in-order : (row : VerdictRow) (library : List ℕ) (before : State row) (d : Done row) (n : ℕ) → Promised row library before d → d .answer ≡ accepted n
+    → HeldInOrder row library before × HeldInOrder row library (d .after)
+changed-in-order row library before d n p e =
+    let edit = editOf row library before (d .call) (length (d .scratch)) in
+    let c : Changes row edit before (accepted n) (d .after) =
+    subst (λ a. Changes row edit before a (d .after)) e (promised row library before (d .call) (d .scratch) (d .answer) (d .after) (d .scratchAfter) p .changes) in
+    let fine = told-fine (edit .refusal) (edit .answer) (c .answered) .0 in (
+      order-holds library (before .user) (before .used) (present-of row library before (d .call) (length (d .scratch)) fine),
+      subst (InOrder library) (sym (sheet-left row edit before c))
+          (sheets-in-order library (edit .sheet) (made-acceptable row library before (d .call) (length (d .scratch)) fine .sheets)),
+    )
 
 module _ (library user : List ℕ) (used c : ℕ) where
   -- a query that is not refused

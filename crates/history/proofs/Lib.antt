@@ -1,8 +1,8 @@
 pub mod Flat
 pub mod Counting
 pub mod Model
-pub mod Made
 pub mod Steps
+pub mod Made
 pub mod Judged
 pub mod Demand3
 pub mod Undo

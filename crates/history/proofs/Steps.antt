@@ -20,7 +20,6 @@ use Rattle.theory.proofs.Promised.{kept-refused, new-fine}
 use Rattle.history.specs.Model.{Call, add, replace, withdraw, Model, sheet, used, buffer, modelRefusal, newGroups, newSheet, modelValue, newPast, changed, modelStep}
 use Rattle.history.specs.Demand3.{Done, leftOf, PromisedBy, Promised}
 use Rattle.history.proofs.Model.{total-count, front-is, rest-is}
-use Rattle.history.proofs.Made.{made}
 
 -- ---- what is left afterwards
 
@@ -60,7 +59,12 @@ writtenBy m withdraw = λ i. clean
 abbrev pub modelEdit : Model → Call → ℕ → Edit
 modelEdit m call scratch = record { refusal = modelRefusal m call scratch; sheet = newSheet m call; answer = modelValue m call; changed = writes m call; verdict = writtenBy m call }
 
--- the sheet that a call makes of the model's
+-- the sheet that a call makes of a user sheet
+abbrev made : List ℕ → List ℕ → Call → List ℕ
+made library user (add g) = addedSheet user g
+made library user (replace c g) = replacedSheet library user c g
+made library user withdraw = withdrawnSheet user
+
 pub made-is : (m : Model) → All IsGroup (m .groups) → (call : Call) → made (m .library) (sheet m) call ≡ newSheet m call
 unfolding addedSheet replacedSheet withdrawnSheet newSheet newGroups sheet concat
 made-is m w (add g) = ap (λ (l : List ℕ). concat (m .groups) ++ l) (sym (append-nil g)) ∙ sym (concat-append (m .groups) (g ∷ []))
@@ -113,7 +117,7 @@ module _ (row : VerdictRow) where
     sheet-is : take (s .used) (s .user) ≡ sheet m
     sheet-is = (λ j. take (h .used-is j) (h .user-is j)) ∙ front-is m
 
-    edit-is : (call : Call) (scratch : ℕ) → editOf (m .library) s call scratch ≡ modelEdit m call scratch
+    pub edit-is : (call : Call) (scratch : ℕ) → editOf (m .library) s call scratch ≡ modelEdit m call scratch
     unfolding addition replacement withdrawal modelRefusal modelValue writes writtenBy dependentCount sheet lastClass
     edit-is (add g) scratch = λ j. record {
       refusal = addRefusal (m .library) (h .user-is j) (h .used-is j) g (h .lines-are j) scratch;

@@ -20,7 +20,7 @@ use Rattle.laws.proofs.Bools.{eq→eqb, nltb}
 use Rattle.laws.proofs.All.{All, weaken, none-any, below-span}
 use Rattle.laws.proofs.Zeros.{past-zeros, among-zeros}
 use Rattle.theory.proofs.Answers.{first-none, none-first, none-plain}
-use Rattle.theory.proofs.Accept.{Clear, Sound, sound, references-below}
+use Rattle.theory.proofs.Accept.{Sound, sound, references-below}
 use Rattle.theory.proofs.Cut.{IsGroup, concat-append, sheet-grouped, sheet-groups}
 use Rattle.theory.proofs.New.{added-count}
 use Rattle.history.specs.Model.{add}
@@ -59,7 +59,8 @@ module _ (row : VerdictRow) (laws : RowLaws row) (library g : List ℕ) (before 
   old = sound library s (present .sheets)
 
   new-accepted : sheetRefusal library new ≡ none
-  new-accepted = made-acceptable library (before .user) (before .used) lines (add g) (length scratch) (told .0) .sheets
+  unfolding addition
+  new-accepted = made-acceptable row library before (add g) (length scratch) (told .0) .sheets
 
   count : classCount new ≡ classCount s + 1
   count = added-count (old .userSheet) g (passes .whole)

@@ -296,8 +296,8 @@ fn head_number(bytes: &[u8], sheet: u8, at: usize, kind: u16, len: u16, k: usize
     }
 }
 
-// The number that refuses what begins at `at`, whose length and kind are read already, after c classes and k records of the open group, of which the last has
-// kind `before`, or 0.
+// The number that refuses what begins at `at`, or 0. Its length and kind are read already; before it stand c classes and k records of the open group, of
+// which the last has kind `before`.
 fn record_number(
     bytes: &[u8],
     sheet: u8,

@@ -15,7 +15,7 @@ use Rattle.laws.proofs.All.{All, all-append, all-get}
 use Rattle.theory.specs.Claims.{InOrder, OrderHolds}
 use Rattle.theory.proofs.Answers.{first-none}
 use Rattle.theory.proofs.Cut.{split-class, split-other}
-use Rattle.theory.proofs.Accept.{Passed, locateIf, Sound, sound}
+use Rattle.theory.proofs.Accept.{Passed, locateIf, sound}
 
 -- the kinds never fall, from kind b on
 abbrev Ascends : ℕ → Group → Type 0
