@@ -38,7 +38,7 @@ unfolding locatedIn
 along-names tests sheet n s =
     gives-first (Names sheet) _ (gives-map (Names sheet) (λ l. refuseRecord l (tests l)) (locatedIn sheet n s)
     (weaken (Among sheet 0 (recordsOf s)) (λ l. Gives (Names sheet) (refuseRecord l (tests l)))
-    (λ l a. gives-record (Names sheet) l (tests l) (of-members (λ t. l .sheet ≡ sheet) (tests l) (λ t m. a .sheet)))
+    (λ l a. gives-record (Names sheet) l (tests l) (of-members (λ t. T (t .1) → l .sheet ≡ sheet) (tests l) (λ t m u. a .sheet)))
     (locatedIn sheet n s) (locate-among sheet 0 n 0 0 (recordsOf s))))
 
 pass-names : (sheet n : ℕ) (s : List ℕ) → Gives (Names sheet) (passRefusal sheet n s)

@@ -23,6 +23,6 @@ pub mod Unrefused
 pub mod Promised
 pub mod Fitting
 pub mod Withdraw
-pub mod Order
 pub mod Refused
+pub mod Order
 pub mod FlatRow

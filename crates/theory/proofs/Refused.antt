@@ -34,13 +34,14 @@ module _ (P : Refusal → Type 0) where
   gives-if true n s byte h = h tt
   gives-if false n s byte h = tt
 
-  -- a record is refused with the number of one of the tests, at its own place
-  pub gives-record : (l : Located) (tests : List (ℕ × Bool)) → All (λ t. P (record { number = t .0; sheet = l .sheet; byte = l .byte })) tests → Gives P (refuseRecord l tests)
+  -- a record is refused with the number of one of the tests that it meets, at its own place
+  pub gives-record : (l : Located) (tests : List (ℕ × Bool)) → All (λ t. T (t .1) → P (record { number = t .0; sheet = l .sheet; byte = l .byte })) tests
+      → Gives P (refuseRecord l tests)
   unfolding refuseRecord
   gives-record l tests h =
       gives-first P _ (gives-map P (λ t. refuseIf (t .1) (t .0) (l .sheet) (l .byte)) tests
-      (weaken (λ t. P (record { number = t .0; sheet = l .sheet; byte = l .byte })) (λ t. Gives P (refuseIf (t .1) (t .0) (l .sheet) (l .byte)))
-      (λ t k. gives-if (t .1) (t .0) (l .sheet) (l .byte) (λ u. k)) tests h))
+      (weaken (λ t. T (t .1) → P (record { number = t .0; sheet = l .sheet; byte = l .byte })) (λ t. Gives P (refuseIf (t .1) (t .0) (l .sheet) (l .byte)))
+      (λ t k. gives-if (t .1) (t .0) (l .sheet) (l .byte) k) tests h))
 
 -- ---- where located records begin
 
@@ -139,8 +140,8 @@ module _ (library user : List ℕ) where
       gives-first Recorded _ (gives-map Recorded (λ l. refuseRecord l (tests l)) ls
       (weaken (Stands library user) (λ l. Gives Recorded (refuseRecord l (tests l)))
       (λ l a. gives-record Recorded l (tests l)
-      (weaken (λ t. T (elem (t .0) recordNumbers)) (λ t. Recorded (record { number = t .0; sheet = l .sheet; byte = l .byte }))
-      (λ t q. (q, at q (a .sheet) (a .begins)))
+      (weaken (λ t. T (elem (t .0) recordNumbers)) (λ t. T (t .1) → Recorded (record { number = t .0; sheet = l .sheet; byte = l .byte }))
+      (λ t q u. (q, at q (a .sheet) (a .begins)))
       (tests l) (all-true (λ t. elem (t .0) recordNumbers) (tests l) (h l))))
       ls k))
 

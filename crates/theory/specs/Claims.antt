@@ -1,7 +1,7 @@
 -- What is claimed of the definitions, from acceptance alone. Each claim is proved in `proofs/`.
 -- Assumes nothing.
 use mathlib.Core.Path.{_≡_}
-use mathlib.Core.Logic.{_↔_}
+use mathlib.Core.Logic.{_↔_, _≢_, _⊎_}
 use mathlib.Core.Bool.{true, false}
 use mathlib.Core.List.{List, List·Memᴰ}
 use mathlib.Core.Option.{Option, none, some}
@@ -171,3 +171,9 @@ InOrder library user = (c : ℕ) → Rising (group library user c)
 
 abbrev pub OrderHolds : Type 0
 OrderHolds = (library user : List ℕ) (used : ℕ) → presentRefusal library user used ≡ none → InOrder library (take used user)
+
+-- and 16 comes for no other reason: sheets in order, present or new, are never refused with it
+abbrev pub OrderPasses : Type 0
+OrderPasses =
+    (library user : List ℕ) → InOrder library user
+    → (r : Refusal) → (sheetRefusal library user ≡ some r) ⊎ (newRefusal library user ≡ some r) → r .number ≢ 16
