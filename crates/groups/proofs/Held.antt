@@ -2,40 +2,55 @@
 -- Assumes nothing.
 use mathlib.Core.Path.{_≡_, refl, sym, ap, ap₂, _∙_, subst}
 use mathlib.Core.Bool.{not}
-use mathlib.Core.List.{List, [], _∷_, _++_, append-nil}
+use mathlib.Core.List.{List, [], _∷_, _++_}
 use mathlib.Core.Logic.{_⊎_, inl, inr}
 use Prim.Native.Nat.{ℕ, suc, _+_, _-_, _≤_, _<_}
 use native.Mathlib.Nat.{add-zero}
 use native.Mathlib.Omega.{arith}
 use lib.Dec.{T, T-not, eqb, leb, ltb, eqb→eq, leb→le, ltb→lt, nltb→le}
 use lib.ListN.{length, getD, take, drop, length-append, List·getD-append}
-use lib.Seq.{take-suc, take-length, split-at, getD-append-add}
+use lib.Seq.{split-at, getD-append-add}
 use borrow.Author.Tests.{eq-eqb, ne-eqb, lt-ltb, le-ltb}
 use Rattle.spec.specs.Lists.{concat}
-use Rattle.spec.specs.Record.{u16, kind, isClass, CLASS, byKind, withName, lengthFits}
-use Rattle.spec.specs.Sheet.{Group, recordsOf, splitGroups, groupsOf, classCount, groupStart, total, group, classRecord, ofKind, locatedIn, located}
+use Rattle.spec.specs.Record.{u16, kind, isClass, byKind, withName, lengthFits}
+use Rattle.spec.specs.Sheet.{Group, recordsOf, groupsOf, classCount, groupStart, total, group, classRecord, locatedIn}
+use Rattle.spec.specs.Refusals.{oneClass}
 use Rattle.theory.specs.Claims.{sheetOf}
-use Rattle.laws.proofs.All.{All, all-append, all-left, all-right, all-kept, weaken}
-use Rattle.laws.proofs.Bools.{decide, and-l, eq→eqb}
+use Rattle.laws.proofs.All.{All, all-append, all-left, all-right, all-get, all-at}
+use Rattle.laws.proofs.Bools.{decide, and-l, and-r, eq→eqb}
 use Rattle.laws.proofs.Parts.{part-length, part-word}
-use Rattle.theory.proofs.Cut.{Whole, records-of-whole, concat-append, concat-concat, split-parts, sheet-grouped}
-use Rattle.theory.proofs.Accept.{Passed, by-class, Clear}
-use Rattle.theory.proofs.Form.{one-record, group-one-class}
+use Rattle.theory.proofs.Cut.{Whole, concat-append, in-groups, split-parts}
+use Rattle.theory.proofs.Accept.{each-record, Clear}
+use Rattle.theory.proofs.Form.{class-first}
+use Rattle.theory.proofs.Running.{joined, whole, group-next, group-last}
 use Rattle.groups.specs.Groups.{sheetNumber, startOf, endOf, Indexed}
 use Rattle.records.specs.Records.{between, Tiled}
 use Rattle.records.proofs.Between.{placed, tiled-step}
 
+-- ---- a CLASS record
+
+-- twelve bytes and a name of at most 100
+class-sizes : (r : List ℕ) → T (isClass r) → T (lengthFits r) → (13 ≤ length r) × (length r ≤ 112)
+unfolding lengthFits byKind withName
+class-sizes r k t =
+    let e : kind r ≡ 1 = eqb→eq (kind r) 1 k in
+    let u = rw e at t in
+    (leb→le 13 (length r) (and-l (leb 13 (length r)) (leb (length r) 112) u), leb→le (length r) 112 (and-r (leb 13 (length r)) (leb (length r) 112) u))
+
+pub first-within : (g : Group) → length (classRecord g) ≤ length (concat g)
+unfolding classRecord concat
+first-within [] = omega arith
+first-within (r ∷ rs) = omega (arith, length-append r (concat rs))
+
 -- ---- one sheet
 
 module _ {sheet n : ℕ} {s : List ℕ} (clear : Clear sheet n s) where
-  joined : concat (concat (groupsOf s)) ≡ s
-  joined = sym (concat-concat (groupsOf s)) ∙ sheet-grouped s (clear .end) (clear .loose)
+  pub record-lengths : All (λ r. T (lengthFits r)) (recordsOf s)
+  unfolding locatedIn
+  record-lengths = each-record (λ r. T (lengthFits r)) sheet (λ l e p. p .lengthFits) 0 n 0 0 (recordsOf s) (clear .passed)
 
-  whole : All Whole (concat (groupsOf s))
-  unfolding groupsOf
-  whole =
-      let t = splitGroups (recordsOf s) in
-      all-right Whole (t .loose) (concat (t .groups)) (subst (All Whole) (split-parts (recordsOf s) .joined) (records-of-whole s))
+  sheet-lengths : All (All (λ r. T (lengthFits r))) (groupsOf s)
+  sheet-lengths = in-groups (λ r. T (lengthFits r)) s record-lengths
 
   module _ (i : ℕ) (h : i < classCount s) where
     around : concat (groupsOf s) ≡ concat (take i (groupsOf s)) ++ (getD (groupsOf s) i [] ++ concat (drop (suc i) (groupsOf s)))
@@ -51,39 +66,30 @@ module _ {sheet n : ℕ} {s : List ℕ} (clear : Clear sheet n s) where
         let front = concat (take i (groupsOf s)) in
         let g : Group = getD (groupsOf s) i [] in
         let rest = concat (drop (suc i) (groupsOf s)) in
-        let w : All Whole g = all-left Whole g rest (all-right Whole front (g ++ rest) (subst (All Whole) around whole)) in
+        let w : All Whole g = all-left Whole g rest (all-right Whole front (g ++ rest) (subst (All Whole) around (whole clear))) in
         placed s (concat front) g (concat rest) (length (concat front)) (length (concat front) + length (concat g)) w
-        (sym joined ∙ ap concat around ∙ concat-append front (g ++ rest) ∙ ap (λ (x : List ℕ). concat front ++ x) (concat-append g rest)) refl refl
+        (sym (joined clear) ∙ ap concat around ∙ concat-append front (g ++ rest) ∙ ap (λ (x : List ℕ). concat front ++ x) (concat-append g rest)) refl refl
 
-    pub group-next : groupStart s (i + 1) ≡ groupStart s i + length (concat (getD (groupsOf s) i []))
-    unfolding groupStart classCount concat
-    group-next =
-        let front = concat (take i (groupsOf s)) in
+    -- its CLASS record, which comes first
+    pub class-fits : (13 ≤ length (classRecord (getD (groupsOf s) i []))) × (length (classRecord (getD (groupsOf s) i [])) ≤ 112)
+    unfolding classCount groupsOf
+    class-fits =
         let g : Group = getD (groupsOf s) i [] in
-        let e : i + 1 ≡ suc i = omega arith in
-        ap (λ (k : ℕ). length (concat (concat (take k (groupsOf s))))) e
-        ∙ ap (λ (x : List Group). length (concat (concat x))) (take-suc (groupsOf s) i [] h)
-        ∙ ap (λ (x : List (List ℕ)). length (concat x)) (concat-append (take i (groupsOf s)) (g ∷ []) ∙ ap (λ (x : List (List ℕ)). front ++ x) (append-nil g))
-        ∙ ap length (concat-append front g)
-        ∙ length-append (concat front) (concat g)
+        let a : All (λ r. T (lengthFits r)) g = all-get {A = Group} (All (λ r. T (lengthFits r))) [] (groupsOf s) sheet-lengths tt i in
+        let f = class-first (λ r. T (lengthFits r)) g (all-at (λ h. T (oneClass h)) [] (groupsOf s) (split-parts (recordsOf s) .one) i h) a in
+        class-sizes (classRecord g) (f .1) (f .0)
 
-  pub group-last : groupStart s (classCount s) ≡ length s
-  unfolding groupStart classCount
-  group-last = ap (λ (x : List Group). length (concat (concat x))) (take-length (groupsOf s)) ∙ ap length joined
+    nonempty : groupStart s i < groupStart s i + length (concat (getD (groupsOf s) i []))
+    nonempty = omega (arith, class-fits .0, first-within (getD (groupsOf s) i []))
 
--- ---- one group
+    pub class-here : classRecord (getD (groupsOf s) i []) ≡ take (u16 s (groupStart s i)) (drop (groupStart s i) s)
+    unfolding classRecord
+    class-here = ap classRecord (sym (group-placed .1) ∙ tiled-step (group-placed .0) nonempty .2)
 
--- a CLASS record is twelve bytes and a name
-pub class-length : (r : List ℕ) → T (isClass r) → T (lengthFits r) → 13 ≤ length r
-unfolding lengthFits byKind withName
-class-length r k t =
-    let e : kind r ≡ 1 = eqb→eq (kind r) 1 k in
-    let u = rw e at t in leb→le 13 (length r) (and-l (leb 13 (length r)) (leb (length r) 112) u)
-
-pub first-within : (g : Group) → length (classRecord g) ≤ length (concat g)
-unfolding classRecord concat
-first-within [] = omega arith
-first-within (r ∷ rs) = omega (arith, length-append r (concat rs))
+    pub class-long-here : length (classRecord (getD (groupsOf s) i [])) ≡ u16 s (groupStart s i)
+    class-long-here =
+        let at = groupStart s i in
+        ap length class-here ∙ part-length s at (u16 s at) (omega (arith, tiled-step (group-placed .0) nonempty .1, group-placed .0 .within))
 
 -- ---- two sheets
 
@@ -153,11 +159,10 @@ module _ {library user : List ℕ} {nlib n : ℕ} {row : List ℕ} (x : Indexed 
 
 -- each record of a class has a length that its kind can have
 pub group-lengths : {library user : List ℕ} {nlib n : ℕ} {row : List ℕ} → Indexed library user nlib n row → (c : ℕ) → All (λ r. T (lengthFits r)) (group library user c)
-unfolding located
+unfolding group
 group-lengths {library} {user} x c =
-    by-class (λ d r. T (lengthFits r)) library user
-    (weaken Passed (λ l. T (lengthFits (l .bytes))) (λ l p. p .lengthFits) (located library user)
-    (all-append Passed (locatedIn 0 0 library) (locatedIn 1 (classCount library) user) (x .library-clear .passed) (x .user-clear .passed))) c
+    all-get {A = Group} (All (λ r. T (lengthFits r))) [] (groupsOf library ++ groupsOf user)
+    (all-append (All (λ r. T (lengthFits r))) (groupsOf library) (groupsOf user) (sheet-lengths (x .library-clear)) (sheet-lengths (x .user-clear))) tt c
 
 module _ {library user : List ℕ} {nlib c : ℕ} {s : List ℕ} {i : ℕ} (h : Held library user nlib c s i) where
   pub held-placed : Tiled (sheetOf library user (sheetNumber nlib c)) (startOf library user c) (endOf library user c)
@@ -167,7 +172,7 @@ module _ {library user : List ℕ} {nlib c : ℕ} {s : List ℕ} {i : ℕ} (h : 
 
   pub held-end : endOf library user c ≡ groupStart s (i + 1)
   unfolding endOf
-  held-end = rw (h .start, h .its) (sym (group-next (h .clear) i (h .there)))
+  held-end = rw (h .start, h .its) (sym (group-next s i (h .there)))
 
 module _ {library user : List ℕ} {nlib n : ℕ} {row : List ℕ} (x : Indexed library user nlib n row) {c : ℕ} (h : c < n) where
   -- what holds of a class of either sheet
@@ -214,11 +219,7 @@ module _ {library user : List ℕ} {nlib n : ℕ} {row : List ℕ} (x : Indexed 
   -- ---- the CLASS record, which comes first
 
   pub class-long : 13 ≤ length (classRecord (group library user c))
-  class-long =
-      let q : All (λ r. T (lengthFits r) × T (isClass r)) (ofKind CLASS (group library user c)) =
-      (unfold ofKind in all-kept (λ r. T (lengthFits r)) isClass (group library user c) (group-lengths x c)) in
-      let o = one-record (group library user c) (group-one-class library user c (omega (arith, x .n-is))) in
-      let r = rw o at q in class-length (classRecord (group library user c)) (r .0 .1) (r .0 .0)
+  class-long = by-sheet _ (λ s i k. rw (k .its) (class-fits (k .clear) i (k .there) .0))
 
   pub class-room : startOf library user c + length (classRecord (group library user c)) ≤ endOf library user c
   unfolding endOf
@@ -230,16 +231,12 @@ module _ {library user : List ℕ} {nlib n : ℕ} {row : List ℕ} (x : Indexed 
   pub class-there : startOf library user c < endOf library user c
   class-there = omega (arith, class-long, class-room)
 
-  pub class-record : classRecord (group library user c)
+  class-record : classRecord (group library user c)
       ≡ take (u16 (sheetOf library user (sheetNumber nlib c)) (startOf library user c)) (drop (startOf library user c) (sheetOf library user (sheetNumber nlib c)))
-  unfolding classRecord
-  class-record = ap classRecord (sym group-between ∙ tiled-step group-tiled class-there .2)
+  class-record = by-sheet _ (λ s i k. rw (k .is, k .start, k .its) (class-here (k .clear) i (k .there)))
 
-  pub class-size : length (classRecord (group library user c)) ≡ u16 (sheetOf library user (sheetNumber nlib c)) (startOf library user c)
-  class-size =
-      let s = sheetOf library user (sheetNumber nlib c) in
-      let at = startOf library user c in
-      ap length class-record ∙ part-length s at (u16 s at) (omega (arith, tiled-step group-tiled class-there .1, group-tiled .within))
+  class-size : length (classRecord (group library user c)) ≡ u16 (sheetOf library user (sheetNumber nlib c)) (startOf library user c)
+  class-size = by-sheet _ (λ s i k. rw (k .is, k .start, k .its) (class-long-here (k .clear) i (k .there)))
 
   pub class-word : {sheet at : ℕ} → sheet ≡ sheetNumber nlib c → at ≡ startOf library user c → (j : ℕ) → j + 1 < length (classRecord (group library user c))
       → u16 (sheetOf library user sheet) (at + j) ≡ u16 (classRecord (group library user c)) j

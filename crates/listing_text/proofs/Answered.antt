@@ -7,12 +7,15 @@ use Prim.Native.Nat.{ℕ, _+_, _*_, _%_, _≤_, _<_}
 use native.Mathlib.Omega.{arith}
 use lib.Dec.{ltb, lt→ltb}
 use lib.ListN.{length, getD, take, length-append}
+use lib.Seq.{take-length, length-take-le}
 use Rattle.spec.specs.Lists.{gather, span}
 use Rattle.spec.specs.Sheet.{classCount, total}
 use Rattle.spec.specs.Verdicts.{userVerdict, flat, flatLines, flatAt, bytesOf, flatRewritten}
 use Rattle.spec.specs.Refusals.{presentRefusal, judgeRefusal}
 use Rattle.spec.specs.Promises.{Counts, countsOf, afterwards, cleared, judgedRow, Judges}
 use Rattle.theory.proofs.Answers.{first-none}
+use Rattle.theory.proofs.Form.{accepted-sound}
+use Rattle.theory.proofs.Unrefused.{present-facts, facts-present}
 use Rattle.theory.proofs.FlatRow.{read-new, rewritten-length}
 use Rattle.text.specs.Text.{overlaid}
 use Rattle.text.proofs.Digits.{decimal-length}
@@ -22,7 +25,6 @@ use Rattle.verifier.specs.Answers.{judgedAnswer}
 use Rattle.verifier.specs.declared.Judged.{Judged}
 use Rattle.verifier.specs.declared.Judged.the-variants.{Fine, Refused}
 use Rattle.theory.proofs.Promised.{told-fine, told-refused}
-use Rattle.form.proofs.Unrefused.{some-row}
 use Rattle.listing_text.specs.Listing.{classesWord, faultedWord, countsText, refusalText, lineText, listedLines, listingText}
 use Rattle.listing_text.specs.Written.{Written, RowHolds}
 use Rattle.listing_text.proofs.Texts.{then, same-text, from-start}
@@ -61,9 +63,23 @@ module _ (library user : List ℕ) (used : ℕ) (verdicts scratch : List ℕ) (r
     told : (judgeRefusal library user used (flatLines verdicts) (length scratch) ≡ none) × (record { classes = classes; faulted = faulted } ≡ countsOf library (take used user))
     told = told-fine (judgeRefusal library user used (flatLines verdicts) (length scratch)) (countsOf library (take used user)) (ap judgedAnswer (sym f) ∙ j .answered)
 
-    pub accepted-sheets : presentRefusal library user used ≡ none
+    accepted-sheets : presentRefusal library user used ≡ none
     unfolding judgeRefusal
     accepted-sheets = first-none _ (told .0) .0
+
+    -- the used bytes by themselves
+    pub used-length : used ≡ length (take used user)
+    used-length = sym (length-take-le used user (present-facts library user used accepted-sheets .in-buffer))
+
+    pub used-sheets : presentRefusal library (take used user) (length (take used user)) ≡ none
+    used-sheets =
+        let p = present-facts library user used accepted-sheets in
+        facts-present library (take used user) (length (take used user)) (record {
+          library-size = p .library-size;
+          user-size = omega (arith, p .user-size, used-length);
+          in-buffer = omega arith;
+          sheets = rw (take-length (take used user)) (p .sheets);
+        })
 
     row-is : verdicts′ ≡ flatRewritten (λ i. ltb i (classCount (take used user))) (userVerdict library (take used user)) verdicts
     unfolding afterwards judgedRow
@@ -71,7 +87,7 @@ module _ (library user : List ℕ) (used : ℕ) (verdicts scratch : List ℕ) (r
 
     few : classCount (take used user) ≤ 256
     unfolding total
-    few = omega (arith, some-row library user used accepted-sheets .few)
+    few = omega (arith, accepted-sound library user used accepted-sheets .few)
 
     byte-is : (i : ℕ) → i < classCount (take used user) → (k : ℕ) → k < 2 → getD verdicts′ (2 * i + k) 0 ≡ getD (bytesOf (userVerdict library (take used user) i)) k 0
     unfolding flatLines

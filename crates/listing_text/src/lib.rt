@@ -1,13 +1,12 @@
 // The listing of two sheets as text in a lent buffer.
-use form::Checked;
 use form::Refusal;
-use form::UNASKED;
-use form::present;
-use groups::Classes;
-use groups::class_word;
+use records::CLASS;
 use records::CLASS_LIMIT;
 use records::NAME_AT;
+use records::count_in;
+use records::nth_in;
 use records::wide;
+use records::word_in;
 use text::put;
 use text::put_number;
 use text::put_part;
@@ -17,17 +16,18 @@ use verifier::judge;
 ghost use mathlib.Core.Path.{_≡_};
 ghost use mathlib.Core.List.{_++_};
 ghost use mathlib.Core.Option.{none};
-ghost use Prim.Native.Nat.{_+_, _≤_, _<_};
-ghost use lib.ListN.{length, take};
+ghost use Prim.Native.Nat.{_+_, _*_, _≤_, _<_};
+ghost use lib.ListN.{length};
 ghost use Rattle.spec.specs.Lists.{gather, span};
-ghost use Rattle.spec.specs.Sheet.{classCount};
+ghost use Rattle.spec.specs.Sheet.{classCount, groupStart};
 ghost use Rattle.spec.specs.Refusals.{presentRefusal, judgeRefusal};
 ghost use Rattle.spec.specs.Promises.{afterwards, cleared};
-ghost use Rattle.groups.specs.Groups.{Indexed};
+ghost use Rattle.theory.specs.Claims.{firstLength};
 ghost use Rattle.form.specs.Form.{refusalOf};
 ghost use Rattle.text.specs.Text.{decimal, overlaid};
 ghost use Rattle.listing_text.specs.Listing.{countsText, refusalText, lineText, listedLines, listingText, space, newline};
-ghost use Rattle.listing_text.specs.Written.{Written, RowHolds};
+ghost use Rattle.listing_text.specs.Sheets.{UserSheet, AtGroup};
+ghost use Rattle.listing_text.specs.Written.{Written, RowHolds, LineWritten};
 
 // A byte as a number of the machine.
 fn wide_byte(x: u8) -> usize
@@ -79,85 +79,57 @@ fn put_verdict(out: &mut [u8], at: usize, rule: usize, place: usize) -> usize
     put(out, placed, b'\n')
 }
 
-// The line of the i-th user class: number, name, rule, place.
-fn class_line<'a>(
-    library: &'a [u8],
-    user: &'a [u8],
-    starts: &[u16],
-    classes: Classes,
+// The line of the i-th user class, whose group begins at `start`: number, name, rule, place.
+fn class_line(
+    sheet: &[u8],
+    start: usize,
+    nlib: usize,
     verdicts: &[u8],
     i: usize,
     out: &mut [u8],
     at: usize,
 ) -> usize
-    requires { ⌜ Indexed (now library) (now user) (classes .library) (classes .all) (now starts) ⌝ }
-    requires { ⌜ RowHolds (now library) (now user) (now verdicts) ⌝ }
-    requires { ⌜ (classes .library + i < classes .all) × (at < 700000) ⌝ }
-    ensures { λ r. ⌜ Written (now (out .entry)) at (lineText (now (library .entry)) (now (user .entry)) i) (now (out .exit)) r ⌝ }
+    requires { ⌜ UserSheet nlib (now sheet) ⌝ }
+    requires { ⌜ (i < classCount (now sheet)) × (start ≡ groupStart (now sheet) i) ⌝ }
+    requires { ⌜ (2 * i + 1 < length (now verdicts)) × (at < 700000) ⌝ }
+    ensures { λ r. ⌜ LineWritten (now (sheet .entry)) (now (verdicts .entry)) nlib i (now (out .entry)) at (now (out .exit)) r ⌝ }
 {
-    let class = classes.library + i;
-    let start = wide(starts[class]);
-    let size = class_word(library, user, starts, classes, class, 0);
-    let end = start + wide(size);
+    let end = start + wide(word_in(sheet, start));
     let rule = wide_byte(verdicts[VERDICT_BYTES * i]);
     let place = wide_byte(verdicts[VERDICT_BYTES * i + 1]);
-    let numbered = put_number(out, at, class);
+    let numbered = put_number(out, at, nlib + i);
     let spaced = put(out, numbered, b' ');
-    let named = put_part(out, spaced, user, start + NAME_AT, end);
+    let named = put_part(out, spaced, sheet, start + NAME_AT, end);
     let parted = put(out, named, b' ');
     put_verdict(out, parted, rule, place)
 }
 
-// The lines of all user classes.
-fn class_lines<'a>(
-    library: &'a [u8],
-    user: &'a [u8],
-    starts: &[u16],
-    classes: Classes,
-    verdicts: &[u8],
-    out: &mut [u8],
-    at: usize,
-) -> usize
-    requires { ⌜ Indexed (now library) (now user) (classes .library) (classes .all) (now starts) ⌝ }
-    requires { ⌜ RowHolds (now library) (now user) (now verdicts) ⌝ }
+// How long the group is that these bytes begin with. They are handed over from its first byte on, so nothing before it is asked.
+fn group_length(rest: &[u8]) -> usize
+    requires { ⌜ AtGroup (now rest) ⌝ }
+    ensures { λ r. ⌜ r ≡ firstLength (now (rest .entry)) ⌝ }
+{
+    nth_in(rest, CLASS, 1)
+}
+
+// The lines of all user classes; `start` runs along from one group to the next, up to the sheet's end.
+fn class_lines(library: &[u8], sheet: &[u8], verdicts: &[u8], out: &mut [u8], at: usize) -> usize
+    requires { ⌜ presentRefusal (now library) (now sheet) (length (now sheet)) ≡ none ⌝ }
+    requires { ⌜ RowHolds (now library) (now sheet) (now verdicts) ⌝ }
     requires { ⌜ at < 1000 ⌝ }
     ensures { λ r. ⌜ Written (now (out .entry)) at
-        (gather (lineText (now (library .entry)) (now (user .entry))) (span 0 (classCount (now (user .entry))))) (now (out .exit)) r ⌝ }
+        (gather (lineText (now (library .entry)) (now (sheet .entry))) (span 0 (classCount (now (sheet .entry))))) (now (out .exit)) r ⌝ }
 {
-    let count = classes.all - classes.library;
+    let nlib = count_in(library, CLASS);
     let mut i = 0;
+    let mut start = 0;
     let mut then = at;
-    while i < count {
-        then = class_line(library, user, starts, classes, verdicts, i, out, then);
+    while start < sheet.len() {
+        then = class_line(sheet, start, nlib, verdicts, i, out, then);
+        start += group_length(&sheet[start..]);
         i += 1;
     }
     then
-}
-
-// The lines of all user classes of accepted sheets: their starts are found anew.
-fn accepted_lines<'a>(
-    library: &'a [u8],
-    user: &'a [u8],
-    used: usize,
-    verdicts: &[u8],
-    out: &mut [u8],
-    at: usize,
-) -> usize
-    requires { ⌜ presentRefusal (now library) (now user) used ≡ none ⌝ }
-    requires { ⌜ RowHolds (now library) (take used (now user)) (now verdicts) ⌝ }
-    requires { ⌜ at < 1000 ⌝ }
-    ensures { λ r. ⌜ Written (now (out .entry)) at
-        (gather (lineText (now (library .entry)) (take used (now (user .entry)))) (span 0 (classCount (take used (now (user .entry))))))
-        (now (out .exit)) r ⌝ }
-{
-    let mut starts = [0u16; CLASS_LIMIT];
-    let mut memo = [UNASKED; CLASS_LIMIT];
-    let checked = present(library, user, used, &mut starts, &mut memo);
-    let Checked::Fine(classes) = checked else {
-        return at;
-    };
-    let sheet = &user[0..used];
-    class_lines(library, sheet, &starts, classes, verdicts, out, at)
 }
 
 // Judges the sheets and writes the listing from the buffer's start, as far as it fits; answers how long the listing is.
@@ -181,7 +153,7 @@ pub fn listing_text<'a>(
         Judged::Refused(refusal) => refusal_line(out, refusal),
         Judged::Fine(classes, faulted) => {
             let at = counts_line(out, classes, faulted);
-            accepted_lines(library, user, used, &verdicts, out, at)
+            class_lines(library, &user[..used], &verdicts, out, at)
         }
     }
 }

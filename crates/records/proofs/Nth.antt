@@ -22,15 +22,15 @@ use Rattle.records.proofs.Walks.{walk-on, walk-here, walk-next}
 -- ---- one step of the definition
 
 module _ (kind i at : ℕ) (r : List ℕ) (rs : Group) where
-  nth-found : isKind kind r ≡ true → i ≡ 0 → nthByte kind i at (r ∷ rs) ≡ at
+  pub nth-found : isKind kind r ≡ true → i ≡ 0 → nthByte kind i at (r ∷ rs) ≡ at
   unfolding nthByte
   nth-found e z = rw (e, eq-eqb i 0 z, nthByte)
 
-  nth-passed : isKind kind r ≡ true → (i ≡ 0 → ⊥) → nthByte kind i at (r ∷ rs) ≡ nthByte kind (i - 1) (at + length r) rs
+  pub nth-passed : isKind kind r ≡ true → (i ≡ 0 → ⊥) → nthByte kind i at (r ∷ rs) ≡ nthByte kind (i - 1) (at + length r) rs
   unfolding nthByte
   nth-passed e z = rw (e, ne-eqb i 0 z, nthByte)
 
-  nth-other : isKind kind r ≡ false → nthByte kind i at (r ∷ rs) ≡ nthByte kind i (at + length r) rs
+  pub nth-other : isKind kind r ≡ false → nthByte kind i at (r ∷ rs) ≡ nthByte kind i (at + length r) rs
   unfolding nthByte
   nth-other e = rw (e, nthByte)
 

@@ -23,13 +23,14 @@ use Rattle.laws.proofs.All.{All, all-at, all-drop}
 use Rattle.theory.proofs.Answers.{skip-none, first-some}
 use Rattle.theory.proofs.Cut.{split-parts, split-join}
 use Rattle.theory.proofs.Accept.{Clear}
+use Rattle.theory.proofs.Running.{group-next}
 use Rattle.pass.specs.Pass.{passOf}
 use Rattle.pass.specs.declared.Pass.{Pass}
 use Rattle.pass.specs.declared.Pass.the-variants.{Fine, Refused}
 use Rattle.pass.proofs.Places.{answer, classPlace, otherPlace, locate-class, locate-other, number-refuses}
 use Rattle.pass.proofs.Joining.{Opens, open-anywhere}
 use Rattle.groups.specs.Groups.{startOf, Indexed}
-use Rattle.groups.proofs.Held.{in-library, in-user, library-sheet, user-sheet, group-next}
+use Rattle.groups.proofs.Held.{in-library, in-user, library-sheet, user-sheet}
 use Rattle.second.specs.Second.{formNumber, formOf, formIn, classesStart, classesEnd}
 use Rattle.second.proofs.Passing.{form-stop, form-on, others}
 
@@ -212,7 +213,7 @@ module _ {library user : List ℕ} {nlib n sheet c : ℕ} (w : Passing library u
         let free = split-join rest (all-drop (λ h. T (oneClass h)) (suc (w .place)) (groupsOf s) groups-one) .0 in
         let one : T (oneClass (g c)) = subst (λ (h : Group). T (oneClass h)) its-is (all-at (λ h. T (oneClass h)) [] (groupsOf s) groups-one (w .place) there) in
         let m : groupStart s (w .place + 1) ≡ groupStart s (w .place) + length (concat (g c)) =
-        group-next (w .among .clear) (w .place) there ∙ ap (λ (h : Group). groupStart s (w .place) + length (concat h)) its-is in
+        group-next s (w .place) there ∙ ap (λ (h : Group). groupStart s (w .place) + length (concat h)) its-is in
         rw (m, start-is, ← (w .rest), split) (class-follows g nlib n sheet c (concat rest) free (g c) one (groupStart s (w .place)))
 
     module _ {p : Pass} (ep : p ≡ formOf g nlib n c (startOf library user c) (g c)) where

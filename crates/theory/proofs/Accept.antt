@@ -75,6 +75,18 @@ count-low s at n k p (r ∷ rs) b h = go (isClass r) refl h (count-low s (at + l
     go true e h f f′ = omega (arith, ap (λ (t : Split). length (t .groups)) (split-class r rs e), f (h .0 .class) (h .1))
     go false e h f f′ = omega (arith, ap (λ (t : Split). length (t .groups)) (split-other r rs e), f′ b (h .1))
 
+-- what each record of a sheet has that passes
+pub each-record : (Q : List ℕ → Type 0) (s : ℕ) → ((l : Located) → l .sheet ≡ s → Passed l → Q (l .bytes))
+    → (at n k p : ℕ) (rs : List (List ℕ)) → All Passed (locate s at n k p rs) → All Q rs
+unfolding locate locateIf
+each-record Q s q at n k p [] h = tt
+each-record Q s q at n k p (r ∷ rs) h = go (isClass r) h (each-record Q s q (at + length r) (suc n) 1 (kind r) rs) (each-record Q s q (at + length r) n (suc k) (kind r) rs)
+  where
+    go : (b : Bool) → All Passed (locateIf s at n k p r rs b) → (All Passed (locate s (at + length r) (suc n) 1 (kind r) rs) → All Q rs)
+        → (All Passed (locate s (at + length r) n (suc k) (kind r) rs) → All Q rs) → All Q (r ∷ rs)
+    go true h f f′ = (q _ refl (h .0), f (h .1))
+    go false h f f′ = (q _ refl (h .0), f′ (h .1))
+
 -- ---- from located records to classes
 
 module _ (P : ℕ → List ℕ → Type 0) where

@@ -300,12 +300,19 @@ pub count-of-join : (gs : List (List ℕ)) → All IsGroup gs → classCount (co
 unfolding classCount
 count-of-join gs h = ap length (groups-of-join gs h) ∙ length-map gs recordsOf
 
--- a sheet of whole records that begins with a CLASS record, or is empty, is its groups end to end, and each is whole
-parts-whole : (xs : List Group) → All Whole (concat xs) → All (All Whole) xs
+-- what holds of the records of a sheet holds of those of each group
+parts : (P : List ℕ → Type 0) (xs : List Group) → All P (concat xs) → All (All P) xs
 unfolding concat
-parts-whole [] h = tt
-parts-whole (x ∷ xs) h = (all-left Whole x (concat xs) h, parts-whole xs (all-right Whole x (concat xs) h))
+parts P [] h = tt
+parts P (x ∷ xs) h = (all-left P x (concat xs) h, parts P xs (all-right P x (concat xs) h))
 
+pub in-groups : (P : List ℕ → Type 0) (s : List ℕ) → All P (recordsOf s) → All (All P) (groupsOf s)
+unfolding groupsOf
+in-groups P s h =
+    parts P (splitGroups (recordsOf s) .groups)
+    (all-right P (splitGroups (recordsOf s) .loose) (concat (splitGroups (recordsOf s) .groups)) (subst (All P) (split-parts (recordsOf s) .joined) h))
+
+-- a sheet of whole records that begins with a CLASS record, or is empty, is its groups end to end, and each is whole
 is-group : (h : Group) → All Whole h → T (oneClass h) → IsGroup (concat h)
 unfolding IsGroup wholeGroup wholeEnd
 is-group h w o =
@@ -317,7 +324,7 @@ all-groups [] w o = tt
 all-groups (h ∷ hs) w o = (is-group h (w .0) (o .0), all-groups hs (w .1) (o .1))
 
 module _ (s : List ℕ) (end : wholeEnd s ≡ length s) (none-loose : splitGroups (recordsOf s) .loose ≡ []) where
-  records-grouped : recordsOf s ≡ concat (groupsOf s)
+  pub records-grouped : recordsOf s ≡ concat (groupsOf s)
   unfolding groupsOf
   records-grouped = split-parts (recordsOf s) .joined ∙ ap (λ (l : List (List ℕ)). l ++ concat (splitGroups (recordsOf s) .groups)) none-loose
 
@@ -327,7 +334,7 @@ module _ (s : List ℕ) (end : wholeEnd s ≡ length s) (none-loose : splitGroup
   pub sheet-groups : All IsGroup (map concat (groupsOf s))
   unfolding groupsOf
   sheet-groups =
-      all-groups (groupsOf s) (parts-whole (groupsOf s) (subst (All Whole) records-grouped (records-of-whole s))) (split-parts (recordsOf s) .one)
+      all-groups (groupsOf s) (in-groups Whole s (records-of-whole s)) (split-parts (recordsOf s) .one)
 
 -- so the new sheet of an Add or a Replace is never torn: refusal 2 doesn't come from it
 pub whole-join : (gs : List (List ℕ)) → All IsGroup gs → wholeEnd (concat gs) ≡ length (concat gs)

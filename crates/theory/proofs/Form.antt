@@ -12,17 +12,17 @@ use lib.Dec.{T, T-not, eqb, ltb, eqb→eq, ltb→lt, nltb→le, lt→ltb, lit<}
 use lib.ListN.{length, getD, take, drop, length-append, List·getD-eq-default}
 use Rattle.spec.specs.Rules.{dependencies}
 use Rattle.spec.specs.Verdicts.{dependsOn}
-use Rattle.spec.specs.Lists.{elem, any, keep, gather, concat, numbered}
+use Rattle.spec.specs.Lists.{elem, any, keep, gather, numbered}
 use Rattle.spec.specs.Record.{Bytes, u8, u16, bit, isKind, isClass, flags, ownMarkers, superclass, target, index, none16, unlessNone, references, CLASS, LOCAL}
-use Rattle.spec.specs.Sheet.{Group, wholeFirst, recordsIn, recordsOf, splitGroups, groupsOf, classCount, total, group, classRecord, ofKind, isInterface}
+use Rattle.spec.specs.Sheet.{Group, wholeFirst, recordsIn, recordsOf, groupsOf, classCount, total, group, classRecord, ofKind, isInterface}
 use Rattle.spec.specs.Classes.{superclasses, locals, lineageIn, lineage, rootIn, root}
 use Rattle.spec.specs.Relations.{Depends, Superclass, References, Uses, Root}
 use Rattle.spec.specs.Breaks.{Not, Flag}
 use Rattle.spec.specs.Refusals.{Accepted, oneClass, superclassFits, presentRefusal}
 use Rattle.theory.specs.Claims.{Relations, RelationsHold, One, Form, FormHolds}
 use Rattle.laws.proofs.Bools.{decide, t-and, and-l, and-r, not-or-l, not-or-r, not-or, eq→eqb, t-true, t-false}
-use Rattle.laws.proofs.All.{All, all-append, all-take, all-drop, all-left, all-right, all-get, all-at, at-member, keep-yes, keep-no}
-use Rattle.theory.proofs.Cut.{split-parts}
+use Rattle.laws.proofs.All.{All, all-append, all-take, all-drop, all-get, all-at, at-member, keep-yes, keep-no}
+use Rattle.theory.proofs.Cut.{in-groups, split-parts}
 use Rattle.theory.proofs.Answers.{first-none}
 use Rattle.theory.proofs.Accept.{RecordFits, Sound, sound}
 use Rattle.theory.proofs.Groups.{superclass-is, flag-is}
@@ -55,18 +55,6 @@ records-bytes (suc n) s h = go (wholeFirst s) (records-bytes n)
     go true ih = (all-take Byte (u16 s 0) s h, ih (drop (u16 s 0) s) (all-drop Byte (u16 s 0) s h))
     go false ih = tt
 
--- what holds of the records of a sheet holds of those of each group
-parts : (P : List ℕ → Type 0) (xs : List Group) → All P (concat xs) → All (All P) xs
-unfolding concat
-parts P [] h = tt
-parts P (x ∷ xs) h = (all-left P x (concat xs) h, parts P xs (all-right P x (concat xs) h))
-
-in-groups : (P : List ℕ → Type 0) (s : List ℕ) → All P (recordsOf s) → All (All P) (groupsOf s)
-unfolding groupsOf
-in-groups P s h =
-    parts P (splitGroups (recordsOf s) .groups)
-    (all-right P (splitGroups (recordsOf s) .loose) (concat (splitGroups (recordsOf s) .groups)) (subst (All P) (split-parts (recordsOf s) .joined) h))
-
 group-bytes : (s : List ℕ) → All Byte s → All (All (All Byte)) (groupsOf s)
 unfolding recordsOf
 group-bytes s h = in-groups (All Byte) s (records-bytes (length s) s h)
@@ -93,7 +81,7 @@ one-record (r ∷ rs) t =
     keep-yes isClass r rs (t-true (isClass r) (and-l (isClass r) (not (any isClass rs)) t))
     ∙ ap (λ (l : List (List ℕ)). r ∷ l) (no-class rs (and-r (isClass r) (not (any isClass rs)) t))
 
-class-first : (P : List ℕ → Type 0) (h : Group) → T (oneClass h) → All P h → P (classRecord h) × T (isClass (classRecord h))
+pub class-first : (P : List ℕ → Type 0) (h : Group) → T (oneClass h) → All P h → P (classRecord h) × T (isClass (classRecord h))
 unfolding oneClass classRecord
 class-first P [] o a = absurd o
 class-first P (r ∷ rs) o a = (a .0, and-l (isClass r) (not (any isClass rs)) o)

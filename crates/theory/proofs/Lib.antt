@@ -25,4 +25,5 @@ pub mod Fitting
 pub mod Withdraw
 pub mod Refused
 pub mod Order
+pub mod Running
 pub mod FlatRow

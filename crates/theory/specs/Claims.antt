@@ -3,14 +3,14 @@
 use mathlib.Core.Path.{_≡_}
 use mathlib.Core.Logic.{_↔_, _≢_, _⊎_}
 use mathlib.Core.Bool.{true, false}
-use mathlib.Core.List.{List, List·Memᴰ}
+use mathlib.Core.List.{List, [], List·Memᴰ}
 use mathlib.Core.Option.{Option, none, some}
-use Prim.Native.Nat.{ℕ, _≤_, _<_}
+use Prim.Native.Nat.{ℕ, zero, suc, _+_, _≤_, _<_}
 use lib.Dec.{T, eqb}
-use lib.ListN.{length, take}
+use lib.ListN.{length, getD, take, drop}
 use Rattle.spec.specs.Lists.{concat, elem, reach}
 use Rattle.spec.specs.Record.{FIELD, isKind, isStatic, fieldTy}
-use Rattle.spec.specs.Sheet.{Group, recordsOf, wholeEnd, classCount, total, group}
+use Rattle.spec.specs.Sheet.{Group, recordsOf, wholeEnd, groupsOf, classCount, groupStart, total, group}
 use Rattle.spec.specs.Markers.{Token}
 use Rattle.spec.specs.Classes.{hasMarker, inside, lineage, root, buildsInside, captured}
 use Rattle.spec.specs.Rules.{Verdict, clean, dependencies}
@@ -177,3 +177,26 @@ abbrev pub OrderPasses : Type 0
 OrderPasses =
     (library user : List ℕ) → InOrder library user
     → (r : Refusal) → (sheetRefusal library user ≡ some r) ⊎ (newRefusal library user ≡ some r) → r .number ≢ 16
+
+-- ---- document 02, C-14: "the position reached should be carried along as a running value from one class to the next"
+
+-- how long the group is that some bytes begin with
+unfoldable pub firstLength : List ℕ → ℕ
+firstLength rest = length (concat (getD (groupsOf rest) 0 []))
+
+-- the position at the i-th class: "the next is found from the bytes at or after it alone"
+unfoldable pub running : List ℕ → ℕ → ℕ
+running s zero = 0
+running s (suc i) = running s i + firstLength (drop (running s i) s)
+
+-- "for each user class it is proved to be the byte where its group begins"
+pub record Carried (user : List ℕ) (used : ℕ) : Type 0 where
+  pub begins : (i : ℕ) → i ≤ classCount user → running user i ≡ groupStart user i
+  -- from there on stand the bytes of its group and of those after it, and they are cut into just these
+  pub stands : (i : ℕ) → i ≤ classCount user → drop (running user i) user ≡ concat (concat (drop i (groupsOf user)))
+  pub onward : (i : ℕ) → i ≤ classCount user → groupsOf (drop (running user i) user) ≡ drop i (groupsOf user)
+  -- after the last class it is the used length
+  pub end : running user (classCount user) ≡ used
+
+abbrev pub RunningHolds : Type 0
+RunningHolds = (library user : List ℕ) (used : ℕ) → presentRefusal library user used ≡ none → Carried (take used user) used

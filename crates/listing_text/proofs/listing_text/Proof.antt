@@ -2,7 +2,7 @@
 -- Assumes nothing.
 use mathlib.Core.Path.{refl}
 use native.Mathlib.Omega.{arith}
-use Rattle.listing_text.proofs.Answered.{counts-short, scratch-after, refused-listing, accepted-sheets, row-holds, accepted-listing}
+use Rattle.listing_text.proofs.Answered.{counts-short, scratch-after, refused-listing, used-length, used-sheets, row-holds, accepted-listing}
 use borrow.Author.Needs.{needs}
 use Rattle.listing_text.proofs.listing_text.Statement.{statement}
 use Rattle.listing_text.proofs.listing_text.Tie as tie
@@ -21,19 +21,26 @@ judged c = c .before .before .before .before .before
 abbrev counted : tie.After-counts-line → tie.After-judged2
 counted c = c .before .before .before
 
-abbrev lined : tie.After-accepted-lines-arg → tie.After-counts-line
-lined c = c .before .before .before .before
+abbrev lined : tie.After-class-lines-arg2 → tie.After-counts-line
+lined c = c .before .before .before .before .before
 
 -- ---- the needs
 
-accepted-lines-requires : tie.Need-accepted-lines-requires
-accepted-lines-requires c κs =
+slice-aggregate-class-lines : tie.Need-slice-aggregate-class-lines
+slice-aggregate-class-lines c =
+    let k = counted (c .before .before .before) in
+    let j = judged k in
+    let a = start j .args in
+    used-length (a .library .now) (a .user .now) (a .used) _ (a .scratch .now) refl (j .judge .result) (j .judge .ensures) (k .judged2 .given .1)
+
+class-lines-requires : tie.Need-class-lines-requires
+class-lines-requires c κs =
     let w = lined c in
     let k = counted w in
     let j = judged k in
     let a = start j .args in
     let f = k .judged2 .given in (
-      accepted-sheets (a .library .now) (a .user .now) (a .used) _ (a .scratch .now) refl (j .judge .result) (j .judge .ensures) (f .1),
+      used-sheets (a .library .now) (a .user .now) (a .used) _ (a .scratch .now) refl (j .judge .result) (j .judge .ensures) (f .1),
       (
         row-holds (a .library .now) (a .user .now) (a .used) _ (a .scratch .now) refl (j .judge .result) (j .judge .ensures) (f .1),
         omega (arith, w .counts-line .ensures .place, counts-short (record { classes = f .0 .0; faulted = f .0 .1 .0 })),
@@ -56,7 +63,7 @@ returns-2 c =
     let j = judged k in
     let a = start j .args in
     let r = accepted-listing (a .library .now) (a .user .now) (a .used) _ (a .scratch .now) refl (j .judge .result) (j .judge .ensures)
-    (k .judged2 .given .1) (w .counts-line .ensures) (c .before .before .accepted-lines .ensures) in
+    (k .judged2 .given .1) (w .counts-line .ensures) (c .before .before .class-lines .ensures) in
     (r .0, (r .1, scratch-after (a .library .now) (a .user .now) (a .used) _ (a .scratch .now) refl (j .judge .result) (j .judge .ensures)))
 
 pub listing-text-spec : {M : Type 1} → statement M
@@ -69,8 +76,9 @@ listing-text-spec =
     (λ c κs. search needs)
     (λ c. search needs)
     (λ c κs. search needs)
+    slice-aggregate-class-lines
     (λ c. search needs)
-    accepted-lines-requires
+    class-lines-requires
     (λ c. search needs)
     (λ c. search needs)
     returns
