@@ -58,7 +58,10 @@ fn compare(program: &Path) -> io::Result<bool> {
     let count: usize = met.values().sum();
     let accepted = met.get(&0).copied().unwrap_or(0);
     println!("listings {count} accepted {accepted} lines {lines}: no difference");
-    let missing: Vec<_> = REFUSALS.iter().filter(|number| !met.contains_key(number)).collect();
+    let missing: Vec<_> = REFUSALS
+        .iter()
+        .filter(|number| !met.contains_key(number))
+        .collect();
     if accepted < ACCEPTED || !missing.is_empty() {
         eprintln!("too few listings: accepted {accepted}, refusals not met {missing:?}");
         return Ok(false);
@@ -90,6 +93,8 @@ fn put(name: &str, file: &Option<Vec<u8>>) -> io::Result<()> {
 
 /// The number of a refusal's line, 0 for any other text.
 fn refusal(text: &str) -> u32 {
-    let number = text.strip_prefix("refused ").and_then(|rest| rest.split(' ').next());
+    let number = text
+        .strip_prefix("refused ")
+        .and_then(|rest| rest.split(' ').next());
     number.and_then(|number| number.parse().ok()).unwrap_or(0)
 }

@@ -89,7 +89,11 @@ fn missing_files() -> Vec<Pair> {
         ("no files", None, None),
     ] {
         let name = name.into();
-        pairs.push(Pair { name, library, user });
+        pairs.push(Pair {
+            name,
+            library,
+            user,
+        });
     }
     pairs
 }
