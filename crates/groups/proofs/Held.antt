@@ -1,6 +1,6 @@
 -- Where the group of a class stands in the sheet that holds it, what stands in its CLASS record, and where the next group begins.
 -- Assumes nothing.
-use mathlib.Core.Path.{_≡_, refl, sym, ap, ap₂, _∙_, subst}
+use mathlib.Core.Path.{_≡_, refl, sym, ap, ap₂, _∙_}
 use mathlib.Core.Bool.{not}
 use mathlib.Core.List.{List, [], _∷_, _++_}
 use mathlib.Core.Logic.{_⊎_, inl, inr}
@@ -16,13 +16,13 @@ use Rattle.spec.specs.Record.{u16, kind, isClass, byKind, withName, lengthFits}
 use Rattle.spec.specs.Sheet.{Group, recordsOf, groupsOf, classCount, groupStart, total, group, classRecord, locatedIn}
 use Rattle.spec.specs.Refusals.{oneClass}
 use Rattle.theory.specs.Claims.{sheetOf}
-use Rattle.laws.proofs.All.{All, all-append, all-left, all-right, all-get, all-at}
+use Rattle.laws.proofs.All.{All, all-append, all-get, all-at}
 use Rattle.laws.proofs.Bools.{decide, and-l, and-r, eq→eqb}
 use Rattle.laws.proofs.Parts.{part-length, part-word}
-use Rattle.theory.proofs.Cut.{Whole, concat-append, in-groups, split-parts}
+use Rattle.theory.proofs.Cut.{Whole, records-of-whole, concat-append, in-groups, split-parts}
 use Rattle.theory.proofs.Accept.{each-record, Clear}
 use Rattle.theory.proofs.Form.{class-first}
-use Rattle.theory.proofs.Running.{joined, whole, group-next, group-last}
+use Rattle.theory.proofs.Running.{joined, group-next, group-last}
 use Rattle.groups.specs.Groups.{sheetNumber, startOf, endOf, Indexed}
 use Rattle.records.specs.Records.{between, Tiled}
 use Rattle.records.proofs.Between.{placed, tiled-step}
@@ -66,7 +66,7 @@ module _ {sheet n : ℕ} {s : List ℕ} (clear : Clear sheet n s) where
         let front = concat (take i (groupsOf s)) in
         let g : Group = getD (groupsOf s) i [] in
         let rest = concat (drop (suc i) (groupsOf s)) in
-        let w : All Whole g = all-left Whole g rest (all-right Whole front (g ++ rest) (subst (All Whole) around (whole clear))) in
+        let w : All Whole g = all-get {A = Group} (All Whole) [] (groupsOf s) (in-groups Whole s (records-of-whole s)) tt i in
         placed s (concat front) g (concat rest) (length (concat front)) (length (concat front) + length (concat g)) w
         (sym (joined clear) ∙ ap concat around ∙ concat-append front (g ++ rest) ∙ ap (λ (x : List ℕ). concat front ++ x) (concat-append g rest)) refl refl
 

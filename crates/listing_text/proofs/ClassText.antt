@@ -17,7 +17,7 @@ use Rattle.theory.proofs.Running.{begins, group-last}
 use Rattle.groups.proofs.Held.{first-within, group-placed, class-fits}
 use Rattle.text.specs.Text.{decimal}
 use Rattle.text.proofs.Digits.{decimal-length}
-use Rattle.listing_text.specs.Listing.{lineText, space, newline}
+use Rattle.listing_text.specs.Listing.{lineOf, lineText, space, newline}
 use Rattle.listing_text.specs.Sheets.{UserSheet}
 use Rattle.listing_text.specs.Written.{Written, RowHolds}
 use Rattle.listing_text.proofs.Texts.{then, no-text, same-text}
@@ -31,22 +31,24 @@ user-group library sheet i = getD-append-add (groupsOf library) (groupsOf sheet)
 
 module _ {sheet : List ℕ} {i : ℕ} (h : i < classCount sheet) where
   pub line-short : {nlib : ℕ} → UserSheet nlib sheet → (library : List ℕ) → length (lineText library sheet i) ≤ 164
-  unfolding lineText className
+  unfolding lineText lineOf className
   line-short u library =
       let c = classCount library + i in
       let v = userVerdict library sheet i in
       let s : length (classRecord (group library sheet c)) ≤ 112 = rw (user-group library sheet i) (class-fits (u .clear) i h .1) in
       simp (length-append, length-drop) (omega (arith, decimal-length c, decimal-length (v .rule), decimal-length (v .recordNumber)))
 
-  -- the line by what the code reads
+  -- a line by what the code reads is that of the class, beside the library whose verdicts the row holds
   pub line-is : {nlib : ℕ} {verdicts : List ℕ} (library : List ℕ) → nlib ≡ classCount library → RowHolds library sheet verdicts
-      → {name : List ℕ} → name ≡ className (classRecord (getD (groupsOf sheet) i [])) → {rule place : ℕ}
-      → rule ≡ getD verdicts (2 * i) 0 → place ≡ getD verdicts (2 * i + 1) 0
-      → decimal (nlib + i) ++ (space ++ (name ++ (space ++ (decimal rule ++ (space ++ (decimal place ++ newline)))))) ≡ lineText library sheet i
-  unfolding lineText flatAt
-  line-is library en w e er ep =
-      let v = w .verdicts i h in
-      rw (en, e, er ∙ ap (λ k. k .rule) v, ep ∙ ap (λ k. k .recordNumber) v, user-group library sheet i)
+      → lineOf (nlib + i) (className (classRecord (getD (groupsOf sheet) i []))) (flatAt verdicts i) ≡ lineText library sheet i
+  unfolding lineText
+  line-is library en w = rw (en, w .verdicts i h, user-group library sheet i)
+
+-- the verdict's bytes as the code reads them
+pub line-read : (c : ℕ) (verdicts : List ℕ) (i : ℕ) {name name′ : List ℕ} → name ≡ name′ → {rule place : ℕ} → rule ≡ getD verdicts (2 * i) 0 → place ≡ getD verdicts (2 * i + 1) 0
+    → decimal c ++ (space ++ (name ++ (space ++ (decimal rule ++ (space ++ (decimal place ++ newline)))))) ≡ lineOf c name′ (flatAt verdicts i)
+unfolding lineOf flatAt
+line-read c verdicts i e er ep = rw (e, er, ep)
 
 -- ---- the lines
 

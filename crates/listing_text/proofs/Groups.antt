@@ -15,12 +15,12 @@ use Rattle.spec.specs.Record.{isClass, lengthFits, CLASS}
 use Rattle.spec.specs.Sheet.{Group, Split, recordsOf, wholeEnd, splitGroups, groupsOf, classCount, groupStart, total, ofKind}
 use Rattle.spec.specs.Refusals.{presentRefusal}
 use Rattle.theory.specs.Claims.{firstLength, running}
-use Rattle.laws.proofs.All.{All, all-right, keep-yes, keep-no}
-use Rattle.theory.proofs.Cut.{split-class, split-other, records-grouped}
+use Rattle.laws.proofs.All.{All, keep-yes, keep-no}
+use Rattle.theory.proofs.Cut.{split-class, split-other}
 use Rattle.theory.proofs.Accept.{Clear, Sound}
 use Rattle.theory.proofs.Form.{accepted-sound}
 use Rattle.theory.proofs.Unrefused.{present-facts}
-use Rattle.theory.proofs.Running.{group-next, running-next, begins, parted, rest-bytes, rest-records, rest-loose}
+use Rattle.theory.proofs.Running.{group-next, running-next, begins, rest-all, rest-bytes, rest-records, rest-loose}
 use Rattle.records.specs.Records.{between, nthByte, AtRecord}
 use Rattle.records.proofs.Nth.{nth-found, nth-passed, nth-other}
 use Rattle.groups.proofs.Held.{first-within, record-lengths, group-placed, class-fits}
@@ -114,14 +114,11 @@ module _ {nlib : ℕ} {sheet : List ℕ} (u : UserSheet nlib sheet) (i : ℕ) {s
   pub at-group : start ≡ groupStart sheet i → AtGroup (take (length sheet - start) (drop start sheet))
   unfolding wholeEnd
   at-group e =
-      let front : Group = concat (take i (groupsOf sheet)) in
-      let rest : Group = concat (drop i (groupsOf sheet)) in
-      let a = subst (All (λ r. T (lengthFits r))) (records-grouped sheet (u .clear .end) (u .clear .loose) ∙ parted (u .clear) i) (record-lengths (u .clear)) in
       rw (rest-part sheet start, e) (record {
         place = whole-place (drop (groupStart sheet i) sheet)
             (ap (λ (rs : Group). length (concat rs)) (rest-records (u .clear) i) ∙ ap length (sym (rest-bytes (u .clear) i)))
             (omega (arith, length-drop (groupStart sheet i) sheet, u .size))
-            (subst (All (λ r. T (lengthFits r))) (sym (rest-records (u .clear) i)) (all-right (λ r. T (lengthFits r)) front rest a));
+            (subst (All (λ r. T (lengthFits r))) (sym (rest-records (u .clear) i)) (rest-all (u .clear) i (λ r. T (lengthFits r)) (record-lengths (u .clear))));
         loose = rest-loose (u .clear) i;
       })
 

@@ -7,6 +7,7 @@ use lib.ListN.{take}
 use Rattle.spec.specs.Lists.{gather, span}
 use Rattle.spec.specs.Record.{className}
 use Rattle.spec.specs.Sheet.{classCount, group, classRecord}
+use Rattle.spec.specs.Rules.{Verdict}
 use Rattle.spec.specs.Verdicts.{userVerdict}
 use Rattle.spec.specs.Refusals.{Refusal, judgeRefusal}
 use Rattle.spec.specs.Promises.{Counts, countsOf}
@@ -42,13 +43,14 @@ countsText c = classesWord ++ (decimal (c .classes) ++ (faultedWord ++ (decimal 
 unfoldable pub refusalText : Refusal → List ℕ
 refusalText r = refusedWord ++ (decimal (r .number) ++ (sheetWord ++ (decimal (r .sheet) ++ (byteWord ++ (decimal (r .byte) ++ newline)))))
 
+-- "per user class number, name, rule, place"
+unfoldable pub lineOf : ℕ → List ℕ → Verdict → List ℕ
+lineOf c name v = decimal c ++ (space ++ (name ++ (space ++ (decimal (v .rule) ++ (space ++ (decimal (v .recordNumber) ++ newline))))))
+
 module _ (library user : List ℕ) where
-  -- "per user class number, name, rule, place": the i-th one
+  -- that of the i-th one
   unfoldable pub lineText : ℕ → List ℕ
-  lineText i =
-      let c = classCount library + i in
-      let v = userVerdict library user i in
-      decimal c ++ (space ++ (className (classRecord (group library user c)) ++ (space ++ (decimal (v .rule) ++ (space ++ (decimal (v .recordNumber) ++ newline))))))
+  lineText i = let c = classCount library + i in lineOf c (className (classRecord (group library user c))) (userVerdict library user i)
 
 -- the verdicts of as many classes as there can be
 abbrev pub listedLines : ℕ

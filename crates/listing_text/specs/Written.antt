@@ -7,7 +7,6 @@ use lib.ListN.{length}
 use Rattle.spec.specs.Sheet.{classCount}
 use Rattle.spec.specs.Verdicts.{userVerdict, flatAt}
 use Rattle.text.specs.Text.{putAll}
-use Rattle.listing_text.specs.Listing.{lineText}
 
 -- the buffer holds the text from `at` on, as far as it fits, and `after` is the place behind it
 pub record Written (out : List ℕ) (at : ℕ) (text : List ℕ) (out′ : List ℕ) (after : ℕ) : Type 0 where
@@ -18,7 +17,3 @@ pub record Written (out : List ℕ) (at : ℕ) (text : List ℕ) (out′ : List 
 pub record RowHolds (library user : List ℕ) (row : List ℕ) : Type 0 where
   pub long : length row ≡ 512
   pub verdicts : (i : ℕ) → i < classCount user → flatAt row i ≡ userVerdict library user i
-
--- the line of the i-th user class is written, beside any library of so many classes whose verdicts the row holds
-pub record LineWritten (sheet row : List ℕ) (nlib i : ℕ) (out : List ℕ) (at : ℕ) (out′ : List ℕ) (after : ℕ) : Type 0 where
-  pub line : (library : List ℕ) → nlib ≡ classCount library → RowHolds library sheet row → Written out at (lineText library sheet i) out′ after

@@ -14,20 +14,22 @@ use verifier::Judged;
 use verifier::VERDICT_BYTES;
 use verifier::judge;
 ghost use mathlib.Core.Path.{_≡_};
-ghost use mathlib.Core.List.{_++_};
+ghost use mathlib.Core.List.{[], _++_};
 ghost use mathlib.Core.Option.{none};
 ghost use Prim.Native.Nat.{_+_, _*_, _≤_, _<_};
-ghost use lib.ListN.{length};
+ghost use lib.ListN.{length, getD};
 ghost use Rattle.spec.specs.Lists.{gather, span};
-ghost use Rattle.spec.specs.Sheet.{classCount, groupStart};
+ghost use Rattle.spec.specs.Record.{className};
+ghost use Rattle.spec.specs.Sheet.{groupsOf, classCount, groupStart, classRecord};
+ghost use Rattle.spec.specs.Verdicts.{flatAt};
 ghost use Rattle.spec.specs.Refusals.{presentRefusal, judgeRefusal};
 ghost use Rattle.spec.specs.Promises.{afterwards, cleared};
 ghost use Rattle.theory.specs.Claims.{firstLength};
 ghost use Rattle.form.specs.Form.{refusalOf};
 ghost use Rattle.text.specs.Text.{decimal, overlaid};
-ghost use Rattle.listing_text.specs.Listing.{countsText, refusalText, lineText, listedLines, listingText, space, newline};
+ghost use Rattle.listing_text.specs.Listing.{countsText, refusalText, lineOf, lineText, listedLines, listingText, space, newline};
 ghost use Rattle.listing_text.specs.Sheets.{UserSheet, AtGroup};
-ghost use Rattle.listing_text.specs.Written.{Written, RowHolds, LineWritten};
+ghost use Rattle.listing_text.specs.Written.{Written, RowHolds};
 
 // A byte as a number of the machine.
 fn wide_byte(x: u8) -> usize
@@ -92,7 +94,9 @@ fn class_line(
     requires { ⌜ UserSheet nlib (now sheet) ⌝ }
     requires { ⌜ (i < classCount (now sheet)) × (start ≡ groupStart (now sheet) i) ⌝ }
     requires { ⌜ (2 * i + 1 < length (now verdicts)) × (at < 700000) ⌝ }
-    ensures { λ r. ⌜ LineWritten (now (sheet .entry)) (now (verdicts .entry)) nlib i (now (out .entry)) at (now (out .exit)) r ⌝ }
+    ensures { λ r. ⌜ Written (now (out .entry)) at
+        (lineOf (nlib + i) (className (classRecord (getD (groupsOf (now (sheet .entry))) i []))) (flatAt (now (verdicts .entry)) i))
+        (now (out .exit)) r ⌝ }
 {
     let end = start + wide(word_in(sheet, start));
     let rule = wide_byte(verdicts[VERDICT_BYTES * i]);

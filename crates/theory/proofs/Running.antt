@@ -13,7 +13,7 @@ use Rattle.spec.specs.Sheet.{Group, recordsOf, splitGroups, groupsOf, classCoun
 use Rattle.spec.specs.Refusals.{oneClass}
 use Rattle.theory.specs.Claims.{firstLength, running, Carried, RunningHolds}
 use Rattle.laws.proofs.All.{All, all-drop, all-right}
-use Rattle.theory.proofs.Cut.{Whole, records-of-whole, records-of-join, concat-append, concat-concat, split-parts, split-join, sheet-grouped}
+use Rattle.theory.proofs.Cut.{Whole, records-of-whole, records-of-join, concat-append, concat-concat, split-parts, split-join, records-grouped, sheet-grouped}
 use Rattle.theory.proofs.Accept.{Clear}
 use Rattle.theory.proofs.Form.{accepted-sound}
 use Rattle.theory.proofs.Unrefused.{present-facts}
@@ -40,12 +40,6 @@ module _ {sheet n : ℕ} {s : List ℕ} (clear : Clear sheet n s) where
   pub joined : concat (concat (groupsOf s)) ≡ s
   joined = sym (concat-concat (groupsOf s)) ∙ sheet-grouped s (clear .end) (clear .loose)
 
-  pub whole : All Whole (concat (groupsOf s))
-  unfolding groupsOf
-  whole =
-      let t = splitGroups (recordsOf s) in
-      all-right Whole (t .loose) (concat (t .groups)) (subst (All Whole) (split-parts (recordsOf s) .joined) (records-of-whole s))
-
   pub group-last : groupStart s (classCount s) ≡ length s
   unfolding groupStart classCount
   group-last = ap (λ (x : List Group). length (concat (concat x))) (take-length (groupsOf s)) ∙ ap length joined
@@ -53,8 +47,12 @@ module _ {sheet n : ℕ} {s : List ℕ} (clear : Clear sheet n s) where
   -- ---- the bytes from the start of a group on
 
   module _ (i : ℕ) where
-    pub parted : concat (groupsOf s) ≡ concat (take i (groupsOf s)) ++ concat (drop i (groupsOf s))
+    parted : concat (groupsOf s) ≡ concat (take i (groupsOf s)) ++ concat (drop i (groupsOf s))
     parted = ap concat (sym (take-append-drop i (groupsOf s))) ∙ concat-append (take i (groupsOf s)) (drop i (groupsOf s))
+
+    -- what holds of all records holds of those that stand there
+    pub rest-all : (P : List ℕ → Type 0) → All P (recordsOf s) → All P (concat (drop i (groupsOf s)))
+    rest-all P h = all-right P (concat (take i (groupsOf s))) (concat (drop i (groupsOf s))) (subst (All P) (records-grouped s (clear .end) (clear .loose) ∙ parted) h)
 
     pub rest-bytes : drop (groupStart s i) s ≡ concat (concat (drop i (groupsOf s)))
     unfolding groupStart
@@ -64,10 +62,7 @@ module _ {sheet n : ℕ} {s : List ℕ} (clear : Clear sheet n s) where
         ap (drop (length (concat front))) (sym joined ∙ ap concat parted ∙ concat-append front rest) ∙ drop-at (concat front) (concat rest) (length (concat front)) refl
 
     pub rest-records : recordsOf (drop (groupStart s i) s) ≡ concat (drop i (groupsOf s))
-    rest-records =
-        let front : List (List ℕ) = concat (take i (groupsOf s)) in
-        let rest : List (List ℕ) = concat (drop i (groupsOf s)) in
-        ap recordsOf rest-bytes ∙ records-of-join rest (all-right Whole front rest (subst (All Whole) parted whole))
+    rest-records = ap recordsOf rest-bytes ∙ records-of-join (concat (drop i (groupsOf s))) (rest-all Whole (records-of-whole s))
 
     rest-split : (splitGroups (concat (drop i (groupsOf s))) .loose ≡ []) × (splitGroups (concat (drop i (groupsOf s))) .groups ≡ drop i (groupsOf s))
     unfolding groupsOf

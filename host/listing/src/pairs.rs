@@ -26,7 +26,7 @@ impl Pair {
 
 pub fn pairs() -> Vec<Pair> {
     let mut pairs = small_pairs();
-    pairs.extend(missing_files());
+    pairs.extend(odd_files());
     for family in families() {
         pairs.extend((0..DAMAGED).map(|seed| {
             let (mut library, mut user) = (family.library.clone(), family.user.clone());
@@ -49,7 +49,7 @@ fn library() -> Vec<u8> {
     library.into_bytes()
 }
 
-/// One class, one as long as a group can be, as long as a sheet can be and longer.
+/// One class, the longest group and one record more, the longest sheet.
 fn small_pairs() -> Vec<Pair> {
     let mut one = Sheet::new();
     one.class(Class::below(0), b"A");
@@ -76,7 +76,8 @@ fn small_pairs() -> Vec<Pair> {
     ]
 }
 
-fn missing_files() -> Vec<Pair> {
+/// Files that are empty, too long or not there.
+fn odd_files() -> Vec<Pair> {
     let long = vec![0; SHEET_LIMIT + 1];
     let mut pairs = vec![
         Pair::new("no bytes", library(), Vec::new()),

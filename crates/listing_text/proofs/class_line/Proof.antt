@@ -6,7 +6,7 @@ use native.Mathlib.Omega.{arith}
 use Rattle.text.proofs.Digits.{decimal-length}
 use Rattle.listing_text.proofs.Texts.{one-byte, a-number, a-part, same-text, then}
 use Rattle.listing_text.proofs.NameBytes.{NameAt, name-at}
-use Rattle.listing_text.proofs.ClassText.{line-is}
+use Rattle.listing_text.proofs.ClassText.{line-read}
 use borrow.Author.Needs.{needs}
 use Rattle.listing_text.proofs.class_line.Statement.{statement}
 use Rattle.listing_text.proofs.class_line.Tie as tie
@@ -82,13 +82,10 @@ returns c =
     let e = start z in
     let q = name-by z in
     let r = n .before .before in
-    record {
-      line = λ library en w.
-          same-text (line-is (e .pre .1 .0 .0) library en w (q .is) (r .before .before .wide-byte .ensures) (r .wide-byte2 .ensures))
-          (then (a-number (e .args .nlib + e .args .i) (n .put-number .ensures)) (then (one-byte (s .put .ensures))
-          (then (a-part (e .args .sheet .now) _ _ (omega (arith, q .long)) (q .within) (p .put-part .ensures))
-          (then (one-byte (d .put2 .ensures)) (v .put-verdict .ensures)))));
-    }
+    same-text (line-read (e .args .nlib + e .args .i) (e .args .verdicts .now) (e .args .i) (q .is) (r .before .before .wide-byte .ensures) (r .wide-byte2 .ensures))
+    (then (a-number (e .args .nlib + e .args .i) (n .put-number .ensures)) (then (one-byte (s .put .ensures))
+    (then (a-part (e .args .sheet .now) _ _ (omega (arith, q .long)) (q .within) (p .put-part .ensures))
+    (then (one-byte (d .put2 .ensures)) (v .put-verdict .ensures)))))
 
 pub class-line-spec : {M : Type 1} → statement M
 class-line-spec =

@@ -7,9 +7,9 @@ use lib.ListN.{length}
 use Rattle.spec.specs.Sheet.{classCount}
 use Rattle.theory.specs.Claims.{running}
 use Rattle.listing_text.specs.Sheets.{UserSheet}
-use Rattle.listing_text.proofs.Texts.{same-size}
+use Rattle.listing_text.proofs.Texts.{same-text, same-size}
 use Rattle.listing_text.proofs.Groups.{library-place, library-count, user-sheet, at-group, further}
-use Rattle.listing_text.proofs.ClassText.{Lines, lines-start, begins-there, class-left, lines-next, lines-end}
+use Rattle.listing_text.proofs.ClassText.{line-is, Lines, lines-start, begins-there, class-left, lines-next, lines-end}
 use borrow.Author.Needs.{needs}
 use Rattle.listing_text.proofs.class_lines.Statement.{statement}
 use Rattle.listing_text.proofs.class_lines.Tie as tie
@@ -66,7 +66,7 @@ loop-again c =
     let l = tested c in
     let k = counted l in
     lines-next (sheet-is k) (l .before .loop .inv) (class-there l)
-    (c .before .before .before .before .class-line .ensures .line (start k .args .library .now) (library-is k) (start k .pre .1 .0)) (next c .0)
+    (same-text (line-is (class-there l) (start k .args .library .now) (library-is k) (start k .pre .1 .0)) (c .before .before .before .before .class-line .ensures)) (next c .0)
 
 pub class-lines-spec : {M : Type 1} → statement M
 class-lines-spec =
