@@ -64,7 +64,7 @@ module _ {A B : Type 0} (f : A → List B) where
       go (inl k) ih = record { source = x; member = Memᴰ.head refl; part = k }
       go (inr k) ih = let r = ih k in record { source = r.source; member = Memᴰ.tail r.member; part = r.part }
 
-  pub mem-gather : {xs : List A} {x : A} {b : B} → Memᴰ x xs → Memᴰ b (f x) → Memᴰ b (gather f xs)
+  pub mem-gather : {x : A} {b : B} {xs : List A} → Memᴰ x xs → Memᴰ b (f x) → Memᴰ b (gather f xs)
   unfolding gather
   mem-gather {b = b} (Memᴰ.head {x} {xs} e) k = Memᴰ.append_left (gather f xs) (subst (λ y. Memᴰ b (f y)) e k)
   mem-gather (Memᴰ.tail {x} {xs} m) k = Memᴰ.append_right (f x) (mem-gather m k)
@@ -84,7 +84,7 @@ module _ {A : Type 0} (p : A → Bool) where
           at (inr k) = (Memᴰ.tail (ih k).0, (ih k).1)
       go false e m ih = (Memᴰ.tail (ih m).0, (ih m).1)
 
-  pub mem-keep : {xs : List A} {x : A} → Memᴰ x xs → T (p x) → Memᴰ x (keep p xs)
+  pub mem-keep : {x : A} {xs : List A} → Memᴰ x xs → T (p x) → Memᴰ x (keep p xs)
   unfolding keep
   mem-keep {x = x} (Memᴰ.head {x = y} {xs = xs} e) t = go (p y) (subst (λ z. T (p z)) e t)
     where

@@ -30,9 +30,11 @@ Ascends b [] = Unit {0}
 Ascends b (r ∷ rs) = (b ≤ kind r) × Ascends (kind r) rs
 
 first-at : (b : ℕ) (g : Group) (s : List ℕ) → Ascends b g → At g 0 s → b ≤ kind s
+first-at b [] s h q = elim q [ ]
 first-at b (x ∷ g) s h here = h.0
 
 rising : (b : ℕ) (g : Group) → Ascends b g → Rising g
+rising b [] h k r s p q = elim p [ ]
 rising b (x ∷ g) h zero r s here (next q) = first-at (kind x) g s h.1 q
 rising b (x ∷ g) h (suc k) r s (next p) (next q) = rising (kind x) g h.1 k r s p q
 
