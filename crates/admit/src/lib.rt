@@ -1,4 +1,6 @@
 // Whether a group may be put into the user sheet: 14, 15, then 3 to 11 and 16 of the sheet that it makes, read through the view, then 12.
+#![tactic(auto)]
+
 ghost use Rattle.std.specs.Prelude.{◌≡◌, ◌||◌, List, ℕ, ◌-◌, ◌≤◌, ltb, length, replicate};
 ghost use Rattle.spec.specs.Refusals.{scratchLength};
 ghost use Rattle.view.specs.View.{Sits, spliced};
@@ -34,10 +36,10 @@ pub fn admit<'a>(
     memo: &mut [u16],
 ) -> Checked
     ghost new: { List ℕ }
-    requires cut_value { spliced user.now group.now cut ≡ new }
+    requires viewed { spliced user.now group.now cut ≡ new }
     requires sits { Sits cut user.now }
-    requires library_len_bound { length library.now ≤ 32768 }
-    requires starts_len { (length starts.old ≡ 256) × (memo.old ≡ replicate 256 65535) }
+    requires short { length library.now ≤ 32768 }
+    requires rows { (length starts.old ≡ 256) × (memo.old ≡ replicate 256 65535) }
     requires plain { Plain library.now group.now new }
     ensures { Checks (admitRefusal library.now user.now group.now new lines scratch)
         library.now new result starts.new memo.new }

@@ -1,5 +1,7 @@
 // Whether one record of one class breaks a rule. Nothing is searched here: captured variables and overlay markers stand in their rows.
 // A class's bytes are read as a plain slice, with the first record at 0.
+#![tactic(auto)]
+
 ghost use Rattle.std.specs.Prelude.{◌≡◌, not, ◌&&◌, ◌||◌, ℕ, ◌≤◌, ◌<◌, length, replicate};
 ghost use Rattle.spec.specs.Record.{u16, bit, isKind, REFERS, target, index};
 ghost use Rattle.spec.specs.Sheet.{Group, group as group_of};
@@ -42,7 +44,7 @@ fn closed(flags: u16) -> u8
 // Whether the record is a MEMBER that is not allowed.
 fn closed_member(bytes: &[u8], at: usize) -> bool
     requires sized { Sized bytes.now at }
-    requires bytes_len_bound { length bytes.now ≤ 32768 }
+    requires short { length bytes.now ≤ 32768 }
     ensures { result ≡ closedMember (recordAt bytes.now at) }
 {
     if word_in(bytes, at + KIND_AT) != MEMBER {
@@ -69,9 +71,9 @@ fn part_closed(bytes: &[u8]) -> u8
 // Writes 1 for each library class that is not allowed and 2 more for one with a member that is not, so that a record is asked by a row.
 pub fn bans<'a>(library: &'a [u8], user: &'a [u8], starts: &[u16], classes: Classes, row: &mut [u8])
     ghost g: { ℕ → Group }
-    requires user_value { group_of library.now user.now ≡ g }
+    requires groups { group_of library.now user.now ≡ g }
     requires indexed { Indexed library.now user.now classes.library classes.all starts.now }
-    requires row_value { row.old ≡ replicate 256 0 }
+    requires row { row.old ≡ replicate 256 0 }
     ensures { Bans classes.library g row.new }
 {
     let end = classes.library;
@@ -86,7 +88,7 @@ pub fn bans<'a>(library: &'a [u8], user: &'a [u8], starts: &[u16], classes: Clas
 // Rule 1: the record names a class that is not allowed.
 pub fn names_forbidden(bytes: &[u8], at: usize, banned: &[u8]) -> bool
     requires sized { Sized bytes.now at }
-    requires bytes_len_bound { length bytes.now ≤ 32768 }
+    requires short { length bytes.now ≤ 32768 }
     ensures { NamesForbidden banned.now (recordAt bytes.now at) result }
 {
     let first = any_named(bytes, at);
@@ -118,11 +120,11 @@ pub fn refers_forbidden<'a>(
     at: usize,
 ) -> bool
     ghost g: { ℕ → Group }
-    requires user_value { group_of library.now user.now ≡ g }
+    requires groups { group_of library.now user.now ≡ g }
     requires indexed { Indexed library.now user.now classes.library classes.all starts.now }
     requires sized { Sized bytes.now at }
     requires refers { Refers classes.all g (recordAt bytes.now at) }
-    requires bytes_len_bound { length bytes.now ≤ 32768 }
+    requires short { length bytes.now ≤ 32768 }
     requires bans { Bans classes.library g banned.now }
     ensures { result ≡ (isKind REFERS (recordAt bytes.now at)
         && not (memberAllowed g (target (recordAt bytes.now at)) (index (recordAt bytes.now at)))) }
@@ -150,7 +152,7 @@ pub fn reserved(m: u8) -> bool
 // Rule 5: a static field that is not final or not of a Powerless type (02, C-11).
 pub fn static_breaks(bytes: &[u8], at: usize, markers: &[u8]) -> bool
     requires sized { Sized bytes.now at }
-    requires bytes_len_bound { length bytes.now ≤ 32768 }
+    requires short { length bytes.now ≤ 32768 }
     ensures { (g : ℕ → Group) → Known g markers.now → result ≡ staticBreaks g (recordAt bytes.now at) }
 {
     if word_in(bytes, at + KIND_AT) != FIELD {
@@ -178,7 +180,7 @@ pub fn lets_out(flags: u16) -> bool
 // An instance field that does not pass.
 fn field_breaks(bytes: &[u8], at: usize, markers: &[u8], rule: u8) -> bool
     requires sized { Sized bytes.now at }
-    requires bytes_len_bound { (length bytes.now ≤ 32768) × (7 ≤ rule) × (rule ≤ 10) }
+    requires short { (length bytes.now ≤ 32768) × (7 ≤ rule) × (rule ≤ 10) }
     ensures { FieldBreaks markers.now rule (recordAt bytes.now at) result }
 {
     if word_in(bytes, at + KIND_AT) != FIELD {
@@ -191,7 +193,7 @@ fn field_breaks(bytes: &[u8], at: usize, markers: &[u8], rule: u8) -> bool
 
 // Where the walk over rules, classes and records stands: the rule, the class that is judged, the class that is asked, and the number of its record
 // that begins at a byte of its bytes.
-#[derive(Drop)]
+#[derive(Clone, Copy)]
 pub struct Step {
     pub rule: u8,
     pub class: usize,
@@ -212,7 +214,7 @@ pub fn breaks<'a>(
     step: Step,
 ) -> bool
     ghost g: { ℕ → Group }
-    requires user_value { group_of library.now user.now ≡ g }
+    requires groups { group_of library.now user.now ≡ g }
     requires judging { Judging library.now user.now starts.now classes facts.now lanes.now }
     requires at_step { AtStep g classes bytes.now step }
     ensures { result ≡ breaksAt classes.library g step.rule step.class step.asked step.number (recordAt bytes.now step.at) }

@@ -187,8 +187,8 @@ module _ {library user : List ℕ} {nlib n : ℕ} {starts : List ℕ} (x : Index
     fit-inside h z (inl e) = absurd (omega arith)
     fit-inside h z (inr i) = inside-to h i
 
-    draws-reached : {k l y : ℕ} → k < 3 → l < n → y < 255 → 1 ≤ y → DrawsAt k y l → Reached k l y
-    draws-reached {k} {l} hk hl hy z (own e p) =
+    draws-reached : {k y l : ℕ} → k < 3 → l < n → y < 255 → 1 ≤ y → DrawsAt k y l → Reached k l y
+    draws-reached {k} {l = l} hk hl hy z (own e p) =
         let u = subst (Wanted g (laneMarker k) l (g l)) e (fit k l hk hl (omega arith)) in record { last = l; chain = start (inside-to hl u.within); wanted = u }
     draws-reached {l = l} hk hl hy z (via p e ht d) =
         let q = draws-reached hk ht hy z d in record { last = q.last; chain = chain_first (fit-inside hl z p) (step-builds l ht e) q.chain; wanted = q.wanted }

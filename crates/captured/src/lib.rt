@@ -1,4 +1,6 @@
 // Captured variables: for each class and marker, whether it captures a variable whose type lacks the marker.
+#![tactic(auto)]
+
 ghost use Rattle.std.specs.Prelude.{◌≡◌, [], ℕ, ◌^◌, ◌≤◌, ◌<◌, ltb, length, get_or};
 ghost use Rattle.std.proofs.Math.Option.{none};
 ghost use Rattle.spec.specs.Record.{LOCAL, local_ty};
@@ -49,10 +51,10 @@ fn variable_markers<'a>(
     i: usize,
 ) -> u8
     ghost g: { ℕ → Group }
-    requires user_value { group_of library.now user.now ≡ g }
+    requires groups { group_of library.now user.now ≡ g }
     requires indexed { Indexed library.now user.now classes.library classes.all starts.now }
     requires known { Known g markers.now }
-    requires d_lt_all { (d < classes.all) × (i < length (ofKind LOCAL (g d))) }
+    requires there { (d < classes.all) × (i < length (ofKind LOCAL (g d))) }
     ensures { result ≡ typeMarkers g (local_ty (get_or (ofKind LOCAL (g d)) i [])) }
 {
     let bytes = class_bytes(library, user, starts, classes, d);
@@ -101,12 +103,12 @@ fn seed_records<'a>(
     row: &mut [u8],
 )
     ghost g: { ℕ → Group }
-    requires user_value { group_of library.now user.now ≡ g }
+    requires groups { group_of library.now user.now ≡ g }
     requires indexed { Indexed library.now user.now classes.library classes.all starts.now }
-    requires user_value_2 { formRefusal library.now user.now ≡ none }
+    requires accepted { formRefusal library.now user.now ≡ none }
     requires known { Known g markers.now }
     requires carries { Carries bytes.now (g m) }
-    requires m_lt_all { (m < classes.all) × (768 ≤ length row.old) }
+    requires there { (m < classes.all) × (768 ≤ length row.old) }
     ensures { Lowering (ByRecords g m (g m)) row.old row.new }
 {
     let mut marks = [0u8; CLASS_LIMIT];
@@ -135,11 +137,11 @@ fn seed_class<'a>(
     row: &mut [u8],
 )
     ghost g: { ℕ → Group }
-    requires user_value { group_of library.now user.now ≡ g }
+    requires groups { group_of library.now user.now ≡ g }
     requires indexed { Indexed library.now user.now classes.library classes.all starts.now }
-    requires user_value_2 { formRefusal library.now user.now ≡ none }
+    requires accepted { formRefusal library.now user.now ≡ none }
     requires known { Known g markers.now }
-    requires m_lt_all { (m < classes.all) × (768 ≤ length row.old) }
+    requires there { (m < classes.all) × (768 ≤ length row.old) }
     ensures { Lowering (ByRecords g m (g m)) row.old row.new }
 {
     let bytes = class_bytes(library, user, starts, classes, m);
@@ -159,11 +161,11 @@ fn seed<'a>(
     row: &mut [u8],
 )
     ghost g: { ℕ → Group }
-    requires user_value { group_of library.now user.now ≡ g }
+    requires groups { group_of library.now user.now ≡ g }
     requires indexed { Indexed library.now user.now classes.library classes.all starts.now }
-    requires user_value_2 { formRefusal library.now user.now ≡ none }
+    requires accepted { formRefusal library.now user.now ≡ none }
     requires known { Known g markers.now }
-    requires in_bounds { 768 ≤ length row.old }
+    requires long { 768 ≤ length row.old }
     ensures { Lowering (ByClasses g classes.all) row.old row.new }
 {
     let mut m = classes.library;
@@ -183,11 +185,11 @@ pub fn captures<'a>(
     row: &mut [u8],
 )
     ghost g: { ℕ → Group }
-    requires user_value { group_of library.now user.now ≡ g }
+    requires groups { group_of library.now user.now ≡ g }
     requires indexed { Indexed library.now user.now classes.library classes.all starts.now }
-    requires user_value_2 { formRefusal library.now user.now ≡ none }
+    requires accepted { formRefusal library.now user.now ≡ none }
     requires known { Known g markers.now }
-    requires in_bounds { 768 ≤ length row.old }
+    requires long { 768 ≤ length row.old }
     ensures { Captured g classes.all row.old row.new }
 {
     fill(row, OWNERS, EMPTY);

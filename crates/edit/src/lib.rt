@@ -1,4 +1,6 @@
 // Writing a new user sheet in place: later groups move, the group is copied in, freed bytes become zero.
+#![tactic(auto)]
+
 ghost use Rattle.std.specs.Prelude.{◌≡◌, ◌+◌, ◌-◌, ◌≤◌, length, drop, replicate};
 ghost use Rattle.std.proofs.Math.Seq.{paste};
 ghost use Rattle.spec.specs.Promises.{bufferWith};
@@ -72,7 +74,7 @@ pub fn clear(buffer: &mut [u8], from: usize, to: usize)
 // Makes the buffer hold the sheet that the cut and the group stand for.
 pub fn write(user: &mut [u8], group: &[u8], cut: Cut)
     requires fits { Fits cut user.old group.now }
-    requires cut_in_bounds { length (spliced user.old group.now cut) ≤ length user.old }
+    requires room { length (spliced user.old group.now cut) ≤ length user.old }
     ensures { user.new ≡ bufferWith (spliced user.old group.now cut) user.old cut.used }
 {
     let later = cut.from + group.len();

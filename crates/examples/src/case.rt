@@ -1,6 +1,6 @@
 // What the commands before have set: lengths of the bytes in the buffers, which sheet is appended to, what is lent, how many lines the kept row has by now and
 // how many of them are those of classes that are there.
-#[derive(Drop)]
+#[derive(Clone, Copy)]
 pub(crate) struct Case {
     pub(crate) library: usize,
     pub(crate) user: usize,

@@ -1,4 +1,6 @@
 // Runs the interface on real bytes. The cases are in the files of data/, a command a line: script.rt says which commands there are.
+#![tactic(auto)]
+
 mod case;
 mod judging;
 mod line;

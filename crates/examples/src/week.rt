@@ -6,7 +6,7 @@ use crate::say;
 use crate::sheet::bytes;
 use verifier::{Changed, add, replace, withdraw};
 
-#[derive(Drop)]
+#[derive(Clone, Copy)]
 pub(crate) enum Call {
     Add,
     Replace(usize),
@@ -14,7 +14,7 @@ pub(crate) enum Call {
 }
 
 // Whether a call was accepted, and left in the scratch what it should.
-#[derive(Drop)]
+#[derive(Clone, Copy)]
 struct Done {
     accepted: bool,
     is_right: bool,

@@ -1,4 +1,6 @@
 // Fingerprints of class names: whether a name is new is asked of a row of numbers.
+#![tactic(auto)]
+
 ghost use Rattle.std.specs.Prelude.{◌≡◌, ℕ, ◌≤◌, ◌<◌, length, take, drop};
 ghost use Rattle.spec.specs.Lists.{elem};
 ghost use Rattle.spec.specs.Record.{className};
@@ -42,9 +44,9 @@ fn class_print<'a>(
     c: usize,
 ) -> u16
     ghost g: { ℕ → Group }
-    requires cut_value { group_of library.now (spliced user.now group.now view.cut) ≡ g }
+    requires groups { group_of library.now (spliced user.now group.now view.cut) ≡ g }
     requires views { Views view library.now user.now group.now starts.now }
-    requires c_lt_all { c < view.classes.all }
+    requires there { c < view.classes.all }
     ensures { result ≡ printOf (className (classRecord (g c))) }
 {
     print_in(view_bytes(library, user, group, starts, view, c))
@@ -60,9 +62,9 @@ pub fn prints<'a>(
     row: &mut [u16],
 )
     ghost g: { ℕ → Group }
-    requires cut_value { group_of library.now (spliced user.now group.now view.cut) ≡ g }
+    requires groups { group_of library.now (spliced user.now group.now view.cut) ≡ g }
     requires views { Views view library.now user.now group.now starts.now }
-    requires all_in_bounds { view.classes.all ≤ length row.old }
+    requires long { view.classes.all ≤ length row.old }
     ensures first { Printed g view.classes.all row.new }
     ensures rest { drop view.classes.all row.new ≡ drop view.classes.all row.old }
 {

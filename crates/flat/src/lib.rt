@@ -1,4 +1,6 @@
 // The flat verdict row, a few bytes a user class: verdicts written where they change, faulted ones counted.
+#![tactic(auto)]
+
 ghost use Rattle.std.specs.Prelude.{◌≡◌, ℕ, ◌+◌, ◌-◌, ◌≤◌, ◌<◌, min, length, replicate};
 ghost use Rattle.std.proofs.Math.Option.{none};
 ghost use Rattle.spec.specs.Sheet.{Group, group as group_of};
@@ -37,11 +39,11 @@ fn learn<'a>(
     lanes: &mut [u8],
 )
     ghost g: { ℕ → Group }
-    requires user_value { group_of library.now user.now ≡ g }
+    requires groups { group_of library.now user.now ≡ g }
     requires indexed { Indexed library.now user.now classes.library classes.all starts.now }
-    requires user_value_2 { formRefusal library.now user.now ≡ none }
-    requires memo_value { memo.old ≡ memoOf g classes.library }
-    requires facts_value { (facts.old ≡ replicate 768 0) × (768 ≤ length lanes.old) }
+    requires accepted { formRefusal library.now user.now ≡ none }
+    requires memo { memo.old ≡ memoOf g classes.library }
+    requires rows { (facts.old ≡ replicate 768 0) × (768 ≤ length lanes.old) }
     ensures memo { memo.new ≡ memoOf g classes.all }
     ensures facts { Judging library.now user.now starts.now classes facts.new lanes.new }
     ensures sets { Passing classes.library classes.all g (setsIn facts.new) }
@@ -67,11 +69,11 @@ fn judged<'a>(
     kept: &mut [u8],
 ) -> Verdict
     ghost g: { ℕ → Group }
-    requires user_value { group_of library.now user.now ≡ g }
+    requires groups { group_of library.now user.now ≡ g }
     requires judging { Judging library.now user.now starts.now classes facts.now lanes.now }
     requires passing { Passing classes.library classes.all g (setsIn facts.now) }
-    requires library_le_c { (classes.library ≤ c) × (c < classes.all) }
-    requires kept_2 { Kept classes.library classes.all g kept.old }
+    requires user_class { (classes.library ≤ c) × (c < classes.all) }
+    requires kept { Kept classes.library classes.all g kept.old }
     ensures verdict { line_of result ≡ verdictOf classes.library g c }
     ensures kept { Kept classes.library classes.all g kept.new }
 {
@@ -103,10 +105,10 @@ fn rewrite<'a>(
     verdicts: &mut [u8],
 )
     ghost g: { ℕ → Group }
-    requires user_value { group_of library.now user.now ≡ g }
+    requires groups { group_of library.now user.now ≡ g }
     requires judging { Judging library.now user.now starts.now classes facts.now lanes.now }
     requires passing { Passing classes.library classes.all g (setsIn facts.now) }
-    requires in_bounds { (256 ≤ length marks.now) × (classes.all - classes.library ≤ flatLines verdicts.old) }
+    requires long { (256 ≤ length marks.now) × (classes.all - classes.library ≤ flatLines verdicts.old) }
     ensures { verdicts.new ≡ flatRewritten (chosen classes.library classes.all marks.now)
         (λ i. verdictOf classes.library g (classes.library + i)) verdicts.old }
 {
@@ -135,12 +137,12 @@ pub fn rejudge<'a>(
     scratch: &mut [u8],
 )
     ghost g: { ℕ → Group }
-    requires user_value { group_of library.now user.now ≡ g }
+    requires groups { group_of library.now user.now ≡ g }
     requires indexed { Indexed library.now user.now classes.library classes.all starts.now }
-    requires user_value_2 { formRefusal library.now user.now ≡ none }
-    requires memo_value { memo.old ≡ memoOf g classes.library }
-    requires in_bounds { (256 ≤ length marks.now) × (classes.all - classes.library ≤ flatLines verdicts.old) }
-    requires scratch_length_in_bounds { scratchLength ≤ length scratch.old }
+    requires accepted { formRefusal library.now user.now ≡ none }
+    requires memo { memo.old ≡ memoOf g classes.library }
+    requires long { (256 ≤ length marks.now) × (classes.all - classes.library ≤ flatLines verdicts.old) }
+    requires scratch { scratchLength ≤ length scratch.old }
     ensures memo { memo.new ≡ memoOf g classes.all }
     ensures verdicts { verdicts.new ≡ flatRewritten (chosen classes.library classes.all marks.now)
         (λ i. verdictOf classes.library g (classes.library + i)) verdicts.old }

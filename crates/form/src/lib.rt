@@ -1,4 +1,6 @@
 // Acceptance: the deemed markers (11), and all of 1 to 11 and 16 of a library sheet and a view.
+#![tactic(auto)]
+
 ghost use Rattle.std.specs.Prelude.{◌≡◌, List, [], ℕ, ◌+◌, ◌≤◌, min, length, take, replicate};
 ghost use Rattle.spec.specs.Sheet.{Group, group as group_of, classCount, total};
 ghost use Rattle.spec.specs.Refusals.{sheetRefusal, presentRefusal};
@@ -20,7 +22,7 @@ use second::{heads, second_pass};
 use view::{Cut, View};
 
 // Why sheets are turned away: the number, the sheet (0 library, 1 user) and the byte in it.
-#[derive(Drop)]
+#[derive(Clone, Copy)]
 pub struct Refusal {
     pub number: u8,
     pub sheet: u8,
@@ -28,14 +30,14 @@ pub struct Refusal {
 }
 
 // The classes, or the refusal.
-#[derive(Drop)]
+#[derive(Clone, Copy)]
 pub enum Checked {
     Fine(Classes),
     Refused(Refusal),
 }
 
 // What an operation that changes the user sheet answers: its number, or the refusal.
-#[derive(Drop)]
+#[derive(Clone, Copy)]
 pub enum Changed {
     Fine(usize),
     Refused(Refusal),
@@ -69,10 +71,10 @@ fn deemed_breaks(c: usize, m: u8) -> bool
 // the library is asked beside an empty one.
 fn deemed(library: &[u8], starts: &[u16], nlib: usize, memo: &mut [u16]) -> usize
     ghost g: { ℕ → Group }
-    requires library_value { group_of library.now [] ≡ g }
+    requires groups { group_of library.now [] ≡ g }
     requires indexed { Indexed library.now [] nlib nlib starts.now }
     requires falls { Falls g }
-    requires memo_value { memo.old ≡ replicate 256 65535 }
+    requires memo { memo.old ≡ replicate 256 65535 }
     ensures class { result ≡ firstDeemed g nlib }
     ensures memo { memo.new ≡ memoOf g (min nlib (result + 1)) }
 {
@@ -95,10 +97,10 @@ fn deemed(library: &[u8], starts: &[u16], nlib: usize, memo: &mut [u16]) -> usiz
 // plain slice.
 fn view_pass<'a>(user: &'a [u8], group: &'a [u8], cut: Cut, base: usize, starts: &mut [u16]) -> Pass
     ghost view: { List ℕ }
-    requires cut_value { spliced user.now group.now cut ≡ view }
+    requires viewed { spliced user.now group.now cut ≡ view }
     requires fits { Fits cut user.now group.now }
-    requires view_len_bound { length view ≤ 32768 }
-    requires base_bound { (base ≤ 256) × (256 ≤ length starts.old) }
+    requires short { length view ≤ 32768 }
+    requires bounds { (base ≤ 256) × (256 ≤ length starts.old) }
     ensures answer { result ≡ passOf (passRefusal 1 base view) (base + classCount view) }
     ensures starts { Filled (passRefusal 1 base view) base 0 view starts.old starts.new }
 {
@@ -125,10 +127,10 @@ fn both_passes<'a>(
     starts: &mut [u16],
 ) -> Checked
     ghost view: { List ℕ }
-    requires cut_value { spliced user.now group.now cut ≡ view }
+    requires viewed { spliced user.now group.now cut ≡ view }
     requires fits { Fits cut user.now group.now }
-    requires library_len_bound { (length library.now ≤ 32768) × (length view ≤ 32768) }
-    requires starts_len { length starts.old ≡ 256 }
+    requires short { (length library.now ≤ 32768) × (length view ≤ 32768) }
+    requires rows { length starts.old ≡ 256 }
     ensures answer { result ≡ checkedOf (passesRefusal library.now view)
         (classCount library.now) (total library.now view) }
     ensures starts { Starts library.now view starts.new }
@@ -175,9 +177,9 @@ fn later<'a>(
     memo: &mut [u16],
 ) -> Checked
     ghost sheet: { List ℕ }
-    requires cut_value { spliced user.now group.now view.cut ≡ sheet }
+    requires viewed { spliced user.now group.now view.cut ≡ sheet }
     requires views { Views view library.now user.now group.now starts.now }
-    requires memo_value { memo.old ≡ replicate 256 65535 }
+    requires memo { memo.old ≡ replicate 256 65535 }
     ensures answer { result ≡ checkedOf (laterRefusal library.now sheet) view.classes.library view.classes.all }
     ensures rows { Ready (laterRefusal library.now sheet)
         library.now sheet starts.now memo.new }
@@ -225,10 +227,10 @@ pub fn check<'a>(
     memo: &mut [u16],
 ) -> Checked
     ghost view: { List ℕ }
-    requires cut_value { spliced user.now group.now cut ≡ view }
+    requires viewed { spliced user.now group.now cut ≡ view }
     requires fits { Fits cut user.now group.now }
-    requires library_len_bound { (length library.now ≤ 32768) × (length view ≤ 32768) }
-    requires starts_len { (length starts.old ≡ 256) × (memo.old ≡ replicate 256 65535) }
+    requires short { (length library.now ≤ 32768) × (length view ≤ 32768) }
+    requires rows { (length starts.old ≡ 256) × (memo.old ≡ replicate 256 65535) }
     ensures { Checks (sheetRefusal library.now view) library.now view result starts.new memo.new }
 {
     let passed = both_passes(library, user, group, cut, starts);

@@ -1,4 +1,6 @@
 // Two sheets side by side: a class's group, found by the row of starts in the sheet that holds it.
+#![tactic(auto)]
+
 ghost use Rattle.std.specs.Prelude.{◌≡◌, ℕ, ◌≤◌, ◌<◌, length};
 ghost use Rattle.spec.specs.Record.{u16};
 ghost use Rattle.spec.specs.Sheet.{Group, group as group_of, classRecord};
@@ -8,7 +10,7 @@ ghost use Rattle.groups.specs.Groups.{sheetNumber, Indexed, EndOf};
 use records::{wide, word_in};
 
 // How many classes the library has, and both sheets together.
-#[derive(Drop)]
+#[derive(Clone, Copy)]
 pub struct Classes {
     pub library: usize,
     pub all: usize,
@@ -45,9 +47,9 @@ pub fn class_bytes<'a>(
     c: usize,
 ) -> &'a [u8]
     ghost g: { ℕ → Group }
-    requires user_value { group_of library.now user.now ≡ g }
+    requires groups { group_of library.now user.now ≡ g }
     requires indexed { Indexed library.now user.now classes.library classes.all starts.now }
-    requires c_lt_all { c < classes.all }
+    requires there { c < classes.all }
     ensures { Carries result.now (g c) }
 {
     let start = wide(starts[c]);
@@ -68,9 +70,9 @@ pub fn class_word<'a>(
     j: usize,
 ) -> u16
     ghost g: { ℕ → Group }
-    requires user_value { group_of library.now user.now ≡ g }
+    requires groups { group_of library.now user.now ≡ g }
     requires indexed { Indexed library.now user.now classes.library classes.all starts.now }
-    requires c_lt_all { (c < classes.all) × (j < 12) }
+    requires there { (c < classes.all) × (j < 12) }
     ensures { result ≡ u16 (classRecord (g c)) j }
 {
     word_in(class_bytes(library, user, starts, classes, c), j)

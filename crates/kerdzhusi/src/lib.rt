@@ -1,4 +1,6 @@
 // The C interface: the operations of `verifier` under C names, each answer as two numbers.
+#![tactic(auto)]
+
 ghost use Rattle.std.specs.Prelude.{◌≡◌, ◌≤◌};
 ghost use Rattle.spec.specs.Promises.{refused, Judges, Adds, Replaces, Withdraws, Marks, Places};
 ghost use Rattle.spec.specs.Verdicts.{flat};
@@ -9,7 +11,7 @@ use verifier::{Changed, Judged, Marked, Placed, Refusal};
 
 // Status 0 and a value, or the refusal's status and 0.
 #[repr(C)]
-#[derive(Drop)]
+#[derive(Clone, Copy)]
 pub struct Reply {
     pub status: u64,
     pub value: u64,
@@ -70,8 +72,8 @@ pub extern "C" fn kz_add<'a>(
     scratch: &mut [u8],
 ) -> Reply
     ensures { Replies plainValue (λ a. Adds flat library.now group.now
-        (record { user = user.entry.now; used = used.old; verdicts = verdicts.old })
-        scratch.old a (record { user = user.exit.now; used = used.new; verdicts = verdicts.new }) scratch.new) result }
+        (record { user = user.old; used = used.old; verdicts = verdicts.old })
+        scratch.old a (record { user = user.new; used = used.new; verdicts = verdicts.new }) scratch.new) result }
 {
     changed(verifier::add(library, user, used, group, verdicts, scratch))
 }
@@ -87,8 +89,8 @@ pub extern "C" fn kz_replace<'a>(
     scratch: &mut [u8],
 ) -> Reply
     ensures { Replies plainValue (λ a. Replaces flat library.now class group.now
-        (record { user = user.entry.now; used = used.old; verdicts = verdicts.old })
-        scratch.old a (record { user = user.exit.now; used = used.new; verdicts = verdicts.new }) scratch.new) result }
+        (record { user = user.old; used = used.old; verdicts = verdicts.old })
+        scratch.old a (record { user = user.new; used = used.new; verdicts = verdicts.new }) scratch.new) result }
 {
     changed(verifier::replace(library, user, used, class, group, verdicts, scratch))
 }
@@ -101,8 +103,8 @@ pub extern "C" fn kz_withdraw<'a>(
     verdicts: &mut [u8],
 ) -> Reply
     ensures { Replies plainValue (λ a. Withdraws flat library.now
-        (record { user = user.entry.now; used = used.old; verdicts = verdicts.old }) a
-        (record { user = user.exit.now; used = used.new; verdicts = verdicts.new })) result }
+        (record { user = user.old; used = used.old; verdicts = verdicts.old }) a
+        (record { user = user.new; used = used.new; verdicts = verdicts.new })) result }
 {
     changed(verifier::withdraw(library, user, used, verdicts))
 }

@@ -42,11 +42,11 @@ close-next {step} {outer} {n} {lanes} {g} f h l =
 
 module _ {step : ℕ → List ℕ} {outer : ℕ → ℕ} {n lanes : ℕ} {g s : List ℕ} (few : n ≤ 256) (f : CloseAt step outer n lanes g s 0) where
   -- Along a chain: t has an owner no higher than y, it fits m since y does, and m has taken it.
-  close-least : (k m y : ℕ) → k < lanes → m < n → Draws step outer n (entry_at g k) y m → entry_at s k m ≤ y
+  close-least : (k y m : ℕ) → k < lanes → m < n → Draws step outer n (entry_at g k) y m → entry_at s k m ≤ y
   unfolding Sound AllSettled SettledAt Settled
-  close-least k m y hk hm (own e z) = let d = f.down (k * 256 + m) in omega arith
-  close-least k m y hk hm (via {t = t} z e l d) =
-      let r = close-least k t y hk l d in
+  close-least k y m hk hm (own e z) = let d = f.down (k * 256 + m) in omega arith
+  close-least k y m hk hm (via {t = t} z e l d) =
+      let r = close-least k y t hk l d in
       let b = fits-owner (omega arith) z in
       let v : entry_at s k t < 255 = omega arith in
       let w = f.settled refl m hm k t hk e l v (fits-lower r (draws-fit (f.sound k t hk l v)) (draws-fit d) z) in
@@ -54,7 +54,7 @@ module _ {step : ℕ → List ℕ} {outer : ℕ → ℕ} {n lanes : ℕ} {g s : 
 
   close-done : Least step outer n lanes g s
   unfolding Sound
-  close-done = record { sound = f.sound; least = close-least; down = f.down; kept = f.kept }
+  close-done = record { sound = f.sound; least = λ k m y hk hm d. close-least k y m hk hm d; down = f.down; kept = f.kept }
 
 pub close-end : {step : ℕ → List ℕ} {outer : ℕ → ℕ} {n lanes : ℕ} {g s : List ℕ} {a : ℕ} → n ≤ 256 → CloseAt step outer n lanes g s a → a ≡ 0 → Least step outer n lanes g s
 close-end few f z = close-done few (rw z at f)

@@ -1,4 +1,6 @@
 // Rows of owners, 256 entries a lane, and how a class draws an owner from one other class. Dependents and captured variables are both found so.
+#![tactic(auto)]
+
 ghost use Rattle.std.specs.Prelude.{◌≡◌, ◌≤◌, ◌<◌, ◌++◌, length, get_or, drop, replicate};
 ghost use Rattle.lanes.specs.Lanes.{Room, either_of, fitsRow, drawn, drew, drawnLanes, drewLanes, lanes_of, sweptOf};
 
@@ -60,7 +62,7 @@ fn fits(marks: &[u8], y: usize) -> bool
 // Class m takes in lane k what t has there, if that is lower and fits m. Answers 0 where nothing changes, so that a search knows when to end.
 fn draw(marks: &[u8], n: usize, lanes: usize, k: usize, m: usize, t: usize, row: &mut [u8]) -> usize
     requires room { Room n lanes row.old }
-    requires in_bounds { (256 ≤ length marks.now) × (k < lanes) × (m < n) × (t < n) }
+    requires long { (256 ≤ length marks.now) × (k < lanes) × (m < n) × (t < n) }
     ensures row { row.new ≡ drawn marks.now m t k row.old }
     ensures answer { result ≡ drew marks.now m t k row.old }
 {
@@ -79,7 +81,7 @@ fn draw(marks: &[u8], n: usize, lanes: usize, k: usize, m: usize, t: usize, row:
 // The same in each lane. A record may name a class that is not there: nothing is drawn from it.
 pub fn draw_lanes(marks: &[u8], n: usize, lanes: usize, m: usize, t: usize, row: &mut [u8]) -> usize
     requires room { Room n lanes row.old }
-    requires in_bounds { (256 ≤ length marks.now) × (m < n) }
+    requires long { (256 ≤ length marks.now) × (m < n) }
     ensures row { row.new ≡ drawnLanes marks.now m t (lanes_of n lanes t) row.old }
     ensures answer { result ≡ drewLanes marks.now m t (lanes_of n lanes t) row.old }
 {

@@ -1,4 +1,6 @@
 // Lists the verdicts of `user.sheet` beside `library.sheet`, both in the current folder.
+#![tactic(auto)]
+
 ghost use Rattle.io.specs.Counts.{IsPrefixLen};
 
 use libc::STDOUT_FILENO;

@@ -1,4 +1,6 @@
 // The listing of two sheets as text in a lent buffer.
+#![tactic(auto)]
+
 ghost use Rattle.std.specs.Prelude.{◌≡◌, [], ◌++◌, ◌+◌, ◌*◌, ◌≤◌, ◌<◌, length, get_or};
 ghost use Rattle.std.proofs.Math.Option.{none};
 ghost use Rattle.spec.specs.Lists.{gather, span};
@@ -80,8 +82,8 @@ fn class_line(
     at: usize,
 ) -> usize
     requires user_sheet { UserSheet nlib sheet.now }
-    requires i_bound { (i < classCount sheet.now) × (start ≡ groupStart sheet.now i) }
-    requires i_in_bounds { (2 * i + 1 < length verdicts.now) × (at < 700000) }
+    requires group { (i < classCount sheet.now) × (start ≡ groupStart sheet.now i) }
+    requires line { (2 * i + 1 < length verdicts.now) × (at < 700000) }
     ensures { Written out.old at
         (line_of (nlib + i) (className (classRecord (get_or (groups_of sheet.now) i []))) (flat_at verdicts.now i))
         out.new result }
@@ -106,9 +108,9 @@ fn group_length(rest: &[u8]) -> usize
 
 // The lines of all user classes; `start` runs along from one group to the next, up to the sheet's end.
 fn class_lines(library: &[u8], sheet: &[u8], verdicts: &[u8], out: &mut [u8], at: usize) -> usize
-    requires sheet_value { presentRefusal library.now sheet.now (length sheet.now) ≡ none }
+    requires accepted { presentRefusal library.now sheet.now (length sheet.now) ≡ none }
     requires row_holds { RowHolds library.now sheet.now verdicts.now }
-    requires at_bound { at < 1000 }
+    requires room { at < 1000 }
     ensures { Written out.old at
         (gather (lineText library.now sheet.now) (span 0 (classCount sheet.now))) out.new result }
 {

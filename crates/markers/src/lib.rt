@@ -1,4 +1,6 @@
 // Sets of markers: the closure as a table, unions, intersections, and which sets clash.
+#![tactic(auto)]
+
 ghost use Rattle.std.specs.Prelude.{◌≡◌, ◌&&◌, ℕ, ◌/◌, ◌%◌, ◌<◌, eqb};
 ghost use Rattle.spec.specs.Record.{bit};
 ghost use Rattle.spec.specs.Markers.{closure as closureOf, union as unionOf, clash as clashOf};

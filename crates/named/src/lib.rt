@@ -1,4 +1,6 @@
 // The classes that a record names, read where it stands: 65535 is none. Along BUILDS alone, or along every record.
+#![tactic(auto)]
+
 ghost use Rattle.std.specs.Prelude.{◌≡◌, true, false, ◌+◌, ◌≤◌, ◌<◌, length};
 ghost use Rattle.spec.specs.Lists.{elem};
 ghost use Rattle.spec.specs.Record.{ty_at, references};
@@ -24,7 +26,7 @@ fn type_named(bytes: &[u8], i: usize) -> usize
 // The class that a BUILDS record builds.
 fn built(bytes: &[u8], at: usize) -> usize
     requires sized { Sized bytes.now at }
-    requires bytes_len_bound { length bytes.now ≤ 32768 }
+    requires short { length bytes.now ≤ 32768 }
     ensures { result ≡ firstNamed true (recordAt bytes.now at) }
 {
     if word_in(bytes, at + KIND_AT) == BUILDS {
@@ -36,7 +38,7 @@ fn built(bytes: &[u8], at: usize) -> usize
 // The first class that the record at `at` names, of whatever kind.
 pub fn any_named(bytes: &[u8], at: usize) -> usize
     requires sized { Sized bytes.now at }
-    requires bytes_len_bound { length bytes.now ≤ 32768 }
+    requires short { length bytes.now ≤ 32768 }
     ensures { result ≡ firstNamed false (recordAt bytes.now at) }
 {
     let kind = word_in(bytes, at + KIND_AT);
@@ -58,7 +60,7 @@ pub fn any_named(bytes: &[u8], at: usize) -> usize
 // The first class that the record at `at` names. Small, so that a search along BUILDS reads little.
 pub fn first_named(bytes: &[u8], at: usize, builds: bool) -> usize
     requires sized { Sized bytes.now at }
-    requires bytes_len_bound { length bytes.now ≤ 32768 }
+    requires short { length bytes.now ≤ 32768 }
     ensures { result ≡ firstNamed builds (recordAt bytes.now at) }
 {
     if builds {
@@ -70,7 +72,7 @@ pub fn first_named(bytes: &[u8], at: usize, builds: bool) -> usize
 // The second one.
 pub fn second_named(bytes: &[u8], at: usize, builds: bool) -> usize
     requires sized { Sized bytes.now at }
-    requires bytes_len_bound { length bytes.now ≤ 32768 }
+    requires short { length bytes.now ≤ 32768 }
     ensures { result ≡ secondNamed builds (recordAt bytes.now at) }
 {
     if builds {
@@ -85,7 +87,7 @@ pub fn second_named(bytes: &[u8], at: usize, builds: bool) -> usize
 // Whether the record names class t.
 pub fn names(bytes: &[u8], at: usize, t: usize) -> bool
     requires sized { Sized bytes.now at }
-    requires bytes_len_bound { (length bytes.now ≤ 32768) × (t < 65535) }
+    requires short { (length bytes.now ≤ 32768) × (t < 65535) }
     ensures { result ≡ elem t (references (recordAt bytes.now at)) }
 {
     if any_named(bytes, at) == t {

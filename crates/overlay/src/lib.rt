@@ -1,5 +1,7 @@
 // Overlay markers: a class asks its superclass and its interfaces, and each interface asks those it extends. A memo row keeps what is known.
 // Classes are asked in rising order, so that a class finds its supertypes there: each is computed once, and no call is deep.
+#![tactic(auto)]
+
 ghost use Rattle.std.specs.Prelude.{◌≡◌, ℕ, ◌+◌, ◌≤◌, ◌<◌, min, max, length, get_or, set};
 ghost use Rattle.spec.specs.Record.{ty_at};
 ghost use Rattle.spec.specs.Sheet.{Group, group as group_of};
@@ -34,7 +36,7 @@ fn lower<'a>(
 ) -> u8
     requires indexed { Indexed library.now user.now classes.library classes.all starts.now }
     requires falls { let g : ℕ → Group = group_of library.now user.now in Falls g }
-    requires c_lt_all { c < classes.all }
+    requires there { c < classes.all }
     requires knows { let g : ℕ → Group = group_of library.now user.now in Knows g c memo.old }
     ensures markers { let g : ℕ → Group = group_of library.now user.now in result ≡ lowerRaw g c i }
     ensures memo { memo.new ≡ memo.old }
@@ -57,7 +59,7 @@ fn gathered<'a>(
 ) -> u8
     requires indexed { Indexed library.now user.now classes.library classes.all starts.now }
     requires falls { let g : ℕ → Group = group_of library.now user.now in Falls g }
-    requires c_lt_all { c < classes.all }
+    requires there { c < classes.all }
     requires knows { let g : ℕ → Group = group_of library.now user.now in Knows g c memo.old }
     ensures markers { let g : ℕ → Group = group_of library.now user.now in result ≡ raw g c }
     ensures memo { let g : ℕ → Group = group_of library.now user.now in memo.new ≡ set memo.old c (raw g c) }
@@ -88,7 +90,7 @@ fn interfaces<'a>(
 ) -> u8
     requires indexed { Indexed library.now user.now classes.library classes.all starts.now }
     requires falls { let g : ℕ → Group = group_of library.now user.now in Falls g }
-    requires c_lt_all { c < classes.all }
+    requires there { c < classes.all }
     requires knows { let g : ℕ → Group = group_of library.now user.now in Knows g c memo.old }
     ensures markers { let g : ℕ → Group = group_of library.now user.now in result ≡ withInterfaces g c mine }
     ensures memo { memo.new ≡ memo.old }
@@ -118,10 +120,10 @@ pub fn overlay<'a>(
     memo: &mut [u16],
 ) -> u8
     ghost g: { ℕ → Group }
-    requires user_value { group_of library.now user.now ≡ g }
+    requires groups { group_of library.now user.now ≡ g }
     requires indexed { Indexed library.now user.now classes.library classes.all starts.now }
     requires falls { Falls g }
-    requires c_lt_all { c < classes.all }
+    requires there { c < classes.all }
     requires knows { Knows g c memo.old }
     ensures markers { result ≡ overlayOf g c }
     ensures memo { memo.new ≡ set memo.old c (raw g c) }
@@ -142,11 +144,11 @@ pub fn overlay_in_turn<'a>(
     memo: &mut [u16],
 ) -> u8
     ghost g: { ℕ → Group }
-    requires user_value { group_of library.now user.now ≡ g }
+    requires groups { group_of library.now user.now ≡ g }
     requires indexed { Indexed library.now user.now classes.library classes.all starts.now }
     requires falls { Falls g }
-    requires c_lt_all { c < classes.all }
-    requires memo_value { memo.old ≡ memoOf g classes.library }
+    requires there { c < classes.all }
+    requires memo { memo.old ≡ memoOf g classes.library }
     ensures markers { result ≡ overlayOf g c }
     ensures memo { memo.new ≡ memoOf g (max classes.library (c + 1)) }
 {
@@ -168,10 +170,10 @@ fn overlay_or_none<'a>(
     memo: &mut [u16],
 ) -> u8
     ghost g: { ℕ → Group }
-    requires user_value { group_of library.now user.now ≡ g }
+    requires groups { group_of library.now user.now ≡ g }
     requires indexed { Indexed library.now user.now classes.library classes.all starts.now }
     requires falls { Falls g }
-    requires memo_value { memo.old ≡ memoOf g (max classes.library (min c classes.all)) }
+    requires memo { memo.old ≡ memoOf g (max classes.library (min c classes.all)) }
     ensures markers { result ≡ overlayOf g c }
     ensures memo { memo.new ≡ memoOf g (max classes.library (min (c + 1) classes.all)) }
 {
@@ -191,11 +193,11 @@ pub fn overlays<'a>(
     row: &mut [u8],
 )
     ghost g: { ℕ → Group }
-    requires user_value { group_of library.now user.now ≡ g }
+    requires groups { group_of library.now user.now ≡ g }
     requires indexed { Indexed library.now user.now classes.library classes.all starts.now }
     requires falls { Falls g }
-    requires memo_value { memo.old ≡ memoOf g classes.library }
-    requires row_len { length row.old ≡ 256 }
+    requires memo { memo.old ≡ memoOf g classes.library }
+    requires row { length row.old ≡ 256 }
     ensures row { Known g row.new }
     ensures memo { memo.new ≡ memoOf g classes.all }
 {

@@ -1,5 +1,7 @@
 // The first pass over a sheet, or over whole groups of one: each record by itself and beside the one before it, refusals 2 to 7 and 16.
 // On the way it fills the row of the bytes where the groups begin.
+#![tactic(auto)]
+
 ghost use Rattle.std.specs.Prelude.{◌≡◌, true, ◌++◌, ◌+◌, ◌-◌, ◌≤◌, ◌<◌, length, take, drop};
 ghost use Rattle.spec.specs.Record.{u16, nameFits, tyFits, ty_at, classFlagsFit};
 ghost use Rattle.spec.specs.Sheet.{classCount};
@@ -13,7 +15,7 @@ use records::{
 };
 
 // The number of classes counted so far, or the refusal's number and byte.
-#[derive(Drop)]
+#[derive(Clone, Copy)]
 pub enum Pass {
     Fine(usize),
     Refused(u8, usize),
@@ -292,9 +294,9 @@ fn record_number(
     k: usize,
     before: u16,
 ) -> u8
-    requires sheet_bound { (sheet < 2) × (c ≤ 256) }
-    requires at_in_bounds { at + 4 ≤ length bytes.now }
-    requires len_value { (len ≡ u16 bytes.now at) × (kind ≡ u16 bytes.now (at + 2)) }
+    requires bounds { (sheet < 2) × (c ≤ 256) }
+    requires head { at + 4 ≤ length bytes.now }
+    requires numbers { (len ≡ u16 bytes.now at) × (kind ≡ u16 bytes.now (at + 2)) }
     ensures { result ≡ recordNumber sheet bytes.now at c k before }
 {
     let n = len as usize;
@@ -328,8 +330,8 @@ fn record_number(
 
 // The first pass of some bytes of a sheet (0 library, 1 user), where `base` classes stand before them and the first is byte `from` of the sheet.
 pub fn first_pass(bytes: &[u8], sheet: u8, base: usize, from: usize, starts: &mut [u16]) -> Pass
-    requires sheet_bound { (sheet < 2) × (from + length bytes.now ≤ 32768) }
-    requires base_bound { (base ≤ 256) × (256 ≤ length starts.old) }
+    requires part { (sheet < 2) × (from + length bytes.now ≤ 32768) }
+    requires bounds { (base ≤ 256) × (256 ≤ length starts.old) }
     ensures answer { result ≡ passOf (shifted from (passRefusal sheet base bytes.now)) (base + classCount bytes.now) }
     ensures starts { Filled (passRefusal sheet base bytes.now) base from bytes.now starts.old starts.new }
 {

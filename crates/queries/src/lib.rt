@@ -1,4 +1,6 @@
 // What is asked of one class: its overlay markers and its name.
+#![tactic(auto)]
+
 ghost use Rattle.std.specs.Prelude.{◌≡◌, length, take, replicate};
 ghost use Rattle.spec.specs.Refusals.{queryRefusal};
 ghost use Rattle.spec.specs.Promises.{Marks, Places, Names};
@@ -12,14 +14,14 @@ use overlay::overlay_in_turn;
 use records::{CLASS_LIMIT, NAME_AT, wide};
 
 // The overlay markers of a class, or the refusal.
-#[derive(Drop)]
+#[derive(Clone, Copy)]
 pub enum Marked {
     Fine(u8),
     Refused(Refusal),
 }
 
 // Where a name stands: sheet (0 library, 1 user), start and length; or the refusal.
-#[derive(Drop)]
+#[derive(Clone, Copy)]
 pub enum Placed {
     At(u8, usize, usize),
     Refused(Refusal),

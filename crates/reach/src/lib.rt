@@ -1,4 +1,6 @@
 // The search along what the records of both sheets name: each class draws the least owner that reaches it, until nothing changes.
+#![tactic(auto)]
+
 ghost use Rattle.std.specs.Prelude.{◌≡◌, [], ◌∷◌, ℕ, ◌≤◌, ◌<◌, length};
 ghost use Rattle.std.proofs.Math.Option.{none};
 ghost use Rattle.spec.specs.Sheet.{Group, group as group_of};
@@ -23,9 +25,9 @@ pub fn enclosers<'a>(
     marks: &mut [u8],
 )
     ghost g: { ℕ → Group }
-    requires user_value { group_of library.now user.now ≡ g }
+    requires groups { group_of library.now user.now ≡ g }
     requires indexed { Indexed library.now user.now classes.library classes.all starts.now }
-    requires m_lt_all { (m < classes.all) × (m ≤ length marks.old) }
+    requires there { (m < classes.all) × (m ≤ length marks.old) }
     ensures { marks.new
         ≡ markedUp (outerOf g) m m marks.old }
 {
@@ -50,7 +52,7 @@ fn scan(
 ) -> usize
     requires at_record { AtRecord bytes.now (length bytes.now) 0 }
     requires room { Room n lanes row.old }
-    requires marks_len { (length marks.now ≡ 256) × (m < n) }
+    requires marks { (length marks.now ≡ 256) × (m < n) }
     ensures { Scanned bytes.now marks.now builds n lanes m row.old row.new result }
 {
     let mut at = 0;
@@ -75,7 +77,7 @@ fn scan(
 // Whether class t has in some lane a lower owner than m. A class that is not there has none.
 fn has_lower(row: &[u8], n: usize, lanes: usize, m: usize, t: usize) -> bool
     requires room { Room n lanes row.now }
-    requires m_lt_n { m < n }
+    requires there { m < n }
     ensures { Content row.now n lanes m (t ∷ []) result }
 {
     if n <= t {
@@ -95,7 +97,7 @@ fn has_lower(row: &[u8], n: usize, lanes: usize, m: usize, t: usize) -> bool
 fn wants(bytes: &[u8], n: usize, builds: bool, lanes: usize, m: usize, row: &[u8]) -> bool
     requires at_record { AtRecord bytes.now (length bytes.now) 0 }
     requires room { Room n lanes row.now }
-    requires m_lt_n { m < n }
+    requires there { m < n }
     ensures { Content row.now n lanes m (named_in builds (between bytes.now 0 (length bytes.now))) result }
 {
     let mut at = 0;
@@ -124,10 +126,10 @@ fn visit<'a>(
     row: &mut [u8],
 ) -> usize
     ghost g: { ℕ → Group }
-    requires user_value { group_of library.now user.now ≡ g }
+    requires groups { group_of library.now user.now ≡ g }
     requires indexed { Indexed library.now user.now classes.library classes.all starts.now }
     requires room { Room classes.all lanes row.old }
-    requires m_lt_all { m < classes.all }
+    requires there { m < classes.all }
     ensures { Run (steps_of g builds) (outerOf g) classes.all lanes
         (SettledAt (steps_of g builds) (outerOf g) classes.all lanes m) row.old row.new result }
 {
@@ -167,7 +169,7 @@ fn sweep<'a>(
     row: &mut [u8],
 ) -> usize
     ghost g: { ℕ → Group }
-    requires user_value { group_of library.now user.now ≡ g }
+    requires groups { group_of library.now user.now ≡ g }
     requires indexed { Indexed library.now user.now classes.library classes.all starts.now }
     requires room { Room classes.all lanes row.old }
     ensures { Run (steps_of g builds) (outerOf g) classes.all lanes
@@ -195,7 +197,7 @@ pub fn close<'a>(
     row: &mut [u8],
 )
     ghost g: { ℕ → Group }
-    requires user_value { group_of library.now user.now ≡ g }
+    requires groups { group_of library.now user.now ≡ g }
     requires indexed { Indexed library.now user.now classes.library classes.all starts.now }
     requires room { Room classes.all lanes row.old }
     requires seeds_fit { SeedsFit (outerOf g) classes.all lanes row.old }
@@ -219,10 +221,10 @@ pub fn dependents<'a>(
     row: &mut [u8],
 )
     ghost g: { ℕ → Group }
-    requires user_value { group_of library.now user.now ≡ g }
+    requires groups { group_of library.now user.now ≡ g }
     requires indexed { Indexed library.now user.now classes.library classes.all starts.now }
-    requires user_value_2 { formRefusal library.now user.now ≡ none }
-    requires d_lt_all { (d < classes.all) × (256 ≤ length row.old) }
+    requires accepted { formRefusal library.now user.now ≡ none }
+    requires there { (d < classes.all) × (256 ≤ length row.old) }
     ensures { row.new ≡ dependentRow library.now user.now d row.old }
 {
     fill(row, CLASS_LIMIT, EMPTY);

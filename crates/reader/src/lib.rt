@@ -1,18 +1,20 @@
 // A reader over one sheet: it holds the lent bytes and its own position.
+#![tactic(auto)]
+
 ghost use Rattle.std.specs.Prelude.{◌≡◌};
 ghost use Rattle.reader.specs.Reading.{foundAt, after_at, movesAt, nthAt};
 
 use records::whole_length;
 
 // Document 01's walker.
-#[derive(Drop)]
+#[derive(Clone, Copy)]
 pub struct Reader<'a> {
     pub bytes: &'a [u8],
     pub at: usize,
 }
 
 // What stands at a position: a whole record, with its first byte and its length; bytes that are none; the end.
-#[derive(Drop)]
+#[derive(Clone, Copy)]
 pub enum Found {
     Record { start: usize, len: usize },
     Broken { start: usize },

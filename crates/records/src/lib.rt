@@ -1,4 +1,6 @@
 // The records of a class: numbers in them, and walks over them. All later crates read a class's bytes as a plain slice.
+#![tactic(auto)]
+
 ghost use Rattle.std.specs.Prelude.{◌≡◌, ◌+◌, ◌-◌, ◌≤◌, ◌<◌, length};
 ghost use Rattle.spec.specs.Record.{u16};
 ghost use Rattle.spec.specs.Sheet.{ofKind};

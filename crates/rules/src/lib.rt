@@ -1,4 +1,6 @@
 // The verdict of one class: the first broken rule and the lowest record that breaks it.
+#![tactic(auto)]
+
 ghost use Rattle.std.specs.Prelude.{◌≡◌, ℕ, ◌≤◌, ◌<◌, length};
 ghost use Rattle.std.proofs.Math.Option.{none};
 ghost use Rattle.spec.specs.Lists.{concat};
@@ -23,7 +25,7 @@ use slots::rule_set;
 pub const KEPT: usize = 4 * CLASS_LIMIT;
 
 // Rule and record; 0 and 0 is clean.
-#[derive(Drop)]
+#[derive(Clone, Copy)]
 pub struct Verdict {
     pub rule: u8,
     pub record: u8,
@@ -40,10 +42,10 @@ fn first_class<'a>(
     c: usize,
 ) -> usize
     ghost g: { ℕ → Group }
-    requires user_value { group_of library.now user.now ≡ g }
+    requires groups { group_of library.now user.now ≡ g }
     requires indexed { Indexed library.now user.now classes.library classes.all starts.now }
     requires known { Known g markers.now }
-    requires c_lt_all { c < classes.all }
+    requires there { c < classes.all }
     ensures { result ≡ firstClass classes.library g classes.all rule c }
 {
     if rule < 7 {
@@ -110,10 +112,10 @@ fn keep<'a>(
     kept: &mut [u8],
 )
     ghost g: { ℕ → Group }
-    requires user_value { group_of library.now user.now ≡ g }
+    requires groups { group_of library.now user.now ≡ g }
     requires indexed { Indexed library.now user.now classes.library classes.all starts.now }
-    requires user_value_2 { formRefusal library.now user.now ≡ none }
-    requires le_rule { (7 ≤ rule) × (rule ≤ 10) × (c < classes.all) }
+    requires accepted { formRefusal library.now user.now ≡ none }
+    requires rule { (7 ≤ rule) × (rule ≤ 10) × (c < classes.all) }
     requires empty { Empty classes.library g rule c }
     requires kept { Kept classes.library classes.all g kept.old }
     ensures { Kept classes.library classes.all g kept.new }
@@ -174,10 +176,10 @@ pub fn verdict_of<'a>(
     kept: &mut [u8],
 ) -> Verdict
     ghost g: { ℕ → Group }
-    requires user_value { group_of library.now user.now ≡ g }
+    requires groups { group_of library.now user.now ≡ g }
     requires judging { Judging library.now user.now starts.now classes facts.now lanes.now }
-    requires library_le_c { (classes.library ≤ c) × (c < classes.all) }
-    requires kept_2 { Kept classes.library classes.all g kept.old }
+    requires user_class { (classes.library ≤ c) × (c < classes.all) }
+    requires kept { Kept classes.library classes.all g kept.old }
     ensures verdict { line_of result ≡ verdictOf classes.library g c }
     ensures kept { Kept classes.library classes.all g kept.new }
 {

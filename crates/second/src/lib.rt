@@ -1,4 +1,6 @@
 // The second pass over both sheets, class by class: each record by what it names. Refusals 9, 8 and 10.
+#![tactic(auto)]
+
 mod naming;
 mod numbers;
 
@@ -36,9 +38,9 @@ fn head_of<'a>(
     c: usize,
 ) -> u16
     ghost g: { ℕ → Group }
-    requires cut_value { group_of library.now (spliced user.now group.now view.cut) ≡ g }
+    requires groups { group_of library.now (spliced user.now group.now view.cut) ≡ g }
     requires views { Views view library.now user.now group.now starts.now }
-    requires c_lt_all { c < view.classes.all }
+    requires there { c < view.classes.all }
     ensures { result ≡ headOf view.classes.library g c }
 {
     let classes = view.classes;
@@ -57,9 +59,9 @@ pub fn heads<'a>(
     row: &mut [u16],
 )
     ghost g: { ℕ → Group }
-    requires cut_value { group_of library.now (spliced user.now group.now view.cut) ≡ g }
+    requires groups { group_of library.now (spliced user.now group.now view.cut) ≡ g }
     requires views { Views view library.now user.now group.now starts.now }
-    requires all_in_bounds { view.classes.all ≤ length row.old }
+    requires long { view.classes.all ≤ length row.old }
     ensures first { Heads g view.classes row.new }
     ensures rest { drop view.classes.all row.new ≡ drop view.classes.all row.old }
 {
@@ -83,9 +85,9 @@ fn mark_enclosers<'a>(
     row: &mut [u8],
 )
     ghost g: { ℕ → Group }
-    requires cut_value { group_of library.now (spliced user.now group.now view.cut) ≡ g }
+    requires groups { group_of library.now (spliced user.now group.now view.cut) ≡ g }
     requires views { Views view library.now user.now group.now starts.now }
-    requires c_lt_all { (c < view.classes.all) × (row.old ≡ replicate 256 0) }
+    requires there { (c < view.classes.all) × (row.old ≡ replicate 256 0) }
     ensures { Enclosing g view.classes.all c row.new }
 {
     let classes = view.classes;
@@ -116,10 +118,10 @@ fn others_pass<'a>(
     bytes: &[u8],
 ) -> Pass
     ghost g: { ℕ → Group }
-    requires cut_value { group_of library.now (spliced user.now group.now view.cut) ≡ g }
+    requires groups { group_of library.now (spliced user.now group.now view.cut) ≡ g }
     requires views { Views view library.now user.now group.now starts.now }
     requires heads { Heads g view.classes heads.now }
-    requires c_lt_all { c < view.classes.all }
+    requires there { c < view.classes.all }
     requires carries { Carries bytes.now (g c) }
     ensures { result ≡ form_of g view.classes.library view.classes.all c
         (start_of library.now (spliced user.now group.now view.cut) c + u16 bytes.now 0)
@@ -151,11 +153,11 @@ fn class_pass<'a>(
     c: usize,
 ) -> Pass
     ghost g: { ℕ → Group }
-    requires cut_value { group_of library.now (spliced user.now group.now view.cut) ≡ g }
+    requires groups { group_of library.now (spliced user.now group.now view.cut) ≡ g }
     requires views { Views view library.now user.now group.now starts.now }
     requires printed { Printed g view.classes.all prints.now }
     requires heads { Heads g view.classes heads.now }
-    requires c_lt_all { c < view.classes.all }
+    requires there { c < view.classes.all }
     ensures { result ≡ form_of g view.classes.library view.classes.all c
         (start_of library.now (spliced user.now group.now view.cut) c) (g c) }
 {
@@ -203,11 +205,11 @@ pub fn second_pass<'a>(
     sheet: u8,
 ) -> Pass
     ghost g: { ℕ → Group }
-    requires cut_value { group_of library.now (spliced user.now group.now view.cut) ≡ g }
+    requires groups { group_of library.now (spliced user.now group.now view.cut) ≡ g }
     requires views { Views view library.now user.now group.now starts.now }
     requires printed { Printed g view.classes.all prints.now }
     requires heads { Heads g view.classes heads.now }
-    requires sheet_bound { sheet < 2 }
+    requires bounds { sheet < 2 }
     ensures { result ≡ passOf (formIn g view.classes.library view.classes.all sheet (classesStart view.classes.library sheet)
         (sheetOf library.now (spliced user.now group.now view.cut) sheet))
         (classesStart view.classes.library sheet

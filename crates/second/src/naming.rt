@@ -15,7 +15,7 @@ use view::{View, view_bytes};
 // Whether the CLASS records that come first in the bytes of two classes have one name.
 fn same_name(a: &[u8], b: &[u8]) -> bool
     requires opens { Opens a.now }
-    requires opens_2 { Opens b.now }
+    requires other_opens { Opens b.now }
     ensures { result ≡ same_list (className (recordAt a.now 0)) (className (recordAt b.now 0)) }
 {
     let len = wide(word_in(b, 0));
@@ -43,9 +43,9 @@ fn named_as<'a>(
     d: usize,
 ) -> bool
     ghost g: { ℕ → Group }
-    requires cut_value { group_of library.now (spliced user.now group.now view.cut) ≡ g }
+    requires groups { group_of library.now (spliced user.now group.now view.cut) ≡ g }
     requires views { Views view library.now user.now group.now starts.now }
-    requires d_lt_all { d < view.classes.all }
+    requires there { d < view.classes.all }
     requires opens { Opens bytes.now }
     ensures { result ≡ same_list (className (classRecord (g d))) (className (recordAt bytes.now 0)) }
 {
@@ -64,10 +64,10 @@ pub fn name_met<'a>(
     bytes: &[u8],
 ) -> bool
     ghost g: { ℕ → Group }
-    requires cut_value { group_of library.now (spliced user.now group.now view.cut) ≡ g }
+    requires groups { group_of library.now (spliced user.now group.now view.cut) ≡ g }
     requires views { Views view library.now user.now group.now starts.now }
     requires printed { Printed g view.classes.all prints.now }
-    requires c_lt_all { c < view.classes.all }
+    requires there { c < view.classes.all }
     requires carries { Carries bytes.now (g c) }
     ensures { result ≡ nameMet g c (classRecord (g c)) }
 {

@@ -88,7 +88,7 @@ fn encloser_breaks(nlib: usize, c: usize, flags: u16, outer: usize) -> bool
 
 // The number that refuses the CLASS record of class c, which comes first in its bytes, by all but its name; or 0.
 pub fn class_number(heads: &[u16], classes: Classes, c: usize, bytes: &[u8]) -> u8
-    requires all_in_bounds { (classes.all ≤ length heads.now) × (c < classes.all) }
+    requires long { (classes.all ≤ length heads.now) × (c < classes.all) }
     requires opens { Opens bytes.now }
     ensures { (g : ℕ → Group) → Heads g classes heads.now
         → result ≡ classNumber g classes.library classes.all c (recordAt bytes.now 0) 0 }
@@ -211,8 +211,8 @@ pub fn other_number(
     bytes: &[u8],
     at: usize,
 ) -> u8
-    requires all_in_bounds { (classes.all ≤ length heads.now) × (classes.all ≤ length marks.now) }
-    requires c_lt_all { c < classes.all }
+    requires long { (classes.all ≤ length heads.now) × (classes.all ≤ length marks.now) }
+    requires there { c < classes.all }
     requires sized { Sized bytes.now at × (u16 bytes.now (at + 2) ≡ 1 → ⊥) }
     ensures { (g : ℕ → Group) → Heads g classes heads.now → Enclosing g classes.all c marks.now
         → result ≡ formNumber g classes.library classes.all c (recordAt bytes.now at) }

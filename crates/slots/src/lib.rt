@@ -1,5 +1,7 @@
 // Slots against rules 7 to 10: for a slot the set of the markers whose rules it passes, 1 Immutable, 2 Powerless, 4 Selfless, 128 DeepSelfless.
 // A class's bytes are read as a plain slice; markers and captured variables stand in their rows.
+#![tactic(auto)]
+
 ghost use Rattle.std.specs.Prelude.{◌≡◌, true, false, ◌+◌, ◌^◌, ◌≤◌, ◌<◌, length};
 ghost use Rattle.spec.specs.Record.{u16};
 ghost use Rattle.records.specs.Records.{Sized, recordAt, between, AtRecord};
@@ -57,7 +59,7 @@ fn slot_set(flags: u16, m: u8) -> u8
 // Those that the FIELD record at `at` passes; a static field has no slot.
 pub fn field_set(bytes: &[u8], at: usize, markers: &[u8]) -> u8
     requires sized { Sized bytes.now at }
-    requires bytes_len_bound { (length bytes.now ≤ 32768) × (u16 bytes.now (at + 2) ≡ 3) }
+    requires short { (length bytes.now ≤ 32768) × (u16 bytes.now (at + 2) ≡ 3) }
     ensures { FieldSet markers.now (recordAt bytes.now at) result }
 {
     let flags = word_in(bytes, at + FLAGS_AT);

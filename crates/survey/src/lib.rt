@@ -1,4 +1,6 @@
 // Whether a class is clean, in one look at each record: a clean class needs no walk over the rules.
+#![tactic(auto)]
+
 ghost use Rattle.std.specs.Prelude.{◌≡◌, true, false, not, ◌&&◌, ℕ, ◌+◌, ◌/◌, ◌%◌, ◌≤◌, ◌<◌, eqb, length};
 ghost use Rattle.spec.specs.Lists.{any};
 ghost use Rattle.spec.specs.Record.{u16, bit};
@@ -33,9 +35,9 @@ fn class_set<'a>(
     t: usize,
 ) -> u8
     ghost g: { ℕ → Group }
-    requires user_value { group_of library.now user.now ≡ g }
+    requires groups { group_of library.now user.now ≡ g }
     requires judging { Judging library.now user.now starts.now classes facts.now lanes.now }
-    requires t_lt_all { (t < classes.all) × Passing classes.library t g (setsIn facts.now) }
+    requires there { (t < classes.all) × Passing classes.library t g (setsIn facts.now) }
     ensures { ClassSet classes.library g t result }
 {
     let bytes = class_bytes(library, user, starts, classes, t);
@@ -63,7 +65,7 @@ pub fn passes<'a>(
     lanes: &[u8],
 )
     ghost g: { ℕ → Group }
-    requires user_value { group_of library.now user.now ≡ g }
+    requires groups { group_of library.now user.now ≡ g }
     requires judging { Judging library.now user.now starts.now classes facts.old lanes.now }
     ensures sets { Passing classes.library classes.all g (setsIn facts.new) }
     ensures rest { KeepsFacts classes.all facts.old facts.new }
@@ -127,7 +129,7 @@ fn records_fine<'a>(
     bytes: &[u8],
 ) -> bool
     ghost g: { ℕ → Group }
-    requires user_value { group_of library.now user.now ≡ g }
+    requires groups { group_of library.now user.now ≡ g }
     requires indexed { Indexed library.now user.now classes.library classes.all starts.now }
     requires known { Known g markers.now }
     requires at_record { AtRecord bytes.now (length bytes.now) 0 }
@@ -177,9 +179,9 @@ pub fn clean<'a>(
     c: usize,
 ) -> bool
     ghost g: { ℕ → Group }
-    requires user_value { group_of library.now user.now ≡ g }
+    requires groups { group_of library.now user.now ≡ g }
     requires surveyed { Surveyed library.now user.now starts.now classes facts.now }
-    requires library_le_c { (classes.library ≤ c) × (c < classes.all) }
+    requires user_class { (classes.library ≤ c) × (c < classes.all) }
     ensures { result ≡ isClean (verdictOf classes.library g c) }
 {
     let bytes = class_bytes(library, user, starts, classes, c);

@@ -1,5 +1,7 @@
 // Text put into a lent buffer. Each function writes from `at` on and answers the place after what it wrote, also where the buffer ends before it: nothing
 // is written there.
+#![tactic(auto)]
+
 ghost use Rattle.std.specs.Prelude.{◌≡◌, ◌+◌, ◌-◌, ◌≤◌, ◌<◌, length, set, take, drop};
 ghost use Rattle.text.specs.Text.{decimal, put_all};
 

@@ -1,5 +1,7 @@
 // The verdict row as a slice of structs: the report over it, and a flat row's lines written into it. The functions that
 // hold the slice are walked by hand; the others are covered.
+#![tactic(auto)]
+
 ghost use Rattle.std.specs.Prelude.{◌≡◌, ◌<◌, ◌+◌, ◌/◌, ◌^◌, min, length};
 ghost use Rattle.spec.specs.Verdicts.{verdictBytes, flatLines, flat_at};
 ghost use Rattle.verdicts.specs.Row.{line_of, tallied, faultedIn, shared, written, flatFaulted};
@@ -7,7 +9,7 @@ ghost use Rattle.verdicts.specs.Row.{line_of, tallied, faultedIn, shared, writte
 use records::{CLASS_LIMIT, VERDICT_BYTES};
 
 // Document 01's line.
-#[derive(Drop)]
+#[derive(Clone, Copy)]
 pub struct Verdict {
     pub rule: u8,
     pub record: u8,

@@ -1,4 +1,6 @@
 // The operations over flat rows of numbers: the public interface.
+#![tactic(auto)]
+
 ghost use Rattle.std.specs.Prelude.{◌≡◌, ◌<◌, length, take, replicate};
 ghost use Rattle.std.proofs.Math.Option.{none};
 ghost use Rattle.spec.specs.Sheet.{classCount, total};
@@ -25,7 +27,7 @@ use view::{Cut, view_len};
 pub use withdraw::withdraw;
 
 // How many user classes there are and how many are faulted, or the refusal.
-#[derive(Drop)]
+#[derive(Clone, Copy)]
 pub enum Judged {
     Fine(usize, usize),
     Refused(Refusal),
@@ -75,8 +77,8 @@ fn touch<'a>(
     marks: &mut [u8],
 )
     requires indexed { Indexed library.now user.now classes.library classes.all starts.now }
-    requires user_value { formRefusal library.now user.now ≡ none }
-    requires class_lt_all { (class < classes.all) × (marks.old ≡ replicate 256 255) }
+    requires accepted { formRefusal library.now user.now ≡ none }
+    requires there { (class < classes.all) × (marks.old ≡ replicate 256 255) }
     ensures { Touched library.now user.now cut class marks.new }
 {
     if cut.from == cut.used {
@@ -100,10 +102,10 @@ fn change<'a>(
 ) -> Changed
     requires { Puts library.now user.old used.old group.now cut class }
     ensures { Makes flat
-        (putting library.now (record { user = user.entry.now; used = used.old; verdicts = verdicts.old })
+        (putting library.now (record { user = user.old; used = used.old; verdicts = verdicts.old })
         group.now cut class (length scratch.old))
-        (record { user = user.entry.now; used = used.old; verdicts = verdicts.old }) scratch.old (changedAnswer result)
-        (record { user = user.exit.now; used = used.new; verdicts = verdicts.new }) scratch.new }
+        (record { user = user.old; used = used.old; verdicts = verdicts.old }) scratch.old (changedAnswer result)
+        (record { user = user.new; used = used.new; verdicts = verdicts.new }) scratch.new }
 {
     let mut starts = [0u16; CLASS_LIMIT];
     let mut memo = [UNASKED; CLASS_LIMIT];
@@ -155,8 +157,8 @@ pub fn add<'a>(
     scratch: &mut [u8],
 ) -> Changed
     ensures { Adds flat library.now group.now
-        (record { user = user.entry.now; used = used.old; verdicts = verdicts.old }) scratch.old (changedAnswer result)
-        (record { user = user.exit.now; used = used.new; verdicts = verdicts.new }) scratch.new }
+        (record { user = user.old; used = used.old; verdicts = verdicts.old }) scratch.old (changedAnswer result)
+        (record { user = user.new; used = used.new; verdicts = verdicts.new }) scratch.new }
 {
     let size = *used;
     let checked = accepted(library, user, size);
@@ -179,7 +181,7 @@ pub fn add<'a>(
 }
 
 // Where the group of a user class stands in the present sheets, as the cut that takes it out; or the refusal.
-#[derive(Drop)]
+#[derive(Clone, Copy)]
 enum Found {
     At(Cut),
     Refused(Refusal),
@@ -220,8 +222,8 @@ pub fn replace<'a>(
     scratch: &mut [u8],
 ) -> Changed
     ensures { Replaces flat library.now class group.now
-        (record { user = user.entry.now; used = used.old; verdicts = verdicts.old }) scratch.old (changedAnswer result)
-        (record { user = user.exit.now; used = used.new; verdicts = verdicts.new }) scratch.new }
+        (record { user = user.old; used = used.old; verdicts = verdicts.old }) scratch.old (changedAnswer result)
+        (record { user = user.new; used = used.new; verdicts = verdicts.new }) scratch.new }
 {
     let size = *used;
     let found = cut_of(library, user, size, class);

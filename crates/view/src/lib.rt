@@ -1,5 +1,7 @@
 // A user sheet that need not be written yet: the user buffer with the bytes from `from` to `to` taken out and a group put there, up to the used length.
 // Everything above speaks of the list of bytes that it stands for, `spliced`. No buffer is copied.
+#![tactic(auto)]
+
 ghost use Rattle.std.specs.Prelude.{◌≡◌, ℕ, ◌<◌, length};
 ghost use Rattle.spec.specs.Record.{u16};
 ghost use Rattle.spec.specs.Sheet.{Group, group as group_of, classRecord};
@@ -10,7 +12,7 @@ use groups::{Classes, group_end};
 use records::{wide, word_in};
 
 // Where the buffer is cut.
-#[derive(Drop)]
+#[derive(Clone, Copy)]
 pub struct Cut {
     pub from: usize,
     pub to: usize,
@@ -18,7 +20,7 @@ pub struct Cut {
 }
 
 // The cut, and the classes of the library and the spliced sheet.
-#[derive(Drop)]
+#[derive(Clone, Copy)]
 pub struct View {
     pub cut: Cut,
     pub classes: Classes,
@@ -42,9 +44,9 @@ pub fn view_bytes<'a>(
     c: usize,
 ) -> &'a [u8]
     ghost g: { ℕ → Group }
-    requires cut_value { group_of library.now (spliced user.now group.now view.cut) ≡ g }
+    requires groups { group_of library.now (spliced user.now group.now view.cut) ≡ g }
     requires views { Views view library.now user.now group.now starts.now }
-    requires c_lt_all { c < view.classes.all }
+    requires there { c < view.classes.all }
     ensures { Carries result.now (g c) }
 {
     let cut = view.cut;
@@ -85,9 +87,9 @@ pub fn view_word<'a>(
     j: usize,
 ) -> u16
     ghost g: { ℕ → Group }
-    requires cut_value { group_of library.now (spliced user.now group.now view.cut) ≡ g }
+    requires groups { group_of library.now (spliced user.now group.now view.cut) ≡ g }
     requires views { Views view library.now user.now group.now starts.now }
-    requires c_lt_all { (c < view.classes.all) × (j < 12) }
+    requires there { (c < view.classes.all) × (j < 12) }
     ensures { result ≡ u16 (classRecord (g c)) j }
 {
     word_in(view_bytes(library, user, group, starts, view, c), j)

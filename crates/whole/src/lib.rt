@@ -1,4 +1,6 @@
 // Whether the bytes of a group are whole records with one CLASS, its first.
+#![tactic(auto)]
+
 ghost use Rattle.std.specs.Prelude.{◌≡◌, ◌+◌, ◌<◌};
 ghost use Rattle.spec.specs.Refusals.{wholeGroup};
 

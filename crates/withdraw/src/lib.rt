@@ -1,4 +1,6 @@
 // Taking the last user class back out (document 02, C-12). No other class names it, so no other verdict changes.
+#![tactic(auto)]
+
 ghost use Rattle.std.specs.Prelude.{◌≡◌, ℕ, ◌≤◌, ◌<◌, length, take, replicate};
 ghost use Rattle.spec.specs.Lists.{any, elem, span};
 ghost use Rattle.spec.specs.Sheet.{Group, group as group_of, groupReferences};
@@ -19,7 +21,7 @@ use records::{CLASS_LIMIT, VERDICT_BYTES, wide, word_in};
 // Whether a class, whose bytes these are, names class t.
 fn class_names(bytes: &[u8], t: usize) -> bool
     requires at_record { AtRecord bytes.now (length bytes.now) 0 }
-    requires t_bound { t < 65535 }
+    requires number { t < 65535 }
     ensures { result ≡ elem t (groupReferences (between bytes.now 0 (length bytes.now))) }
 {
     let mut at = 0;
@@ -41,9 +43,9 @@ fn last_named<'a>(
     last: usize,
 ) -> bool
     ghost g: { ℕ → Group }
-    requires user_value { group_of library.now user.now ≡ g }
+    requires groups { group_of library.now user.now ≡ g }
     requires indexed { Indexed library.now user.now classes.library classes.all starts.now }
-    requires last_lt_all { last < classes.all }
+    requires there { last < classes.all }
     ensures { result ≡ any (λ c. elem last (groupReferences (g c))) (span 0 last) }
 {
     let mut c = 0;
@@ -95,8 +97,8 @@ pub fn withdraw<'a>(
     verdicts: &mut [u8],
 ) -> Changed
     ensures { Withdraws flat library.now
-        (record { user = user.entry.now; used = used.old; verdicts = verdicts.old }) (changedAnswer result)
-        (record { user = user.exit.now; used = used.new; verdicts = verdicts.new }) }
+        (record { user = user.old; used = used.old; verdicts = verdicts.old }) (changedAnswer result)
+        (record { user = user.new; used = used.new; verdicts = verdicts.new }) }
 {
     let mut starts = [0u16; CLASS_LIMIT];
     let mut memo = [UNASKED; CLASS_LIMIT];

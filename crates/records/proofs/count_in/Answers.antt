@@ -1,0 +1,29 @@
+use Rattle.std.proofs.Common.{◌+◌, ◌≤◌, refl, ◌∙◌, true, false, length, arith, eq-eqb}
+use borrow.Author.Tests.{ne_eqb}
+use Rattle.records.proofs.Between.{tiled-step, tiled-room, oneIf, counted_start, counted_step, counted-end}
+use Rattle.records.proofs.count_in.Goals as goal
+use Rattle.records.proofs.count_in.Goals.{then-word_in-kind, else-word_in-kind}
+
+pub loop-at-init : goal.loop-at-init
+loop-at-init c = counted_start _ c.requires.tiled refl c.requires.small
+
+pub word_in-requires : goal.word_in-requires
+word_in-requires c = omega (arith, tiled-room c.loop-at.invariant.tiled c.loop-at-test.true)
+
+pub word_in-requires-in-loop-at : goal.word_in-requires-in-loop-at
+word_in-requires-in-loop-at c = omega (arith, tiled-room c.loop-at.invariant.tiled c.loop-at-test.true)
+
+pub loop-at-smaller : goal.loop-at-smaller
+loop-at-smaller c = omega (arith, (tiled-step c.loop-at.invariant.tiled c.loop-at-test.true).0)
+
+pub loop-at-preserved : goal.loop-at-preserved
+unfolding oneIf
+loop-at-preserved c =
+    let next = counted_step c.loop-at.invariant c.loop-at-test.true (c.wide-at.ensures.0 ∙ c.word_in-in-loop-at.ensures) c.word_in.ensures in
+    elim c.if-word_in-kind.branch [
+      | then-word_in-kind w ↦ next true (eq-eqb _ _ w.if-word_in-kind.true) w.m-is
+      | else-word_in-kind w ↦ next false (ne_eqb _ _ w.if-word_in-kind.false) (omega arith)
+    ]
+
+pub returns : goal.returns
+returns c = counted-end c.loop-at.invariant c.loop-at-test.false
