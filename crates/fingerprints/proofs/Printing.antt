@@ -47,9 +47,6 @@ module _ {bytes : List ℕ} {len print j : ℕ} (w : Printing bytes len print j)
   length-is : length (recordAt bytes 0) ≡ len
   length-is = first-length w.opens ∙ sym w.long
 
-  pub prints-room : j < len → j < length bytes
-  prints-room h = omega (arith, w.long, w.opens.within)
-
   pub prints-on : j < len → {p : ℕ} → p ≡ printWith print (get_or bytes j 0) → Printing bytes len p (j + 1)
   unfolding printFrom
   prints-on h ep =

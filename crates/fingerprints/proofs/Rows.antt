@@ -1,10 +1,9 @@
 -- The row of fingerprints: filled class by class, and searched for one.
 -- Assumes nothing.
 use mathlib.Core.Path.{◌≡◌, sym}
-use mathlib.Core.Bool.{Bool, true, false, ◌||◌, or-true, or-false}
+use mathlib.Core.Bool.{Bool, true, ◌||◌, or-true}
 use mathlib.Core.List.{List}
 use Prim.Native.Nat.{ℕ, suc, ◌+◌, ◌-◌, ◌≤◌, ◌<◌}
-use native.Mathlib.Nat.{sub-zero}
 use native.Mathlib.Numerals.{add-one}
 use native.Mathlib.Omega.{arith}
 use lib.Dec.{eqb}
@@ -14,16 +13,12 @@ use borrow.Author.Tests.{eq-eqb, ne_eqb}
 use Rattle.spec.specs.Lists.{any, elem}
 use Rattle.spec.specs.Record.{className}
 use Rattle.spec.specs.Sheet.{Group, classRecord}
-use Rattle.laws.proofs.Rows.{Filling}
-use Rattle.fingerprints.specs.Fingerprints.{printOf, Printed}
+use Rattle.fingerprints.specs.Fingerprints.{printOf}
 
 -- ---- filled
 
 abbrev pub printAt : (ℕ → Group) → ℕ → ℕ
 printAt g d = printOf (className (classRecord (g d)))
-
-pub fill_end : {g : ℕ → Group} {n : ℕ} {before row : List ℕ} {c : ℕ} → Filling (printAt g) n before row c → n ≤ c → n ≤ length before → Printed g n row
-fill_end w h room = record { long = omega (arith, w.long); prints = λ d k. w.new d (omega arith) }
 
 -- ---- searched
 
@@ -32,9 +27,6 @@ pub record Meeting (row : List ℕ) (c print : ℕ) (found : Bool) (i : ℕ) : T
   pub within : i ≤ c
   pub long : c ≤ length row
   pub rest : (elem print (take (c - i) (drop i row)) || found) ≡ elem print (take c row)
-
-pub meet-start : {row : List ℕ} {c : ℕ} (print : ℕ) → c ≤ length row → Meeting row c print false 0
-meet-start {row} {c} print l = record { within = omega arith; long = l; rest = rw (sub-zero c) (or-false (elem print (take c row))) }
 
 module _ {row : List ℕ} {c print : ℕ} {found : Bool} {i : ℕ} (w : Meeting row c print found i) where
   pub meet-end : c ≤ i → found ≡ elem print (take c row)

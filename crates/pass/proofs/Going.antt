@@ -12,7 +12,7 @@ use lib.Dec.{eqb, leb, nleb→lt}
 use lib.ListN.{length, drop, set, length-append, length-set}
 use borrow.Author.Tests.{eq-eqb, ne_eqb}
 use Rattle.spec.specs.Lists.{all, concat}
-use Rattle.spec.specs.Record.{u16, kind, isClass}
+use Rattle.spec.specs.Record.{u16}
 use Rattle.spec.specs.Sheet.{wholeFirst, recordsOf, wholeEnd, Split, splitGroups, groups_of, classCount, Located, locatedIn}
 use Rattle.spec.specs.Refusals.{refuseIf, recordTests, recordRefusal, tornRefusal}
 use Rattle.laws.proofs.Bools.{not-or-l, not-or-r}

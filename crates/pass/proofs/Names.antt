@@ -28,9 +28,6 @@ pub record Along (s : List ℕ) (from to i : ℕ) : Type 0 where
   pub within : i ≤ to
   pub rest : nameFits (take (to - i) (drop i s)) ≡ nameFits (take (to - from) (drop from s))
 
-pub begins : (s : List ℕ) (from to : ℕ) → from ≤ to → Along s from to from
-begins s from to h = record { within = h; rest = refl }
-
 module _ {s : List ℕ} {from to i : ℕ} (a : Along s from to i) where
   pub ends : to ≤ i → true ≡ nameFits (take (to - from) (drop from s))
   unfolding nameFits all
@@ -89,9 +86,6 @@ pub record Scanned (s : List ℕ) (from to i : ℕ) : Type 0 where
   pub long : from + 8 ≤ to
   pub inside : to ≤ length s
   pub fine : (x : ℕ) → from ≤ x → x < i → Fit (get_or s x 0)
-
-pub scan : (s : List ℕ) (from to : ℕ) → from + 8 ≤ to → to ≤ length s → Scanned s from to from
-scan s from to h l = record { started = le_refl from; within = omega arith; long = h; inside = l; fine = λ x a b. absurd (omega arith) }
 
 module _ (s : List ℕ) (from to : ℕ) (o : from ≤ to) (l : to ≤ length s) where
   whole-fine : nameFits (take (to - from) (drop from s)) ≡ true → Fine s from to

@@ -77,7 +77,7 @@ pub fn moved<'a>(reader: Reader<'a>) -> Reader<'a>
     }
 }
 
-// Record n of a sheet, counted from 0, or what stands after its last whole record: plain parameters, for covered callers.
+// Record n of a sheet, counted from 0, or what stands after its last whole record.
 pub fn nth(sheet: &[u8], n: usize) -> Found
     ensures { result ≡ foundAt sheet.now (nthAt sheet.now n) }
 {

@@ -14,7 +14,7 @@ use Rattle.spec.specs.Lists.{any, keep, gather, numbered}
 use Rattle.spec.specs.Record.{isClass}
 use Rattle.spec.specs.Sheet.{Group, classRecord}
 use Rattle.spec.specs.Rules.{Fault, faultIf, faultsAt, rule1, rule2, rule3, rule4, rule5, rule6, place_in}
-use Rattle.spec.specs.Relations.{At, here}
+use Rattle.spec.specs.Relations.{At, here, next}
 use Rattle.spec.specs.Refusals.{oneClass}
 use Rattle.laws.proofs.Bools.{and_l}
 use Rattle.laws.proofs.Members.{gather-mem, mem-gather, keep-mem, mem-keep, numbered-at, at-numbered}
@@ -37,7 +37,9 @@ pub record Hit (nlib : ℕ) (g : ℕ → Group) (rule c x : ℕ) : Type 0 where
 
 pub first-at : (h : Group) {k : ℕ} {r : List ℕ} → At (take 1 h) k r → (k ≡ 0) × (r ≡ classRecord h)
 unfolding classRecord
+first-at [] a = elim a [ ]
 first-at (r ∷ h) here = (refl, refl)
+first-at (r ∷ h) (next a) = elim a [ ]
 
 pub at_first : (h : Group) → T (oneClass h) → At (take 1 h) 0 (classRecord h)
 unfolding oneClass classRecord

@@ -49,12 +49,6 @@ module _ {a b : List ℕ} (oa : Opens a) (ob : Opens b) {v w : ℕ} (ev : v ≡ 
   compares e = record { first-opens = oa; second-opens = ob; first = sym e ∙ ev ∙ ew; second = el ∙ eu; rest = refl }
 
 module _ {a b : List ℕ} {len j : ℕ} (w : Comparing a b len j) where
-  pub first-room : j < len → j < length a
-  first-room h = omega (arith, w.first, w.first-opens.within)
-
-  pub second-room : j < len → j < length b
-  second-room h = omega (arith, w.second, w.second-opens.within)
-
   pub compared : len ≤ j → true ≡ same_list (className (recordAt a 0)) (className (recordAt b 0))
   unfolding same_list
   compared h =

@@ -22,7 +22,6 @@ use Rattle.pass.specs.declared.Pass.TheVariants.{Fine, Refused}
 use Rattle.records.proofs.Between.{tiled-end}
 use Rattle.groups.specs.Groups.{start_of, Indexed}
 use Rattle.records.proofs.Walks.{walk-on, walk_here, walk-next}
-use Rattle.groups.proofs.Held.{class_low}
 use Rattle.fingerprints.proofs.Printing.{first-length, class-first, class-opens}
 use Rattle.records.specs.Records.{Sized, recordAt, between, AtRecord, Carries}
 use Rattle.second.specs.Second.{classNumber, formNumber, form_of}
@@ -159,7 +158,3 @@ module _ {library user : List ℕ} {nlib n : ℕ} {row : List ℕ} (x : Indexed 
           let m : length (classRecord (g c)) ≡ u16 bytes 0 = ap length (sym first-is) ∙ first-length (class-opens x h k) in
           let none = sym (class-named g nlib n c (classRecord (g c)) its-kind by_form z em t) in
           ep ∙ ap (λ (i : ℕ). form_of g nlib n c (start + i) tail) (sym m) ∙ sym (form-on g nlib n c start (classRecord (g c)) tail none) ∙ ap (form_of g nlib n c start) (sym parts)
-
-  -- sums of the two fit
-  pub start-low : start + length bytes ≤ 65536
-  start-low = omega (arith, class_low x h, k.place.small)

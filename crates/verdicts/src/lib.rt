@@ -1,5 +1,4 @@
-// The verdict row as a slice of structs: the report over it, and a flat row's lines written into it. The functions that
-// hold the slice are walked by hand; the others are covered.
+// The verdict row as a slice of structs: the report over it, and a flat row's lines written into it.
 #![tactic(auto)]
 
 ghost use Rattle.std.specs.Prelude.{◌≡◌, ◌<◌, ◌+◌, ◌/◌, ◌^◌, min, length};

@@ -1,0 +1,12 @@
+-- By the number of the sheet.
+use borrow.Author.Tests.{ne_eqb}
+use Rattle.second.specs.Second.{classesStart}
+use Rattle.second.proofs.classes_start.Goals as goal
+
+pub returns-then-sheet-eq0 : goal.returns-then-sheet-eq0
+unfolding classesStart
+returns-then-sheet-eq0 c = rw (c.if-sheet-eq0.true, classesStart)
+
+pub returns : goal.returns
+unfolding classesStart
+returns c = rw (ne_eqb _ _ c.if-sheet-eq0.false, classesStart)

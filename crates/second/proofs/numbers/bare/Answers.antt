@@ -1,0 +1,7 @@
+-- Class 0, or the lowest flag.
+use borrow.Author.Tests.{ne_eqb}
+use Rattle.second.proofs.Leaves.{odd-bit}
+use Rattle.second.proofs.numbers.bare.Goals as goal
+
+pub returns : goal.returns
+returns c = rw (ne_eqb _ _ c.if-c-eq0.false) (odd-bit _)
