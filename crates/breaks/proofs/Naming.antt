@@ -3,18 +3,16 @@
 use mathlib.Core.Path.{◌≡◌, refl, sym, ap, ◌∙◌}
 use mathlib.Core.Bool.{Bool, true, false, not, ◌&&◌, ◌||◌, or-false}
 use mathlib.Core.List.{List, [], ◌∷◌}
-use mathlib.Core.Logic.{◌⊎◌, inl, inr}
 use Prim.Native.Nat.{ℕ, zero, suc, ◌+◌, ◌/◌, ◌%◌, ◌≤◌, ◌<◌}
 use native.Mathlib.Omega.{arith}
-use lib.Dec.{T, eqb, leb, ltb, ltb→lt, nltb→le}
+use lib.Dec.{eqb, leb, ltb}
 use lib.ListN.{length, get_or, set, replicate, length-set}
 use lib.Seq.{get_or-set_other}
-use borrow.Author.Tests.{eq-eqb, ne_eqb, lt-ltb, le-ltb}
+use borrow.Author.Tests.{eq-eqb, ne_eqb, lt-ltb}
 use Rattle.spec.specs.Lists.{any, keep}
 use Rattle.spec.specs.Record.{u16, bit, flags, references}
 use Rattle.spec.specs.Sheet.{Group, classRecord, isAllowed}
 use Rattle.spec.specs.Rules.{forbidden}
-use Rattle.laws.proofs.Bools.{decide}
 use Rattle.laws.proofs.Rows.{set_below}
 use Rattle.records.specs.Records.{between, Carries}
 use Rattle.records.proofs.Carried.{class-word-in}
@@ -51,19 +49,6 @@ module _ {nlib : ℕ} {g : ℕ → Group} {row : List ℕ} {d : ℕ} (w : Bannin
     below = set_below (λ e y. y ≡ ban nlib g e) row d (v + x) (omega (arith, w.long)) w.below (rw (ev, ex, ef, lt-ltb d nlib h, ban));
     above = λ e k. get_or-set_other row d e (v + x) 0 (λ q. omega arith) ∙ w.above e (omega arith);
   }
-
-  pub ban-end : nlib ≤ d → nlib ≤ 256 → Bans nlib g row
-  ban-end h few = record { few = few; long = w.long; is = λ e. go e (decide (ltb e nlib)) }
-    where
-      past : (e : ℕ) → nlib ≤ e → T (ltb e d) ⊎ T (not (ltb e d)) → get_or row e 0 ≡ ban nlib g e
-      past e l (inl t) = w.below e (ltb→lt e d t)
-      past e l (inr t) = w.above e (nltb→le e d t) ∙ sym (rw (le-ltb e nlib l, ban))
-
-      go : (e : ℕ) → T (ltb e nlib) ⊎ T (not (ltb e nlib)) → get_or row e 0 ≡ ban nlib g e
-      go e (inl t) = w.below e (let l : e < nlib = ltb→lt e nlib t in omega arith)
-      go e (inr t) =
-          let l : nlib ≤ e = nltb→le e nlib t in
-          past e l (decide (ltb e d))
 
 -- ---- an entry
 
@@ -114,9 +99,6 @@ ban-test {nlib} {g} w d {x} e = ap (λ (y : ℕ). not (eqb (y % 2) 0)) (e ∙ w.
 -- an entry of 2 or more
 pub part-test : {nlib : ℕ} {row : List ℕ} {d : ℕ} → d < nlib → {x : ℕ} → x ≡ get_or row d 0 → Partial nlib row d (leb 2 x)
 part-test {nlib} {row} {d} h {x} e = record { is = λ g w. rw (lt-ltb d nlib h, e ∙ (rw (lt-ltb d nlib h) at (w.is d))) (two-parts (flags (classRecord (g d))) (g d)).1 }
-
-pub part-past : {nlib : ℕ} {row : List ℕ} {d : ℕ} → nlib ≤ d → Partial nlib row d true
-part-past {nlib} {row} {d} h = record { is = λ g w. rw (le-ltb d nlib h) }
 
 -- ---- those that a record names
 

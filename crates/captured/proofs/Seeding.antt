@@ -7,7 +7,7 @@ use mathlib.Core.List.{List, [], ◌∷◌, ◌++◌, append-nil, append_assoc, 
 use mathlib.Core.Logic.{◌⊎◌, inl, inr, ⊎_elim}
 use mathlib.Core.Option.{none}
 use Prim.Native.Nat.{ℕ, zero, suc, ◌+◌, ◌*◌, ◌/◌, ◌%◌, ◌^◌, ◌≤◌, ◌<◌}
-use native.Mathlib.Nat.{le_refl, not-suc-le-zero, le_of_suc-le-suc, eq-or-lt_of_le}
+use native.Mathlib.Nat.{le_refl, le_of_suc-le-suc, eq-or-lt_of_le}
 use native.Mathlib.Decide.{ℕ_discrete}
 use native.Mathlib.Omega.{arith}
 use lib.Dec.{T, eqb, lit<, lit≤, eqb→eq}
@@ -118,18 +118,9 @@ module _ {markers k m d w : ℕ} {b : Bool} (eb : b ≡ eqb (markers / w % 2) 1)
       from i (yes q) = inr (record { lacking = sym (has-bit markers k eb ew) ∙ f; entry = q; owner = ap (λ (i : ℕ). get_or (set s (k * 256 + m) d) i 255) q ∙ same })
       from i (no q) = inl (get_or-set_other s (k * 256 + m) i d 255 q)
 
-pub lane_low : {markers k m d v : ℕ} (s : List ℕ) → v ≡ get_or s (k * 256 + m) 255 → v ≤ d → Lowering (InLane markers k m d) s s
-lane_low s e h = lower-none s (λ i x q. let z = ap (λ (i : ℕ). get_or s i 255) q.entry in omega (arith, q.owner))
-
 -- ---- all lanes
 
 module _ {marks : List ℕ} {markers m d : ℕ} where
-  pub offer-unmarked : (s : List ℕ) → (get_or marks d 0 ≡ 1 → ⊥) → Lowering (InLanes marks markers 3 m d) s s
-  offer-unmarked s h = lower-none s (λ i x q. absurd (h q.marked))
-
-  pub offer-start : (s : List ℕ) → Lowering (InLanes marks markers 0 m d) s s
-  offer-start s = lower-none s (λ i x q. absurd (not-suc-le-zero q.below))
-
   pub offer-next : {k : ℕ} {s₀ s s' : List ℕ} → get_or marks d 0 ≡ 1 → Lowering (InLanes marks markers k m d) s₀ s → Lowering (InLane markers k m d) s s'
       → Lowering (InLanes marks markers (k + 1) m d) s₀ s'
   offer-next {k} e f h =
@@ -139,9 +130,6 @@ module _ {marks : List ℕ} {markers m d : ℕ} where
       (eq-or-lt_of_le (le_of_suc-le-suc (let b = q.below in omega arith))))
       (λ i x q. record { marked = e; lane = q.lane; below = let b = q.below in omega arith; of = q.of })
       (λ i x q. record { marked = e; lane = k; below = omega arith; of = q })
-
-  pub offer-end : {k : ℕ} {s₀ s : List ℕ} → k ≡ 3 → Lowering (InLanes marks markers k m d) s₀ s → Lowering (InLanes marks markers 3 m d) s₀ s
-  offer-end e f = rw e at f
 
 -- ---- a variable
 
@@ -261,9 +249,6 @@ pub record SeedAt (g : ℕ → Group) (m : ℕ) (row₀ row s : List ℕ) (at : 
   pub done : Group
   pub split : done ++ between s at (length s) ≡ g m
   pub lowered : Lowering (ByRecords g m done) row₀ row
-
-pub seed-start : {g : ℕ → Group} {m : ℕ} {s : List ℕ} → Carries s (g m) → (row : List ℕ) → SeedAt g m row row s 0
-seed-start w row = record { place = w.place; done = []; split = w.records; lowered = lower-none row (λ i d q. absurd (Memᴰ.not-nil q.wanted.member)) }
 
 -- an owner that one record makes a class want, where the record stands among others
 among : {g : ℕ → Group} {m : ℕ} {rs : Group} (rs' : Group) {i x : ℕ} (q : ByRecords g m rs i x) → Memᴰ q.wanted.bytes rs' → ByRecords g m rs' i x

@@ -17,10 +17,6 @@ use Rattle.overlay.specs.Memo.{raw, memoOf, Knows}
 
 -- ---- a memo that class c may be asked over
 
--- so may a lower class
-pub knows-lower : {g : ℕ → Group} {c i : ℕ} {memo : List ℕ} → Knows g c memo → i < c → Knows g i memo
-knows-lower {i = i} k h = record { long = k.long; lower = λ j l. k.lower j (omega arith); here = λ _. k.lower i h }
-
 -- a class that is known changes nothing
 pub set_known : (memo : List ℕ) (c : ℕ) {v : ℕ} → get_or memo c 0 ≡ v → set memo c v ≡ memo
 set_known memo c e = ap (set memo c) (sym e) ∙ set-get_or memo c 0

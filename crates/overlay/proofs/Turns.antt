@@ -1,15 +1,15 @@
 -- Classes asked in rising order, over a memo that knows those of the library.
 -- Assumes nothing.
-use mathlib.Core.Path.{◌≡◌, ap, ◌∙◌}
+use mathlib.Core.Path.{◌≡◌}
 use mathlib.Core.List.{List}
 use Prim.Native.Nat.{ℕ, ◌+◌, ◌≤◌, ◌<◌, min, max}
 use native.Mathlib.Nat.{le_refl}
 use native.Mathlib.Omega.{arith}
-use lib.ListN.{length, set}
+use lib.ListN.{set}
 use Rattle.spec.specs.Sheet.{Group, total}
 use Rattle.groups.specs.Groups.{Indexed}
 use Rattle.overlay.specs.Memo.{raw, memoOf, Knows}
-use Rattle.overlay.proofs.Memos.{memo-length, memo-asks, memo-asked}
+use Rattle.overlay.proofs.Memos.{memo-asks, memo-asked}
 
 -- the library's classes are among all classes, and those are few
 pub classes-few : {library user : List ℕ} {nlib n : ℕ} {row : List ℕ} → Indexed library user nlib n row → (nlib ≤ n) × (n ≤ 256)
@@ -19,9 +19,6 @@ classes-few x = (omega (arith, x.nlib-is, x.n-is), x.few)
 -- ---- one class after the other, past those of the library as well
 
 module _ (g : ℕ → Group) {nlib n c : ℕ} (f : (nlib ≤ n) × (n ≤ 256)) {memo : List ℕ} (e : memo ≡ memoOf g (max nlib (min c n))) where
-  pub each-past : n ≤ c → memo ≡ memoOf g (max nlib (min (c + 1) n))
-  each-past h = let z : max nlib (min c n) ≡ max nlib (min (c + 1) n) = omega arith in e ∙ ap (memoOf g) z
-
   pub each-asks : c < n → Knows g c memo
   each-asks h = memo-asks g (max nlib (min c n)) c e (omega arith) (omega arith) (omega arith)
 
@@ -36,9 +33,6 @@ pub record InTurn (g : ℕ → Group) (nlib c : ℕ) (memo : List ℕ) (d : ℕ)
   pub within : d ≤ max nlib c
   pub memo-is : memo ≡ memoOf g d
 
-pub turn-begin : {g : ℕ → Group} {nlib c : ℕ} {memo : List ℕ} → memo ≡ memoOf g nlib → InTurn g nlib c memo nlib
-turn-begin e = record { from = omega arith; within = omega arith; memo-is = e }
-
 module _ {g : ℕ → Group} {nlib c : ℕ} {memo : List ℕ} {d : ℕ} (t : InTurn g nlib c memo d) (l : c < 256) where
   pub turn-asks : d < c → Knows g d memo
   turn-asks h = memo-asks g d d t.memo-is (le_refl d) (omega arith) (omega arith)
@@ -51,9 +45,6 @@ module _ {g : ℕ → Group} {nlib c : ℕ} {memo : List ℕ} {d : ℕ} (t : InT
   }
 
   module _ (few : nlib ≤ 256) where
-    pub turn-long : length memo ≡ 256
-    turn-long = memo-length g d t.memo-is (omega (arith, t.within))
-
     pub turn_last : (d < c → ⊥) → Knows g c memo
     turn_last h = memo-asks g d c t.memo-is (omega arith) l (omega (arith, t.within))
 

@@ -8,7 +8,7 @@ use Prim.Native.Nat.{ℕ, ◌+◌, ◌≤◌, ◌<◌, min, max}
 use native.Mathlib.Nat.{zero-add}
 use native.Mathlib.Omega.{arith}
 use lib.Dec.{T, eqb, ltb, ltb→lt, nltb→le}
-use lib.ListN.{length, get_or, set, length-set, get_or-eq_default}
+use lib.ListN.{length, get_or, get_or-eq_default}
 use borrow.Author.Tests.{eq-eqb, ne_eqb}
 use Rattle.spec.specs.Lists.{all, keep, gather, span}
 use Rattle.spec.specs.Record.{u8, u16, bit, ownMarkers, Ty, ty_at, tyReferences}
@@ -18,7 +18,6 @@ use Rattle.spec.specs.Classes.{superclasses, targets, supertypes, gathered, over
 use Rattle.laws.proofs.Bools.{decide, t_true, t-false}
 use Rattle.laws.proofs.All.{all-span}
 use Rattle.theory.proofs.Closure.{bit-zero}
-use Rattle.laws.proofs.Rows.{set_below}
 use Rattle.groups.specs.Groups.{Indexed}
 use Rattle.theory.proofs.Form.{group-past}
 use Rattle.overlay.specs.Memo.{memoOf}
@@ -42,15 +41,6 @@ pub record Filling (g : ℕ → Group) (nlib n : ℕ) (memo row : List ℕ) (c :
   pub long : length row ≡ 256
   pub is : (i : ℕ) → i < c → get_or row i 0 ≡ overlay g i
   pub memo-is : memo ≡ memoOf g (max nlib (min c n))
-
-pub fill_start : {g : ℕ → Group} {nlib n : ℕ} {memo row : List ℕ} → memo ≡ memoOf g nlib → length row ≡ 256 → Filling g nlib n memo row 0
-fill_start {g} {nlib} {n} e l =
-    let z : nlib ≡ max nlib (min 0 n) = omega arith in record { long = l; is = λ i h. absurd (omega arith); memo-is = e ∙ ap (memoOf g) z }
-
-pub fill-next : {g : ℕ → Group} {nlib n : ℕ} {memo row : List ℕ} {c : ℕ} → Filling g nlib n memo row c → c < 256 → {v : ℕ} → v ≡ overlay g c → {memo' : List ℕ}
-    → memo' ≡ memoOf g (max nlib (min (c + 1) n)) → Filling g nlib n memo' (set row c v) (c + 1)
-fill-next {g} {row = row} {c} f h {v} e r =
-    record { long = length-set row c v ∙ f.long; is = set_below (λ d x. x ≡ overlay g d) row c v (omega (arith, f.long)) f.is e; memo-is = r }
 
 -- past the row there is no class
 pub fill_end : {library user : List ℕ} {nlib n : ℕ} {starts : List ℕ} → Indexed library user nlib n starts → {memo row : List ℕ} {c : ℕ} → Filling (group library user) nlib n memo row c → 256 ≤ c

@@ -7,6 +7,7 @@ ghost use Rattle.spec.specs.Record.{ty_at};
 ghost use Rattle.spec.specs.Sheet.{Group, group as group_of};
 ghost use Rattle.spec.specs.Classes.{overlay as overlayOf};
 ghost use Rattle.theory.proofs.Falls.{Falls};
+ghost use Rattle.records.specs.Records.{Carries};
 ghost use Rattle.groups.specs.Groups.{Indexed};
 ghost use Rattle.overlay.specs.Memo.{raw, lowerRaw, withInterfaces, memoOf, Knows};
 ghost use Rattle.overlay.specs.Types.{Known, rowMarkers};
@@ -22,6 +23,21 @@ use records::{
 pub const UNASKED: u16 = 65535;
 
 const SETS: u16 = 256;
+
+// The bytes of class c. The three functions below call each other and so cannot choose the ghost value of `class_bytes`: it is chosen here.
+fn bytes_of<'a>(
+    library: &'a [u8],
+    user: &'a [u8],
+    starts: &[u16],
+    classes: Classes,
+    c: usize,
+) -> &'a [u8]
+    requires indexed { Indexed library.now user.now classes.library classes.all starts.now }
+    requires there { c < classes.all }
+    ensures { let g : ℕ → Group = group_of library.now user.now in Carries result.now (g c) }
+{
+    class_bytes(library, user, starts, classes, c)
+}
 
 // Class i as seen from class c: what is gathered for it if it is lower, else nothing.
 #[cycle(gathered_interfaces_lower)]
@@ -68,7 +84,7 @@ fn gathered<'a>(
     if known < SETS {
         return known as u8;
     }
-    let bytes = class_bytes(library, user, starts, classes, c);
+    let bytes = bytes_of(library, user, starts, classes, c);
     let own = bytes[MARKERS_AT];
     let above = wide(word_in(bytes, SUPERCLASS_AT));
     let up = lower(library, user, starts, classes, c, above, memo);
@@ -95,7 +111,7 @@ fn interfaces<'a>(
     ensures markers { let g : ℕ → Group = group_of library.now user.now in result ≡ withInterfaces g c mine }
     ensures memo { memo.new ≡ memo.old }
 {
-    let bytes = class_bytes(library, user, starts, classes, c);
+    let bytes = bytes_of(library, user, starts, classes, c);
     let mut at = 0;
     let mut m = mine;
     while at < bytes.len() {
