@@ -8,7 +8,7 @@ use Prim.Native.Nat.{ℕ, ◌-◌, ◌≤◌, ◌<◌}
 use native.Mathlib.Omega.{arith}
 use lib.Dec.{T, ltb, nltb→le}
 use lib.ListN.{length}
-use borrow.Author.Tests.{lt-ltb, le-ltb, not-false}
+use borrow.Author.Tests.{lt-ltb, le-ltb}
 use Rattle.spec.specs.Lists.{first_of}
 use Rattle.spec.specs.Sheet.{classCount, total, group}
 use Rattle.spec.specs.Refusals.{Refusal as Reason, refuseIf, refusePlain, formRefusal, sheetRefusal, newRefusal, wholeGroup, groupRefusal, roomRefusal, shortRefusal, scratchLength}
@@ -29,9 +29,9 @@ use Rattle.form.proofs.Accepting.{Fresh, ready-fresh, turned, told, then-refused
 use Rattle.admit.specs.Admitting.{admitRefusal, Plain}
 
 -- a whole group between whole groups can be read through the view
-pub group-fits : {cut : Cut} {user g : List ℕ} → Sits cut user → {b : Bool} → b ≡ wholeGroup g → not b ≡ false → Fits cut user g
+pub group-fits : {cut : Cut} {user g : List ℕ} → Sits cut user → {b : Bool} → b ≡ wholeGroup g → b ≡ true → Fits cut user g
 unfolding IsGroup
-group-fits s {b} e t = sits-fits s (true-t (sym e ∙ not-false b t))
+group-fits s e t = sits-fits s (true-t (sym e ∙ t))
 
 -- 12, of the classes that a check told
 pub short-is : {o : Option Reason} {library user : List ℕ} {p : Checked} {row memo : List ℕ} → Checks o library user p row memo → {k : Classes} → p ≡ Fine k
@@ -47,12 +47,12 @@ module _ (library user g new : List ℕ) (lines scratch : ℕ) where
   stopped : {row memo : List ℕ} → Fresh row memo → {r : Reason} → admitRefusal library user g new lines scratch ≡ some r → Admits (refuse r.number r.sheet r.byte) row memo
   stopped f o = record { answered = rw o; ready = ready-fresh o f }
 
-  pub not-whole : {b : Bool} {row memo : List ℕ} → Fresh row memo → b ≡ wholeGroup g → not b ≡ true → Admits (refuse 14 0 0) row memo
+  pub not-whole : {b : Bool} {row memo : List ℕ} → Fresh row memo → b ≡ wholeGroup g → b ≡ false → Admits (refuse 14 0 0) row memo
   unfolding admitRefusal groupRefusal refusePlain refuseIf
   not-whole {b} f e t =
       stopped f (first_some _ (let o : groupRefusal g ≡ some (record { number = 14; sheet = 0; byte = 0 }) = rw (← e, t) in o))
 
-  module _ {b : Bool} (eb : b ≡ wholeGroup g) (tb : not b ≡ false) where
+  module _ {b : Bool} (eb : b ≡ wholeGroup g) (tb : b ≡ true) where
     past-group : admitRefusal library user g new lines scratch ≡ first_of (roomRefusal user new ∷ newRefusal library new ∷ shortRefusal (classCount new) lines scratch ∷ [])
     unfolding admitRefusal groupRefusal refusePlain refuseIf
     past-group = skip-none _ _ (let o : groupRefusal g ≡ none = rw (← eb, tb) in o)
@@ -71,7 +71,7 @@ module _ (library user g new : List ℕ) (lines scratch : ℕ) where
 
     module _ {size : ℕ} (es : size ≡ length new) (l : size ≤ length user) (h : size ≤ 32768) (plain : Plain library g new) where
       whole : T (wholeGroup g)
-      whole = true-t (sym eb ∙ not-false b tb)
+      whole = true-t (sym eb ∙ tb)
 
       past_room : admitRefusal library user g new lines scratch ≡ first_of (sheetRefusal library new ∷ shortRefusal (classCount new) lines scratch ∷ [])
       unfolding roomRefusal refusePlain refuseIf

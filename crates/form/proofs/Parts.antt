@@ -28,6 +28,11 @@ pub record Part (sheet n at : ℕ) (s row₀ : List ℕ) (p : Pass) (row : List 
   pub answer : p ≡ passOf (shifted at (passRefusal sheet n s)) (n + classCount s)
   pub rows : Filled (passRefusal sheet n s) n at s row₀ row
 
+-- what such a pass ensures
+pub part : {sheet n at : ℕ} {s row₀ row : List ℕ} {p : Pass}
+    → p ≡ passOf (shifted at (passRefusal sheet n s)) (n + classCount s) → Filled (passRefusal sheet n s) n at s row₀ row → Part sheet n at s row₀ p row
+part a r = record { answer = a; rows = r }
+
 -- ---- refusals further on
 
 shifted-zero : (o : Option Refusal) → shifted 0 o ≡ o

@@ -73,6 +73,11 @@ pub record Went (sheet n : ℕ) (s row₀ : List ℕ) (p : Pass) (row : List ℕ
   pub answer : p ≡ passOf (passRefusal sheet n s) (n + classCount s)
   pub rows : Filled (passRefusal sheet n s) n 0 s row₀ row
 
+-- what such a pass ensures
+pub went : {sheet n : ℕ} {s row₀ row : List ℕ} {p : Pass}
+    → p ≡ passOf (passRefusal sheet n s) (n + classCount s) → Filled (passRefusal sheet n s) n 0 s row₀ row → Went sheet n s row₀ p row
+went a r = record { answer = a; rows = r }
+
 -- what is refused leaves nothing to say of the row
 refused-starts : {library user row : List ℕ} {r : Refusal} → length row ≡ 256 → passesRefusal library user ≡ some r → Starts library user row
 refused-starts l e = record { long = l; indexed = λ n. absurd (some≢none _ (sym e ∙ n)) }

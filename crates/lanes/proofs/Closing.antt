@@ -1,12 +1,12 @@
 -- Sweeps until one changes nothing: then each entry is the least owner that its class draws from the seeds.
 -- Assumes nothing.
-use mathlib.Core.Path.{◌≡◌, refl, sym, ◌∙◌, subst}
+use mathlib.Core.Path.{◌≡◌, refl}
 use mathlib.Core.List.{List}
 use Prim.Native.Nat.{ℕ, ◌+◌, ◌*◌, ◌≤◌, ◌<◌}
 use native.Mathlib.Nat.{le_refl}
 use native.Mathlib.Omega.{arith}
 use lib.ListN.{length, get_or}
-use Rattle.lanes.specs.Lanes.{Draws, own, via, entry_at, Sound, Other, Settled, Run, Least, SettledAt, AllSettled, SeedsFit}
+use Rattle.lanes.specs.Lanes.{Draws, own, via, entry_at, Sound, Other, Settled, Least, SettledAt, AllSettled, SeedsFit}
 use Rattle.lanes.proofs.Enclosing.{fits-lower, fits-owner}
 use Rattle.lanes.proofs.Chains.{draws-fit}
 
@@ -27,17 +27,6 @@ close-start step outer n lanes g f =
       down = λ i. le_refl (get_or g i 255);
       kept = λ i o. refl;
       settled = λ z. absurd (omega arith);
-    }
-
-pub close-next : {step : ℕ → List ℕ} {outer : ℕ → ℕ} {n lanes : ℕ} {g s s' : List ℕ} {a r : ℕ} → CloseAt step outer n lanes g s a
-    → Run step outer n lanes (AllSettled step outer n lanes) s s' r → length s' ≡ length s → CloseAt step outer n lanes g s' r
-close-next {step} {outer} {n} {lanes} {g} f h l =
-    record {
-      long = l ∙ f.long;
-      sound = h.keeps g f.sound;
-      down = λ i. let u = f.down i in let w = h.down i in omega arith;
-      kept = λ i o. h.kept i o ∙ f.kept i o;
-      settled = λ z. subst (AllSettled step outer n lanes) (sym (h.still z)) (h.closed z);
     }
 
 module _ {step : ℕ → List ℕ} {outer : ℕ → ℕ} {n lanes : ℕ} {g s : List ℕ} (few : n ≤ 256) (f : CloseAt step outer n lanes g s 0) where

@@ -5,11 +5,11 @@ use mathlib.Core.Bool.{Bool, true, false}
 use mathlib.Core.List.{List}
 use mathlib.Core.Logic.{⊎_elim}
 use Prim.Native.Nat.{ℕ, ◌+◌, ◌≤◌, ◌<◌}
-use native.Mathlib.Nat.{not-suc-le-zero, le_of_suc-le-suc, eq-or-lt_of_le}
+use native.Mathlib.Nat.{le_of_suc-le-suc, eq-or-lt_of_le}
 use native.Mathlib.Omega.{arith}
 use lib.ListN.{length}
 use Rattle.lanes.specs.Lanes.{Run, SettledAt, AllSettled, either_of, sweptOf}
-use Rattle.lanes.proofs.Runs.{run_none, run-then, run_only}
+use Rattle.lanes.proofs.Runs.{run-then, run_only}
 
 -- ---- the order: each class has its turn
 
@@ -28,9 +28,6 @@ place-low false n m h = omega arith
 pub record SweepAt (step : ℕ → List ℕ) (outer : ℕ → ℕ) (n lanes : ℕ) (up : Bool) (s₀ s : List ℕ) (a i : ℕ) : Type 0 where
   pub long : length s ≡ length s₀
   pub run : Run step outer n lanes (λ s. (j : ℕ) → j < i → SettledAt step outer n lanes (sweptOf up n j) s) s₀ s a
-
-pub sweep-start : (step : ℕ → List ℕ) (outer : ℕ → ℕ) (n lanes : ℕ) (up : Bool) (s : List ℕ) → SweepAt step outer n lanes up s s 0 0
-sweep-start step outer n lanes up s = record { long = refl; run = run_none s (λ j l. absurd (not-suc-le-zero l)) }
 
 module _ {step : ℕ → List ℕ} {outer : ℕ → ℕ} {n lanes : ℕ} {up : Bool} {s₀ s : List ℕ} {a i : ℕ} (f : SweepAt step outer n lanes up s₀ s a i) where
   pub sweep-next : {s' : List ℕ} {m b r : ℕ} → m ≡ sweptOf up n i → Run step outer n lanes (SettledAt step outer n lanes m) s s' b → r ≡ either_of a b

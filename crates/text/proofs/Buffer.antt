@@ -86,10 +86,3 @@ module _ {out₀ : List ℕ} {at : ℕ} {text : List ℕ} {from to : ℕ} where
         written =
             e ∙ rw (c.written, c.place, part-snoc text c.low (omega arith), put-snoc out₀ at done (get_or text i 0), long);
       }
-
-  pub copied-length : {out : List ℕ} {i p : ℕ} → Copied out₀ at text from to out i p → length out ≡ length out₀
-  copied-length c = ap length c.written ∙ put-length out₀ at _
-
-  pub copied-end : {out : List ℕ} {i p : ℕ} → Copied out₀ at text from to out i p → to ≤ i
-      → (p ≡ at + (to - from)) × (out ≡ put_all out₀ at (take (to - from) (drop from text)))
-  copied-end {i = i} c l = let e : i ≡ to = omega arith in (rw e at c.place, rw e at c.written)

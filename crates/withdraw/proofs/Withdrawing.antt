@@ -21,7 +21,7 @@ use Rattle.theory.proofs.Promised.{changes-refused, changes-made}
 use Rattle.theory.proofs.Unrefused.{Present, present-facts}
 use Rattle.theory.proofs.Withdraw.{some-class, withdrawn-front}
 use Rattle.groups.specs.Groups.{Indexed}
-use Rattle.groups.proofs.Held.{Held, in-user}
+use Rattle.groups.proofs.Held.{in-user}
 use Rattle.edit.proofs.Splicing.{cut_off}
 
 module _ (library user : List ℕ) (used : ℕ) (verdicts : List ℕ) where

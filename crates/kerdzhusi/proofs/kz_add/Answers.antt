@@ -1,0 +1,11 @@
+-- The code of what `verifier::add` answers.
+use Rattle.kerdzhusi.specs.Codes.{plainValue}
+use Rattle.kerdzhusi.proofs.Codes.{replies}
+use Rattle.kerdzhusi.proofs.Bounds.{adds-low}
+use Rattle.kerdzhusi.proofs.kz_add.Goals as goal
+
+pub changed-requires : goal.changed-requires
+changed-requires c = record { low = adds-low _ _ c.add.ensures }
+
+pub returns : goal.returns
+returns c = replies plainValue _ c.add.ensures c.changed.ensures

@@ -1,0 +1,12 @@
+-- The place is that of the definition in either order, and stays below n.
+use Rattle.std.proofs.Common.{rules}
+use Rattle.lanes.specs.Lanes.{sweptOf}
+use Rattle.lanes.proofs.swept.Goals as goal
+
+pub returns-then-up : goal.returns-then-up
+unfolding sweptOf
+returns-then-up c = (rw c.if-up.true, search rules)
+
+pub returns-else-up : goal.returns-else-up
+unfolding sweptOf
+returns-else-up c = (rw c.if-up.false, search rules)
