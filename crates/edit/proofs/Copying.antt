@@ -6,7 +6,7 @@ use Prim.Native.Nat.{ℕ, suc, ◌+◌, ◌-◌, ◌≤◌, ◌<◌}
 use native.Mathlib.Numerals.{add-one}
 use native.Mathlib.Omega.{arith}
 use lib.ListN.{length, take, drop, get_or, set, length-drop, take-append-drop, get_or-append}
-use lib.Seq.{paste, take-add, paste-zero, paste-suc, length-paste, drop-paste, length_paste_head, length-take-le, take-suc, drop-cons, set_at, get_or-take, get_or-drop}
+use lib.Seq.{paste, take-add, paste-suc, drop-paste, length_paste_head, length-take-le, take-suc, drop-cons, set_at, get_or-take, get_or-drop}
 
 -- ---- what stands before and after the bytes put in
 
@@ -35,13 +35,7 @@ pub record Copied (d : List ℕ) (at : ℕ) (s : List ℕ) (n : ℕ) (b : List �
   pub few : i ≤ n
   pub now : b ≡ paste d at s i
 
-pub copy_start : (d : List ℕ) (at : ℕ) (s : List ℕ) (n i : ℕ) → i ≡ 0 → at + n ≤ length d → n ≤ length s → Copied d at s n d i
-copy_start d at s n i e room long = rw e (record { room = room; long = long; few = omega arith; now = paste-zero d at s })
-
 module _ {d : List ℕ} {at : ℕ} {s : List ℕ} {n : ℕ} {b : List ℕ} {i : ℕ} (c : Copied d at s n b i) where
-  pub copy-long : length b ≡ length d
-  copy-long = ap length c.now ∙ length-paste d at s i (omega arith) (omega arith)
-
   pub copy-ahead : (k : ℕ) → at + i ≤ k → get_or b k 0 ≡ get_or d k 0
   copy-ahead k h = ap (λ (l : List ℕ). get_or l k 0) c.now ∙ paste-after d at s i (omega arith) (omega arith) k h
 
@@ -53,9 +47,6 @@ module _ {d : List ℕ} {at : ℕ} {s : List ℕ} {n : ℕ} {b : List ℕ} {i : 
     now = ap (λ (l : List ℕ). set l (at + i) (get_or s i 0)) c.now ∙ paste-suc d at s i 0 (omega arith) (omega arith) ∙ ap (paste d at s) (sym (add-one i));
   })
 
-  pub copy-end : n ≤ i → b ≡ paste d at s n
-  copy-end h = let e : i ≡ n = omega arith in c.now ∙ ap (paste d at s) e
-
 -- ---- from the last byte back
 
 -- b is the buffer d with all but the first i of n bytes of s put at `at`
@@ -64,11 +55,6 @@ pub record Backed (d : List ℕ) (at : ℕ) (s : List ℕ) (n : ℕ) (b : List �
   pub long : n ≤ length s
   pub few : i ≤ n
   pub now : b ≡ paste d (at + i) (drop i s) (n - i)
-
-pub back_start : (d : List ℕ) (at : ℕ) (s : List ℕ) (n : ℕ) → at + n ≤ length d → n ≤ length s → Backed d at s n d n
-back_start d at s n room long =
-    let e : n - n ≡ 0 = omega arith in
-    record { room = room; long = long; few = omega arith; now = paste-zero d (at + n) (drop n s) ∙ ap (paste d (at + n) (drop n s)) (sym e) }
 
 -- one more byte in front
 paste-front : (d : List ℕ) (m : ℕ) (s : List ℕ) (j n : ℕ) → m < length d → j < length s → j < n
@@ -88,9 +74,6 @@ module _ {d : List ℕ} {at : ℕ} {s : List ℕ} {n : ℕ} {b : List ℕ} {i : 
   rest-long : n - i ≤ length (drop i s)
   rest-long = omega (arith, length-drop i s)
 
-  pub back_long : length b ≡ length d
-  back_long = ap length c.now ∙ length-paste d (at + i) (drop i s) (n - i) (omega arith) rest-long
-
   pub back-ahead : (k : ℕ) → k < at + i → get_or b k 0 ≡ get_or d k 0
   back-ahead k h = ap (λ (l : List ℕ). get_or l k 0) c.now ∙ paste-before d (at + i) (drop i s) (n - i) (omega arith) rest-long k h
 
@@ -104,12 +87,6 @@ module _ {d : List ℕ} {at : ℕ} {s : List ℕ} {n : ℕ} {b : List ℕ} {i : 
         ap (λ (l : List ℕ). set l (at + j) (get_or s j 0)) (c.now ∙ ap (λ (x : ℕ). paste d (at + x) (drop x s) (n - x)) ei ∙ ap (λ (x : ℕ). paste d x (drop (suc j) s) (n - suc j)) m)
         ∙ paste-front d (at + j) s j n (omega arith) (omega arith) (omega arith);
   })
-
-  pub back_end : i ≡ 0 → b ≡ paste d at s n
-  back_end e =
-      let a : at + 0 ≡ at = omega arith in
-      let z : n - 0 ≡ n = omega arith in
-      c.now ∙ ap (λ (x : ℕ). paste d (at + x) (drop x s) (n - x)) e ∙ ap₂ (λ (x y : ℕ). paste d x s y) a z
 
 -- bytes that stay where they are
 pub paste-same : (d : List ℕ) {from to : ℕ} → from ≡ to → (n : ℕ) → d ≡ paste d to (drop from d) n
