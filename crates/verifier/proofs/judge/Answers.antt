@@ -22,12 +22,19 @@ rejudge-requires c =
     let f = c.in-Fine.is in
     let s = c.short.ensures in
     let l = c.if-short.false in
-    let q = used-part a.user.now a.used in
-    (refl,
-      (indexed e f q,
-        (form-fine a.library.now a.user.now a.used (told e f).0 q,
-          (memo-is e f q,
-            ((omega arith, room a.library.now a.user.now a.used a.verdicts.now a.scratch.now e f s l), enough a.library.now a.user.now a.used a.verdicts.now a.scratch.now e f s l)))))
+    let q = used-part a.user.now a.used in (
+      refl,
+      (
+        indexed e f q,
+        (
+          form-fine a.library.now a.user.now a.used (told e f).0 q,
+          (
+            memo-is e f q,
+            ((omega arith, room a.library.now a.user.now a.used a.verdicts.now a.scratch.now e f s l), enough a.library.now a.user.now a.used a.verdicts.now a.scratch.now e f s l),
+          ),
+        ),
+      ),
+    )
 
 pub overflow_sub-own : goal.overflow_sub-own
 overflow_sub-own c = ordered c.present-checked.ensures c.in-Fine.is
