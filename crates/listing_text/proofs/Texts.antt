@@ -3,10 +3,8 @@
 use mathlib.Core.Path.{◌≡◌, sym, ap, ◌∙◌, subst}
 use mathlib.Core.List.{List, [], ◌∷◌, ◌++◌}
 use Prim.Native.Nat.{ℕ, ◌+◌, ◌-◌, ◌≤◌}
-use native.Mathlib.Nat.{sub-zero}
 use native.Mathlib.Omega.{arith}
 use lib.ListN.{length, set, take, drop, length-append}
-use lib.Seq.{take-length}
 use Rattle.text.specs.Text.{decimal, put_all, overlaid}
 use Rattle.text.proofs.Buffer.{put-length, put-append, put-nothing, put-text}
 use Rattle.laws.proofs.Parts.{part_length}
@@ -14,23 +12,17 @@ use Rattle.listing_text.specs.Written.{Written}
 
 module _ {out : List ℕ} {at : ℕ} {out' : List ℕ} {after : ℕ} where
   -- what the functions of `text` promise
-  pub one_byte : {b : ℕ} → (after ≡ at + 1) × (out' ≡ set out at b) → Written out at (b ∷ []) out' after
+  pub one_byte : {b : ℕ} → after ≡ at + 1 → out' ≡ set out at b → Written out at (b ∷ []) out' after
   unfolding put_all
-  one_byte e = record { place = e.0; bytes = e.1 }
+  one_byte e f = record { place = e; bytes = f }
 
-  pub a-number : (x : ℕ) → (after ≡ at + length (decimal x)) × (out' ≡ put_all out at (decimal x)) → Written out at (decimal x) out' after
-  a-number x e = record { place = e.0; bytes = e.1 }
+  pub a-number : (x : ℕ) → after ≡ at + length (decimal x) → out' ≡ put_all out at (decimal x) → Written out at (decimal x) out' after
+  a-number x e f = record { place = e; bytes = f }
 
-  pub a-part : (text : List ℕ) (from to : ℕ) → from ≤ to → to ≤ length text → (after ≡ at + (to - from)) × (out' ≡ put_all out at (take (to - from) (drop from text)))
+  pub a-part : (text : List ℕ) (from to : ℕ) → from ≤ to → to ≤ length text → after ≡ at + (to - from) → out' ≡ put_all out at (take (to - from) (drop from text))
       → Written out at (take (to - from) (drop from text)) out' after
-  a-part text from to l h e =
-      record { place = e.0 ∙ ap (λ (k : ℕ). at + k) (sym (part_length text from (to - from) (omega arith))); bytes = e.1 }
-
-  pub whole_part : (text : List ℕ) → (after ≡ at + (length text - 0)) × (out' ≡ put_all out at (take (length text - 0) (drop 0 text))) → Written out at text out' after
-  whole_part text e = record {
-    place = e.0 ∙ rw (sub-zero (length text));
-    bytes = e.1 ∙ rw (sub-zero (length text), take-length text);
-  }
+  a-part text from to l h e f =
+      record { place = e ∙ ap (λ (k : ℕ). at + k) (sym (part_length text from (to - from) (omega arith))); bytes = f }
 
   -- the buffer's length stays
   pub same_size : {text : List ℕ} → Written out at text out' after → length out' ≡ length out
