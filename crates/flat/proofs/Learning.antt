@@ -16,7 +16,7 @@ module _ (first facts : List ℕ) (lf : length first ≡ 256) where
   abbrev one : List ℕ
   one = first ++ post_of 0 256 facts
 
-  pub one-long : length facts ≡ 768 → length one ≡ 768
+  one-long : length facts ≡ 768 → length one ≡ 768
   one-long l = simp (length-append, length-drop) (omega arith)
 
   pub zeros-left : facts ≡ replicate 768 0 → take 256 (drop 256 one) ≡ replicate 256 0
@@ -42,5 +42,10 @@ module _ (first facts : List ℕ) (lf : length first ≡ 256) where
     two-long : length facts ≡ 768 → length two ≡ 768
     two-long l = let o = one-long l in simp (length-append, length-drop, front_long) (omega arith)
 
-    pub two_facts : length facts ≡ 768 → {nlib : ℕ} {g : ℕ → Group} → Known g first → Bans nlib g second → Facts nlib g two
+    two_facts : length facts ≡ 768 → {nlib : ℕ} {g : ℕ → Group} → Known g first → Bans nlib g second → Facts nlib g two
     two_facts l known bans = record { long = two-long l; known = rw two-first known; bans = rw two-second bans }
+
+-- both parts, put into a row of zeros
+pub learnt : {first facts second : List ℕ} → facts ≡ replicate 768 0 → {nlib : ℕ} {g : ℕ → Group} → Known g first → Bans nlib g second
+    → Facts nlib g (put_mid 256 256 (first ++ post_of 0 256 facts) second)
+learnt {first} {facts} {second} z known bans = two_facts first facts known.long second bans.long (ap length z) known bans

@@ -7,12 +7,12 @@ use Prim.Native.Nat.{ℕ, ◌+◌, ◌-◌, ◌≤◌, ◌<◌}
 use native.Mathlib.Decide.{ℕ_discrete}
 use native.Mathlib.Omega.{arith}
 use lib.Dec.{eqb, ltb, ltb→lt, nltb→le}
-use lib.ListN.{length, get_or}
+use lib.ListN.{get_or}
 use borrow.Author.Tests.{ne_eqb, lt-ltb, le-ltb}
 use Rattle.spec.specs.Rules.{Verdict}
 use Rattle.spec.specs.Verdicts.{flatLines, flatRewritten}
 use Rattle.laws.proofs.Bools.{false-t, true-t}
-use Rattle.theory.proofs.FlatRow.{rewritten-length, rewritten-lines, rewritten-none, rewritten-same, rewritten-more}
+use Rattle.theory.proofs.FlatRow.{rewritten-lines, rewritten-none, rewritten-same, rewritten-more}
 use Rattle.flat.specs.Row.{put_at, chosen}
 
 pub record Rewriting (nlib n : ℕ) (v : ℕ → Verdict) (marks before row : List ℕ) (c : ℕ) : Type 0 where
@@ -56,9 +56,6 @@ pub rewrite-start : (nlib n : ℕ) (v : ℕ → Verdict) (marks row : List ℕ) 
 rewrite-start nlib n v marks row h = record { low = omega arith; high = h; now = rewritten-none v row (chosen nlib nlib marks) (λ i. false-t (unmarked nlib nlib marks i (omega arith))) }
 
 module _ {nlib n : ℕ} {v : ℕ → Verdict} {marks before row : List ℕ} {c : ℕ} (f : Rewriting nlib n v marks before row c) where
-  pub rewrite-long : length row ≡ length before
-  rewrite-long = ap length f.now ∙ rewritten-length (chosen nlib c marks) v before
-
   pub lines_same : n - nlib ≤ flatLines before → n - nlib ≤ flatLines row
   lines_same h = omega (arith, ap flatLines f.now, rewritten-lines (chosen nlib c marks) v before)
 

@@ -62,9 +62,6 @@ pub record RecordAt (library user : List ℕ) (nlib n c rule t : ℕ) (s : List 
 
 -- ---- rules
 
-pub rule-start : {nlib : ℕ} {g : ℕ → Group} {c : ℕ} → RuleAt nlib g c 1
-rule-start = record { some = omega arith; few = omega arith; clear = λ i h k. absurd (omega arith) }
-
 pub rule_end : {nlib n : ℕ} {g : ℕ → Group} → Ground nlib n g → {c rule : ℕ} → nlib ≤ c → c < n → RuleAt nlib g c rule → 10 < rule → verdictOf nlib g c ≡ clean
 rule_end w user there r h = none_found w user there (λ i a b. r.clear i a (omega arith))
 
@@ -191,9 +188,6 @@ module _ {library user : List ℕ} {nlib n : ℕ} {starts : List ℕ} (x : Index
       more : between s at end ≡ recordAt s at ∷ between s (at + u16 s at) end
       unfolding recordAt
       more = walk_here f.place h
-
-      pub record-low : k < 255
-      record-low = omega (arith, f.few, ap length more)
 
       pub record-first : onlyFirst nlib rule t ≡ true → k ≡ 0
       record-first e = omega (arith, f.one e, ap length more)

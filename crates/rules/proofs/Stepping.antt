@@ -22,14 +22,6 @@ use Rattle.rules.specs.Walk.{onlyFirst, asked, firstClass, nextClass}
 use Rattle.rules.proofs.Hits.{asked-all, asked-one}
 use Rattle.rules.proofs.Records.{first-length, all-length}
 
-not-true : (b : Bool) → not b ≡ true → b ≡ false
-not-true true e = sym e
-not-true false e = refl
-
-not-false : (b : Bool) → not b ≡ false → b ≡ true
-not-false true e = refl
-not-false false e = sym e
-
 and-false : (b : Bool) → (b && false) ≡ false
 and-false true = refl
 and-false false = refl
@@ -66,17 +58,17 @@ module _ (nlib : ℕ) (g : ℕ → Group) (n rule c : ℕ) where
   unfolding hasMarker bit
   marked-is k em es = rw (em, k.is c, es)
 
-  pub first-unmarked : 7 ≤ rule → {row : List ℕ} {m set : ℕ} {b : Bool} → Known g row → m ≡ get_or row c 0 → set ≡ 2 ^ ruleMarker rule → b ≡ eqb (m / set % 2) 1 → not b ≡ true → n
+  pub first-unmarked : 7 ≤ rule → {row : List ℕ} {m set : ℕ} {b : Bool} → Known g row → m ≡ get_or row c 0 → set ≡ 2 ^ ruleMarker rule → b ≡ eqb (m / set % 2) 1 → b ≡ false → n
       ≡ firstClass nlib g n rule c
   unfolding judgedFor
-  first-unmarked h {b = b} k em es eb e = none_of h (rw (← marked-is k em es, ← eb, not-true b e) (and-false (not (isInterface (g c)))))
+  first-unmarked h {b = b} k em es eb e = none_of h (rw (← marked-is k em es, ← eb, e) (and-false (not (isInterface (g c)))))
 
   pub first-up : 7 ≤ rule → {f : ℕ} → f ≡ u16 (classRecord (g c)) 4 → (f % 2 ≡ 1 → ⊥) → {row : List ℕ} {m set : ℕ} {b : Bool} → Known g row → m ≡ get_or row c 0 → set ≡ 2 ^ ruleMarker rule → b
-      ≡ eqb (m / set % 2) 1 → not b ≡ false
+      ≡ eqb (m / set % 2) 1 → b ≡ true
       → {x y : ℕ} → x ≡ y → y ≡ u16 (classRecord (g c)) 8 → x ≡ firstClass nlib g n rule c
   unfolding firstClass judgedFor isInterface bit flags superclass
-  first-up h {f} ef nf {b = has} k em es eb e a b =
-      rw (le-ltb rule 7 h, firstClass, ne_eqb (u16 (classRecord (g c)) 4 / 1 % 2) 1 (λ q. nf (omega (arith, ef, q))), ← marked-is k em es, ← eb, not-false has e) (a ∙ b)
+  first-up h {f} ef nf k em es eb e a b =
+      rw (le-ltb rule 7 h, firstClass, ne_eqb (u16 (classRecord (g c)) 4 / 1 % 2) 1 (λ q. nf (omega (arith, ef, q))), ← marked-is k em es, ← eb, e) (a ∙ b)
 
 -- ---- records
 

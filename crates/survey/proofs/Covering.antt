@@ -18,10 +18,6 @@ met q r e = rw (e, q)
 pub past : {a : Bool} → a ≡ false → {x r : Bool} → x ≡ (a || r) → x ≡ r
 past q e = rw (e, q)
 
--- one test, and then the other
-pub both-asked : {a b x y : Bool} → a ≡ x → a ≡ true → b ≡ y → not b ≡ (x && not y)
-both-asked ea e eb = rw (← ea, e, ← eb)
-
 -- ---- a set against the markers of a class
 
 module _ (m set : ℕ) where

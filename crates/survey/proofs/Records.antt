@@ -16,10 +16,10 @@ use Rattle.spec.specs.Refusals.{formRefusal}
 use Rattle.laws.proofs.All.{All, weaken}
 use Rattle.theory.proofs.Accept.{RecordFits, form-fits}
 use Rattle.theory.proofs.References.{references-refers}
-use Rattle.records.specs.Records.{recordAt, between, AtRecord, Carries}
+use Rattle.records.specs.Records.{recordAt, between, Carries}
 use Rattle.groups.specs.Groups.{Indexed}
 use Rattle.records.proofs.Walks.{walk_here}
-use Rattle.records.proofs.Seeking.{Seeking, seek-start, seek-next}
+use Rattle.records.proofs.Seeking.{Seeking, seek-next}
 use Rattle.breaks.specs.Breaking.{Refers}
 use Rattle.survey.specs.Survey.{headFails, recordBreaks}
 
@@ -43,9 +43,6 @@ module _ (nlib : ℕ) (g : ℕ → Group) (r : List ℕ) {a b d : Bool} (ea : a 
 pub record Looking (nlib n : ℕ) (g : ℕ → Group) (bytes : List ℕ) (at : ℕ) : Type 0 where
   pub seek : Seeking (recordBreaks nlib g) bytes at
   pub left : All (Refers n g) (between bytes at (length bytes))
-
-pub look-start : {nlib n : ℕ} {g : ℕ → Group} {bytes : List ℕ} → AtRecord bytes (length bytes) 0 → All (Refers n g) (between bytes 0 (length bytes)) → Looking nlib n g bytes 0
-look-start w h = record { seek = seek-start w; left = h }
 
 module _ {nlib n : ℕ} {g : ℕ → Group} {bytes : List ℕ} {at : ℕ} (w : Looking nlib n g bytes at) (h : at < length bytes) where
   left_here : All (Refers n g) (recordAt bytes at ∷ between bytes (at + u16 bytes at) (length bytes))

@@ -16,8 +16,15 @@ put_number-second-requires c =
 
 pub put-requires : goal.put-requires
 put-requires c =
-    omega (arith, c.put_word-opened.ensures.place, decimal-length c.args.classes, c.put_number-first.ensures.answer, c.put_word-on.ensures.place,
-      decimal-length c.args.faulted, c.put_number-second.ensures.answer)
+    omega (
+      arith,
+      c.put_word-opened.ensures.place,
+      decimal-length c.args.classes,
+      c.put_number-first.ensures.answer,
+      c.put_word-on.ensures.place,
+      decimal-length c.args.faulted,
+      c.put_number-second.ensures.answer,
+    )
 
 -- ---- the texts
 

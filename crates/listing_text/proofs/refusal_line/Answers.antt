@@ -11,8 +11,15 @@ use Rattle.listing_text.proofs.refusal_line.Goals.{After-put_number-second}
 
 second-low : (c : After-put_number-second) → c.put_number-second.result ≤ 55
 second-low c =
-    omega (arith, c.put_word-opened.ensures.place, decimal-length c.wide_byte.result, c.put_number-first.ensures.answer, c.put_word-on.ensures.place,
-      decimal-length c.wide_byte-2.result, c.put_number-second.ensures.answer)
+    omega (
+      arith,
+      c.put_word-opened.ensures.place,
+      decimal-length c.wide_byte.result,
+      c.put_number-first.ensures.answer,
+      c.put_word-on.ensures.place,
+      decimal-length c.wide_byte-2.result,
+      c.put_number-second.ensures.answer,
+    )
 
 pub put_word-on-requires : goal.put_word-on-requires
 put_word-on-requires c = (omega (arith, c.put_word-opened.ensures.place, decimal-length c.wide_byte.result, c.put_number-first.ensures.answer), omega arith)
@@ -29,8 +36,13 @@ put_number-third-requires c = omega (arith, second-low (goal.at.put_number-third
 
 pub put-requires : goal.put-requires
 put-requires c =
-    omega (arith, second-low (goal.at.put-requires c).After-put_number-second, c.put_word-further.ensures.place, decimal-length c.args.refusal.byte,
-      c.put_number-third.ensures.answer)
+    omega (
+      arith,
+      second-low (goal.at.put-requires c).After-put_number-second,
+      c.put_word-further.ensures.place,
+      decimal-length c.args.refusal.byte,
+      c.put_number-third.ensures.answer,
+    )
 
 -- ---- the texts
 
