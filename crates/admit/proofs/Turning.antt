@@ -9,7 +9,7 @@ use native.Mathlib.Omega.{arith}
 use lib.Dec.{T, ltb, nltb→le}
 use lib.ListN.{length}
 use borrow.Author.Tests.{lt-ltb, le-ltb}
-use Rattle.spec.specs.Lists.{first_of}
+use Rattle.spec.specs.Lists.{firstOf}
 use Rattle.spec.specs.Sheet.{classCount, total, group}
 use Rattle.spec.specs.Refusals.{Refusal as Reason, refuseIf, refusePlain, formRefusal, sheetRefusal, newRefusal, wholeGroup, groupRefusal, roomRefusal, shortRefusal, scratchLength}
 use Rattle.laws.proofs.Bools.{true-t, un_not, not-or-l, not-or-r}
@@ -53,7 +53,7 @@ module _ (library user g new : List ℕ) (lines scratch : ℕ) where
       stopped f (first_some _ (let o : groupRefusal g ≡ some (record { number = 14; sheet = 0; byte = 0 }) = rw (← e, t) in o))
 
   module _ {b : Bool} (eb : b ≡ wholeGroup g) (tb : b ≡ true) where
-    past-group : admitRefusal library user g new lines scratch ≡ first_of (roomRefusal user new ∷ newRefusal library new ∷ shortRefusal (classCount new) lines scratch ∷ [])
+    past-group : admitRefusal library user g new lines scratch ≡ firstOf (roomRefusal user new ∷ newRefusal library new ∷ shortRefusal (classCount new) lines scratch ∷ [])
     unfolding admitRefusal groupRefusal refusePlain refuseIf
     past-group = skip-none _ _ (let o : groupRefusal g ≡ none = rw (← eb, tb) in o)
 
@@ -73,12 +73,12 @@ module _ (library user g new : List ℕ) (lines scratch : ℕ) where
       whole : T (wholeGroup g)
       whole = true-t (sym eb ∙ tb)
 
-      past_room : admitRefusal library user g new lines scratch ≡ first_of (sheetRefusal library new ∷ shortRefusal (classCount new) lines scratch ∷ [])
+      past_room : admitRefusal library user g new lines scratch ≡ firstOf (sheetRefusal library new ∷ shortRefusal (classCount new) lines scratch ∷ [])
       unfolding roomRefusal refusePlain refuseIf
       past_room =
           past-group
           ∙ skip-none _ _ (let o : roomRefusal user new ≡ none = rw (le-ltb (length user) (length new) (omega arith), le-ltb 32768 (length new) (omega arith)) in o)
-          ∙ ap (λ (x : Option Reason). first_of (x ∷ shortRefusal (classCount new) lines scratch ∷ [])) (sym (plain.is whole))
+          ∙ ap (λ (x : Option Reason). firstOf (x ∷ shortRefusal (classCount new) lines scratch ∷ [])) (sym (plain.is whole))
 
       module _ {p : Checked} {row memo : List ℕ} (a : Checks (sheetRefusal library new) library new p row memo) where
         pub sheet-refused : {r : Refusal} → p ≡ Refused r → Admits p row memo

@@ -2,13 +2,13 @@
 -- Assumes nothing.
 use Rattle.std.specs.Prelude.{◌≡◌, List, [], ◌∷◌, ℕ, T}
 use Rattle.std.proofs.Math.Option.{Option}
-use Rattle.spec.specs.Lists.{first_of}
+use Rattle.spec.specs.Lists.{firstOf}
 use Rattle.spec.specs.Sheet.{classCount}
 use Rattle.spec.specs.Refusals.{Refusal, sheetRefusal, newRefusal, wholeGroup, groupRefusal, roomRefusal, shortRefusal}
 
 -- of a library sheet, a user buffer, a group, and the sheet that it makes
 unfoldable pub admitRefusal : List ℕ → List ℕ → List ℕ → List ℕ → ℕ → ℕ → Option Refusal
-admitRefusal library user g new lines scratch = first_of
+admitRefusal library user g new lines scratch = firstOf
     (groupRefusal g
     ∷ roomRefusal user new
     ∷ newRefusal library new

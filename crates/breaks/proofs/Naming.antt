@@ -16,7 +16,7 @@ use Rattle.spec.specs.Rules.{forbidden}
 use Rattle.laws.proofs.Rows.{set_below}
 use Rattle.records.specs.Records.{between, Carries}
 use Rattle.records.proofs.Carried.{class-word-in}
-use Rattle.named.specs.Named.{firstNamed, secondNamed, named_by}
+use Rattle.named.specs.Named.{firstNamed, secondNamed, namedBy}
 use Rattle.named.proofs.Meaning.{below, named-below}
 use Rattle.breaks.specs.Breaking.{closedBy, closedMember, partBy, Bans, NamesForbidden, Partial}
 use Rattle.slots.proofs.Bits.{clear}
@@ -117,7 +117,7 @@ any_below n q (x ∷ xs) = go (ltb x n) refl (any_below n q xs)
 
 module _ {nlib : ℕ} (g : ℕ → Group) (few : nlib ≤ 256) (r : List ℕ) where
   two : any (forbidden nlib g) (references r) ≡ (forbidden nlib g (firstNamed false r) || forbidden nlib g (secondNamed false r))
-  unfolding forbidden named_by
+  unfolding forbidden namedBy
   two =
       let q : ℕ → Bool = λ d. not (isAllowed (g d)) in
       let p : ℕ → Bool = λ d. ltb d nlib && q d in

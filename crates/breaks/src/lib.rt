@@ -4,7 +4,7 @@
 
 ghost use Rattle.std.specs.Prelude.{◌≡◌, not, ◌&&◌, ◌||◌, ℕ, ◌≤◌, ◌<◌, length, replicate};
 ghost use Rattle.spec.specs.Record.{u16, bit, isKind, REFERS, target, index};
-ghost use Rattle.spec.specs.Sheet.{Group, group as group_of};
+ghost use Rattle.spec.specs.Sheet.{Group, group as groupOf};
 ghost use Rattle.spec.specs.Markers.{Token, Throwable, Enum};
 ghost use Rattle.spec.specs.Rules.{memberAllowed, staticBreaks};
 ghost use Rattle.groups.specs.Groups.{Indexed};
@@ -71,7 +71,7 @@ fn part_closed(bytes: &[u8]) -> u8
 // Writes 1 for each library class that is not allowed and 2 more for one with a member that is not, so that a record is asked by a row.
 pub fn bans<'a>(library: &'a [u8], user: &'a [u8], starts: &[u16], classes: Classes, row: &mut [u8])
     ghost g: { ℕ → Group }
-    requires groups { group_of library.now user.now ≡ g }
+    requires groups { groupOf library.now user.now ≡ g }
     requires indexed { Indexed library.now user.now classes.library classes.all starts.now }
     requires row { row.old ≡ replicate 256 0 }
     ensures { Bans classes.library g row.new }
@@ -120,7 +120,7 @@ pub fn refers_forbidden<'a>(
     at: usize,
 ) -> bool
     ghost g: { ℕ → Group }
-    requires groups { group_of library.now user.now ≡ g }
+    requires groups { groupOf library.now user.now ≡ g }
     requires indexed { Indexed library.now user.now classes.library classes.all starts.now }
     requires sized { Sized bytes.now at }
     requires refers { Refers classes.all g (recordAt bytes.now at) }
@@ -214,7 +214,7 @@ pub fn breaks<'a>(
     step: Step,
 ) -> bool
     ghost g: { ℕ → Group }
-    requires groups { group_of library.now user.now ≡ g }
+    requires groups { groupOf library.now user.now ≡ g }
     requires judging { Judging library.now user.now starts.now classes facts.now lanes.now }
     requires at_step { AtStep g classes bytes.now step }
     ensures { result ≡ breaksAt classes.library g step.rule step.class step.asked step.number (recordAt bytes.now step.at) }

@@ -12,9 +12,9 @@ use lib.Dec.{T, eqb, leb, ltb, eqb→eq, leb→le, ltb→lt, lt→ltb}
 use lib.ListN.{length, get_or, take, get_or-map}
 use lib.Seq.{drop-cons}
 use Rattle.spec.specs.Lists.{keep, numbered}
-use Rattle.spec.specs.Record.{bit, none16, isKind, CLASS, LOCAL, BUILDS, flags, encloser, target, index, local_ty}
+use Rattle.spec.specs.Record.{bit, none16, isKind, CLASS, LOCAL, BUILDS, flags, encloser, target, index, localTy}
 use Rattle.spec.specs.Sheet.{Group, classCount, total, group, classRecord, ofKind}
-use Rattle.spec.specs.Classes.{Slot, variableSlot, locals, local_at, satisfies, captured, capturedSlots}
+use Rattle.spec.specs.Classes.{Slot, variableSlot, locals, localAt, satisfies, captured, capturedSlots}
 use Rattle.spec.specs.Relations.{Encloser, Builds, Uses, Chain, start, step, Captures}
 use Rattle.spec.specs.Relations as relations
 use Rattle.spec.specs.Refusals.{formRefusal, encloserFits}
@@ -27,12 +27,12 @@ use Rattle.theory.proofs.Form.{one-record, group-one-class, sound-falls, sound-t
 use Rattle.theory.proofs.Capture.{captured-is}
 use Rattle.groups.proofs.Few.{indexed-sound}
 use Rattle.groups.specs.Groups.{Indexed}
-use Rattle.named.specs.Named.{named_by}
-use Rattle.lanes.specs.Lanes.{Nested, direct, deeper, Draws, own, via, entry_at, SeedsFit, Least}
+use Rattle.named.specs.Named.{namedBy}
+use Rattle.lanes.specs.Lanes.{Nested, direct, deeper, Draws, own, via, entryAt, SeedsFit, Least}
 use Rattle.lanes.specs.Lanes as lanes
 use Rattle.lanes.proofs.Enclosing.{inside-lower, fits-lower}
 use Rattle.lanes.proofs.Chains.{draws-fit}
-use Rattle.reach.specs.Reach.{steps_of, outerOf}
+use Rattle.reach.specs.Reach.{stepsOf, outerOf}
 use Rattle.reach.proofs.Depending.{steps-in, in-steps}
 use Rattle.captured.specs.Captured.{laneMarker, lacksCaptured, Shown}
 use Rattle.captured.specs.Seeds.{Wanted}
@@ -57,8 +57,8 @@ locals_are j (r ∷ h) = go (isKind LOCAL r) (locals_are (suc j) h)
 variable : Group → ℕ → ℕ × List ℕ
 variable h i = get_or (locals h) i (0, [])
 
-variable-only : (h : Group) (i : ℕ) → i < length (locals h) → local_at h i ≡ variable h i ∷ []
-unfolding local_at variable
+variable-only : (h : Group) (i : ℕ) → i < length (locals h) → localAt h i ≡ variable h i ∷ []
+unfolding localAt variable
 variable-only h i l = ap (take 1) (drop-cons (locals h) i (0, []) l)
 
 variable-record : (h : Group) (i : ℕ) → (variable h i).1 ≡ get_or (ofKind LOCAL h) i []
@@ -67,14 +67,14 @@ variable-record h i =
     sym (get_or-map (λ (n : ℕ × List ℕ). n.1) (locals h) i (0, [])) ∙ ap (λ (rs : Group). get_or rs i []) (locals_are 0 h)
 
 -- the type of its slot, and the one slot that it has
-slot-type : (d : ℕ) (h : Group) (i : ℕ) → (variableSlot d (variable h i)).type ≡ local_ty (get_or (ofKind LOCAL h) i [])
+slot-type : (d : ℕ) (h : Group) (i : ℕ) → (variableSlot d (variable h i)).type ≡ localTy (get_or (ofKind LOCAL h) i [])
 unfolding variableSlot
-slot-type d h i = ap local_ty (variable-record h i)
+slot-type d h i = ap localTy (variable-record h i)
 
-slot-in : (d : ℕ) (h : Group) (i : ℕ) → i < length (locals h) → Memᴰ (variableSlot d (variable h i)) (map (variableSlot d) (local_at h i))
+slot-in : (d : ℕ) (h : Group) (i : ℕ) → i < length (locals h) → Memᴰ (variableSlot d (variable h i)) (map (variableSlot d) (localAt h i))
 slot-in d h i l = subst (λ (ns : List (ℕ × List ℕ)). Memᴰ (variableSlot d (variable h i)) (map (variableSlot d) ns)) (sym (variable-only h i l)) (Memᴰ.head refl)
 
-in-slot : (d : ℕ) (h : Group) (i : ℕ) (s : Slot) → i < length (locals h) → Memᴰ s (map (variableSlot d) (local_at h i)) → s ≡ variableSlot d (variable h i)
+in-slot : (d : ℕ) (h : Group) (i : ℕ) (s : Slot) → i < length (locals h) → Memᴰ s (map (variableSlot d) (localAt h i)) → s ≡ variableSlot d (variable h i)
 in-slot d h i s l m = Memᴰ.eq_of_singleton (subst (λ (ns : List (ℕ × List ℕ)). Memᴰ s (map (variableSlot d) ns)) (variable-only h i l) m)
 
 -- ---- enclosers of accepted sheets
@@ -133,21 +133,21 @@ module _ {library user : List ℕ} {nlib n : ℕ} {starts : List ℕ} (x : Index
 
   -- ---- chains
 
-  step-builds : (m : ℕ) {t : ℕ} → t < n → Memᴰ t (steps_of g true m) → Builds (g m) t
-  unfolding named_by
+  step-builds : (m : ℕ) {t : ℕ} → t < n → Memᴰ t (stepsOf g true m) → Builds (g m) t
+  unfolding namedBy
   step-builds m {t} h e =
-      let a = gather-mem (named_by true) (g m) t (steps-in g n (omega (arith, x.few)) true m t h e) in
+      let a = gather-mem (namedBy true) (g m) t (steps-in g n (omega (arith, x.few)) true m t h e) in
       let o = only-mem (isKind BUILDS a.source) (target a.source ∷ []) a.part in
       record { bytes = a.source; member = a.member; ofKind = o.0; is = sym (Memᴰ.eq_of_singleton o.1) }
 
   builds-below : (m : ℕ) {t : ℕ} → Builds (g m) t → t < n
   builds-below m {t} b = omega (arith, sound-there library user accepted m t (builds-reference (g m) t b), x.n-is)
 
-  builds-step : (m : ℕ) {t : ℕ} → Builds (g m) t → Memᴰ t (steps_of g true m)
-  unfolding named_by
+  builds-step : (m : ℕ) {t : ℕ} → Builds (g m) t → Memᴰ t (stepsOf g true m)
+  unfolding namedBy
   builds-step m {t} b =
       in-steps g n (omega (arith, x.few)) true m t (builds-below m b)
-      (mem-gather (named_by true) b.member (mem-only (isKind BUILDS b.bytes) (target b.bytes ∷ []) b.ofKind (Memᴰ.head (sym b.is))))
+      (mem-gather (namedBy true) b.member (mem-only (isKind BUILDS b.bytes) (target b.bytes ∷ []) b.ofKind (Memᴰ.head (sym b.is))))
 
   -- one step more at the front
   chain_first : {d l t m : ℕ} → relations.Inside g d l → Builds (g l) t → Chain g d t m → Chain g d l m
@@ -164,14 +164,14 @@ module _ {library user : List ℕ} {nlib n : ℕ} {starts : List ℕ} (x : Index
 
   -- ---- the seeds are the owners that each class itself wants
 
-  module _ (seeds : List ℕ) (fit : (k m : ℕ) → k < 3 → m < n → entry_at seeds k m < 255 → Wanted g (laneMarker k) m (g m) (entry_at seeds k m))
-      (low : (k m d : ℕ) → k < 3 → m < n → Wanted g (laneMarker k) m (g m) d → entry_at seeds k m ≤ d) where
+  module _ (seeds : List ℕ) (fit : (k m : ℕ) → k < 3 → m < n → entryAt seeds k m < 255 → Wanted g (laneMarker k) m (g m) (entryAt seeds k m))
+      (low : (k m d : ℕ) → k < 3 → m < n → Wanted g (laneMarker k) m (g m) d → entryAt seeds k m ≤ d) where
     pub seeds-fit : SeedsFit (outerOf g) n 3 seeds
     unfolding SeedsFit
     seeds-fit k m hk hm v = inr (fit k m hk hm v).within
 
     abbrev DrawsAt : ℕ → ℕ → ℕ → Type 0
-    DrawsAt k y m = Draws (steps_of g true) (outerOf g) n (entry_at seeds k) y m
+    DrawsAt k y m = Draws (stepsOf g true) (outerOf g) n (entryAt seeds k) y m
 
     draws-some : {k y m : ℕ} → k < 3 → m < n → y < 255 → DrawsAt k y m → 1 ≤ y
     draws-some {k} {y} {m} hk hm b (own e p) = omega (arith, e, inside-some (inside-to hm (fit k m hk hm (omega arith)).within))
@@ -210,23 +210,23 @@ module _ {library user : List ℕ} {nlib n : ℕ} {starts : List ℕ} (x : Index
     captures-is : (l d i : ℕ) → Memᴰ (d, i) (captured g l) ↔ Captures g l d i
     captures-is = captured-is g (sound-falls library user accepted) (sound-bound library user accepted) variables
 
-    module _ (after : List ℕ) (least : Least (steps_of g true) (outerOf g) n 3 seeds after) where
-      there : (k l : ℕ) → k < 3 → l < n → entry_at after k l < 255 → T (lacksCaptured g (laneMarker k) l)
+    module _ (after : List ℕ) (least : Least (stepsOf g true) (outerOf g) n 3 seeds after) where
+      there : (k l : ℕ) → k < 3 → l < n → entryAt after k l < 255 → T (lacksCaptured g (laneMarker k) l)
       unfolding lacksCaptured capturedSlots
       there k l hk hl v =
           let d = least.sound k l hk hl v in
           let q = draws-reached hk hl v (draws-some hk hl v d) d in
           let u = q.wanted in
-          let y = entry_at after k l in
+          let y = entryAt after k l in
           let i = index u.bytes in
           let s : Uses (g q.last) y i = record { bytes = u.bytes; member = u.member; ofKind = u.uses; owner = u.owner; variable = refl } in
           mem-any (lacks (laneMarker k))
-          (mem-gather (λ (v : ℕ × ℕ). map (variableSlot v.0) (local_at (g v.0) v.1)) ((captures-is l y i).1 (record { last = q.last; chain = q.chain; uses = s }))
+          (mem-gather (λ (v : ℕ × ℕ). map (variableSlot v.0) (localAt (g v.0) v.1)) ((captures-is l y i).1 (record { last = q.last; chain = q.chain; uses = s }))
           (slot-in y (g y) i (variables q.last y i s)))
           (false-t (ap (satisfies g (laneMarker k)) (slot-type y (g y) i) ∙ u.lacking))
 
       -- its owner is at least the entry of the class that uses it, and that entry passes down the chain
-      from-use : {k l d i : ℕ} → k < 3 → l < n → (c : Captures g l d i) → satisfies g (laneMarker k) (local_ty (get_or (ofKind LOCAL (g d)) i [])) ≡ false → entry_at after k l < 255
+      from-use : {k l d i : ℕ} → k < 3 → l < n → (c : Captures g l d i) → satisfies g (laneMarker k) (localTy (get_or (ofKind LOCAL (g d)) i [])) ≡ false → entryAt after k l < 255
       from-use {k} {l} {d} hk hl c e =
           let s = c.uses in
           let m = c.last in
@@ -237,18 +237,18 @@ module _ {library user : List ℕ} {nlib n : ℕ} {starts : List ℕ} (x : Index
             member = s.member;
             uses = s.ofKind;
             owner = s.owner;
-            lacking = ap (λ (i : ℕ). satisfies g (laneMarker k) (local_ty (get_or (ofKind LOCAL (g d)) i []))) s.variable ∙ e;
+            lacking = ap (λ (i : ℕ). satisfies g (laneMarker k) (localTy (get_or (ofKind LOCAL (g d)) i []))) s.variable ∙ e;
             within = j;
           }) in
           let b = inside-lower j in
           let w = fit k m hk hm (omega (arith, x.few)) in
-          omega (arith, a, b, x.few, least.least k l (entry_at seeds k m) hk hl (chain-draws k (entry_at seeds k m) hl a c.chain (own refl (inr w.within))))
+          omega (arith, a, b, x.few, least.least k l (entryAt seeds k m) hk hl (chain-draws k (entryAt seeds k m) hl a c.chain (own refl (inr w.within))))
 
-      back : (k l : ℕ) → k < 3 → l < n → T (lacksCaptured g (laneMarker k) l) → entry_at after k l < 255
+      back : (k l : ℕ) → k < 3 → l < n → T (lacksCaptured g (laneMarker k) l) → entryAt after k l < 255
       unfolding lacksCaptured capturedSlots
       back k l hk hl t =
           let h = any-mem (lacks (laneMarker k)) (capturedSlots g l) t in
-          let a = gather-mem (λ (v : ℕ × ℕ). map (variableSlot v.0) (local_at (g v.0) v.1)) (captured g l) h.0 h.1 in
+          let a = gather-mem (λ (v : ℕ × ℕ). map (variableSlot v.0) (localAt (g v.0) v.1)) (captured g l) h.0 h.1 in
           let d = a.source.0 in
           let i = a.source.1 in
           let c = (captures-is l d i).0 a.member in
@@ -259,6 +259,6 @@ module _ {library user : List ℕ} {nlib n : ℕ} {starts : List ℕ} (x : Index
       shown =
           record {
             lane = λ k l hk hl.
-                t_same (ltb (entry_at after k l) 255) (lacksCaptured g (laneMarker k) l) (λ t. there k l hk hl (ltb→lt (entry_at after k l) 255 t))
-                (λ t. lt→ltb (entry_at after k l) 255 (back k l hk hl t));
+                t_same (ltb (entryAt after k l) 255) (lacksCaptured g (laneMarker k) l) (λ t. there k l hk hl (ltb→lt (entryAt after k l) 255 t))
+                (λ t. lt→ltb (entryAt after k l) 255 (back k l hk hl t));
           }

@@ -13,7 +13,7 @@ use native.Mathlib.Omega.{arith}
 use lib.Dec.{T, eqb, lit<, lit≤, eqb→eq}
 use lib.ListN.{length, get_or, set, length-set}
 use lib.Seq.{get_or-set_same, get_or-set_other}
-use Rattle.spec.specs.Record.{u16, bit, kind, isKind, LOCAL, USES, target, index, ty_at, local_ty, references}
+use Rattle.spec.specs.Record.{u16, bit, kind, isKind, LOCAL, USES, target, index, tyAt, localTy, references}
 use Rattle.spec.specs.Sheet.{Group, classCount, total, group, ofKind}
 use Rattle.spec.specs.Classes.{satisfies}
 use Rattle.spec.specs.Refusals.{formRefusal}
@@ -31,8 +31,8 @@ use Rattle.overlay.specs.Types.{Known, typeMarkers, rowMarkers}
 use Rattle.overlay.proofs.Types.{row-markers, satisfies-bit}
 use Rattle.records.specs.Records.{Sized, recordAt, between, nthByte, AtRecord, Carries}
 use Rattle.records.proofs.Positions.{whole, long-enough, target_at, index_at, local-type-at, walk-sized}
-use Rattle.lanes.specs.Lanes.{Nested, Enclosers, entry_at, Other, SeedsFit, Least}
-use Rattle.reach.specs.Reach.{steps_of, outerOf, Emptied}
+use Rattle.lanes.specs.Lanes.{Nested, Enclosers, entryAt, Other, SeedsFit, Least}
+use Rattle.reach.specs.Reach.{stepsOf, outerOf, Emptied}
 use Rattle.reach.proofs.Scanning.{empty}
 use Rattle.reach.proofs.Library.{library-uses-none}
 use Rattle.captured.specs.Captured.{laneMarker, Captured}
@@ -153,9 +153,9 @@ module _ {bytes : List ℕ} {h : Group} (w : Carries bytes h) (i : ℕ) (l : i <
   pub variable-room : at + 8 ≤ length bytes
   variable-room = omega (arith, long-enough sized LOCAL local, (whole sized).ends)
 
-  pub variable-markers : {g : ℕ → Group} {row : List ℕ} → Known g row → {r : ℕ} → r ≡ rowMarkers row (ty_at bytes (at + 4)) → r ≡ typeMarkers g (local_ty (get_or (ofKind LOCAL h) i []))
+  pub variable-markers : {g : ℕ → Group} {row : List ℕ} → Known g row → {r : ℕ} → r ≡ rowMarkers row (tyAt bytes (at + 4)) → r ≡ typeMarkers g (localTy (get_or (ofKind LOCAL h) i []))
   unfolding recordAt
-  variable-markers {row = row} k e = e ∙ ap (rowMarkers row) (sym (local-type-at sized local) ∙ ap local_ty stands.is) ∙ row-markers k _
+  variable-markers {row = row} k e = e ∙ ap (rowMarkers row) (sym (local-type-at sized local) ∙ ap localTy stands.is) ∙ row-markers k _
 
 -- ---- a record
 
@@ -200,13 +200,13 @@ module _ {library user : List ℕ} {nlib n : ℕ} {starts : List ℕ} (x : Index
       variable-there = rw (number, owner) (fits.local (eq→eqb uses))
 
       -- the lanes whose marker the variable's type lacks are lowered to its owner
-      pub record-uses : {markers : ℕ} {marks row row' : List ℕ} → markers ≡ typeMarkers g (local_ty (get_or (ofKind LOCAL (g d)) i [])) → Enclosers (outerOf g) m marks
+      pub record-uses : {markers : ℕ} {marks row row' : List ℕ} → markers ≡ typeMarkers g (localTy (get_or (ofKind LOCAL (g d)) i [])) → Enclosers (outerOf g) m marks
           → Lowering (InLanes marks markers 3 m d) row row'
           → Lowering (ByRecords g m (recordAt s at ∷ [])) row row'
       record-uses {markers} {marks} em right f = lower-same f there back
         where
-          bit_is : (j : ℕ) → satisfies g (laneMarker j) (local_ty (get_or (ofKind LOCAL (g d)) i [])) ≡ bit (laneMarker j) markers
-          bit_is j = satisfies-bit g (laneMarker j) (local_ty (get_or (ofKind LOCAL (g d)) i [])) (marker-low j) ∙ ap (bit (laneMarker j)) (sym em)
+          bit_is : (j : ℕ) → satisfies g (laneMarker j) (localTy (get_or (ofKind LOCAL (g d)) i [])) ≡ bit (laneMarker j) markers
+          bit_is j = satisfies-bit g (laneMarker j) (localTy (get_or (ofKind LOCAL (g d)) i [])) (marker-low j) ∙ ap (bit (laneMarker j)) (sym em)
 
           there : (j y : ℕ) → InLanes marks markers 3 m d j y → ByRecords g m (recordAt s at ∷ []) j y
           there j y q =
@@ -219,7 +219,7 @@ module _ {library user : List ℕ} {nlib n : ℕ} {starts : List ℕ} (x : Index
                   member = Memᴰ.head refl;
                   uses = eq→eqb uses;
                   owner = sym owner;
-                  lacking = ap (λ (c : ℕ). satisfies g (laneMarker q.lane) (local_ty (get_or (ofKind LOCAL (g d)) c []))) (sym number) ∙ bit_is q.lane ∙ q.of.lacking;
+                  lacking = ap (λ (c : ℕ). satisfies g (laneMarker q.lane) (localTy (get_or (ofKind LOCAL (g d)) c []))) (sym number) ∙ bit_is q.lane ∙ q.of.lacking;
                   within = right.only d q.marked;
                 });
               }
@@ -235,7 +235,7 @@ module _ {library user : List ℕ} {nlib n : ℕ} {starts : List ℕ} (x : Index
                 lane = q.lane;
                 below = q.below;
                 of = record {
-                  lacking = sym (bit_is q.lane) ∙ ap₂ (λ (c b : ℕ). satisfies g (laneMarker q.lane) (local_ty (get_or (ofKind LOCAL (g c)) b []))) (sym ey) (sym ei) ∙ w.lacking;
+                  lacking = sym (bit_is q.lane) ∙ ap₂ (λ (c b : ℕ). satisfies g (laneMarker q.lane) (localTy (get_or (ofKind LOCAL (g c)) b []))) (sym ey) (sym ei) ∙ w.lacking;
                   entry = q.entry;
                   owner = ey;
                 };
@@ -318,7 +318,7 @@ module _ {g : ℕ → Group} where
 module _ {library user : List ℕ} {nlib n : ℕ} {starts : List ℕ} (x : Indexed library user nlib n starts) (ok : formRefusal library user ≡ none) {before clear seeds : List ℕ}
     (c : Emptied 768 before clear)
     (f : Lowering (ByClasses (group library user) n) clear seeds) where
-  fit : (k m : ℕ) → k < 3 → m < n → entry_at seeds k m < 255 → Wanted (group library user) (laneMarker k) m (group library user m) (entry_at seeds k m)
+  fit : (k m : ℕ) → k < 3 → m < n → entryAt seeds k m < 255 → Wanted (group library user) (laneMarker k) m (group library user m) (entryAt seeds k m)
   fit k m hk hm v = ⊎_elim (λ e. absurd (omega (arith, c.none (k * 256 + m) (omega (arith, x.few)), e))) (λ q. go q) (f.from (k * 256 + m))
     where
       go : {d : ℕ} → ByClasses (group library user) n (k * 256 + m) d → Wanted (group library user) (laneMarker k) m (group library user m) d
@@ -328,13 +328,13 @@ module _ {library user : List ℕ} {nlib n : ℕ} {starts : List ℕ} (x : Index
           subst (λ (j : ℕ). Wanted (group library user) (laneMarker k) j (group library user j) d) em
           (subst (λ (j : ℕ). Wanted (group library user) (laneMarker j) q.class (group library user q.class) d) ek q.of.wanted)
 
-  low : (k m d : ℕ) → k < 3 → m < n → Wanted (group library user) (laneMarker k) m (group library user m) d → entry_at seeds k m ≤ d
+  low : (k m d : ℕ) → k < 3 → m < n → Wanted (group library user) (laneMarker k) m (group library user m) d → entryAt seeds k m ≤ d
   low k m d hk hm w = f.low (k * 256 + m) d (record { class = m; below = hm; of = record { lane = k; below = hk; entry = refl; wanted = w } })
 
   pub captures-fit : SeedsFit (outerOf (group library user)) n 3 seeds
   captures-fit = seeds-fit x ok seeds fit low
 
-  pub captures-end : {after : List ℕ} → Least (steps_of (group library user) true) (outerOf (group library user)) n 3 seeds after → length after ≡ length seeds
+  pub captures-end : {after : List ℕ} → Least (stepsOf (group library user) true) (outerOf (group library user)) n 3 seeds after → length after ≡ length seeds
       → Captured (group library user) n before after
   unfolding Other
   captures-end {after} l e =

@@ -5,7 +5,7 @@ use Rattle.spec.specs.Lists.{any}
 use Rattle.spec.specs.Sheet.{Group}
 use Rattle.spec.specs.Markers.{Immutable, Powerless, DeepSelfless}
 use Rattle.spec.specs.Classes.{satisfies, capturedSlots}
-use Rattle.lanes.specs.Lanes.{entry_at}
+use Rattle.lanes.specs.Lanes.{entryAt}
 
 -- the marker of each of the three lanes: those that rules 7, 8 and 10 ask
 unfoldable pub laneMarker : ℕ → ℕ
@@ -17,7 +17,7 @@ lacksCaptured g k l = any (λ s. not (satisfies g k s.type)) (capturedSlots g l)
 
 -- three lanes: an owner stands exactly at the classes that capture a variable whose type lacks the lane's marker. Which of its owners stands there is left open.
 pub record Shown (g : ℕ → Group) (n : ℕ) (row : List ℕ) : Type 0 where
-  pub lane : (k l : ℕ) → k < 3 → l < n → ltb (entry_at row k l) 255 ≡ lacksCaptured g (laneMarker k) l
+  pub lane : (k l : ℕ) → k < 3 → l < n → ltb (entryAt row k l) 255 ≡ lacksCaptured g (laneMarker k) l
 
 -- the lanes are shown, and the row past them is as before
 pub record Captured (g : ℕ → Group) (n : ℕ) (before after : List ℕ) : Type 0 where

@@ -2,7 +2,7 @@
 -- Assumes nothing.
 use Rattle.std.specs.Prelude.{◌≡◌, false, ◌⊎◌, ℕ, ◌+◌, ◌*◌, ◌≤◌, ◌<◌, T, length, get_or}
 use mathlib.Core.List.{List, [], Memᴰ}
-use Rattle.spec.specs.Record.{bit, isKind, LOCAL, USES, target, index, local_ty}
+use Rattle.spec.specs.Record.{bit, isKind, LOCAL, USES, target, index, localTy}
 use Rattle.spec.specs.Sheet.{Group, ofKind}
 use Rattle.spec.specs.Classes.{satisfies}
 use Rattle.lanes.specs.Lanes.{Nested}
@@ -39,7 +39,7 @@ pub record Wanted (g : ℕ → Group) (k m : ℕ) (rs : Group) (d : ℕ) : Type 
   pub member : Memᴰ bytes rs
   pub uses : T (isKind USES bytes)
   pub owner : target bytes ≡ d
-  pub lacking : satisfies g k (local_ty (get_or (ofKind LOCAL (g d)) (index bytes) [])) ≡ false
+  pub lacking : satisfies g k (localTy (get_or (ofKind LOCAL (g d)) (index bytes) [])) ≡ false
   pub within : Nested (outerOf g) d m
 
 -- entry i is that of class m in one of three lanes, and x is an owner that its records make it want

@@ -3,11 +3,11 @@
 
 ghost use Rattle.std.specs.Prelude.{◌≡◌, [], ℕ, ◌^◌, ◌≤◌, ◌<◌, ltb, length, get_or};
 ghost use Rattle.std.proofs.Math.Option.{none};
-ghost use Rattle.spec.specs.Record.{LOCAL, local_ty};
-ghost use Rattle.spec.specs.Sheet.{Group, group as group_of, ofKind};
+ghost use Rattle.spec.specs.Record.{LOCAL, localTy};
+ghost use Rattle.spec.specs.Sheet.{Group, group as groupOf, ofKind};
 ghost use Rattle.spec.specs.Refusals.{formRefusal};
 ghost use Rattle.groups.specs.Groups.{Indexed};
-ghost use Rattle.lanes.specs.Lanes.{entry_at};
+ghost use Rattle.lanes.specs.Lanes.{entryAt};
 ghost use Rattle.overlay.specs.Types.{Known, typeMarkers};
 ghost use Rattle.captured.specs.Captured.{laneMarker, Captured};
 ghost use Rattle.captured.specs.Seeds.{Lowering, InLane, InLanes, ByRecords, ByClasses};
@@ -51,11 +51,11 @@ fn variable_markers<'a>(
     i: usize,
 ) -> u8
     ghost g: { ℕ → Group }
-    requires groups { group_of library.now user.now ≡ g }
+    requires groups { groupOf library.now user.now ≡ g }
     requires indexed { Indexed library.now user.now classes.library classes.all starts.now }
     requires known { Known g markers.now }
     requires there { (d < classes.all) × (i < length (ofKind LOCAL (g d))) }
-    ensures { result ≡ typeMarkers g (local_ty (get_or (ofKind LOCAL (g d)) i [])) }
+    ensures { result ≡ typeMarkers g (localTy (get_or (ofKind LOCAL (g d)) i [])) }
 {
     let bytes = class_bytes(library, user, starts, classes, d);
     let at = nth_in(bytes, LOCAL, i);
@@ -103,7 +103,7 @@ fn seed_records<'a>(
     row: &mut [u8],
 )
     ghost g: { ℕ → Group }
-    requires groups { group_of library.now user.now ≡ g }
+    requires groups { groupOf library.now user.now ≡ g }
     requires indexed { Indexed library.now user.now classes.library classes.all starts.now }
     requires accepted { formRefusal library.now user.now ≡ none }
     requires known { Known g markers.now }
@@ -137,7 +137,7 @@ fn seed_class<'a>(
     row: &mut [u8],
 )
     ghost g: { ℕ → Group }
-    requires groups { group_of library.now user.now ≡ g }
+    requires groups { groupOf library.now user.now ≡ g }
     requires indexed { Indexed library.now user.now classes.library classes.all starts.now }
     requires accepted { formRefusal library.now user.now ≡ none }
     requires known { Known g markers.now }
@@ -161,7 +161,7 @@ fn seed<'a>(
     row: &mut [u8],
 )
     ghost g: { ℕ → Group }
-    requires groups { group_of library.now user.now ≡ g }
+    requires groups { groupOf library.now user.now ≡ g }
     requires indexed { Indexed library.now user.now classes.library classes.all starts.now }
     requires accepted { formRefusal library.now user.now ≡ none }
     requires known { Known g markers.now }
@@ -185,7 +185,7 @@ pub fn captures<'a>(
     row: &mut [u8],
 )
     ghost g: { ℕ → Group }
-    requires groups { group_of library.now user.now ≡ g }
+    requires groups { groupOf library.now user.now ≡ g }
     requires indexed { Indexed library.now user.now classes.library classes.all starts.now }
     requires accepted { formRefusal library.now user.now ≡ none }
     requires known { Known g markers.now }
@@ -200,7 +200,7 @@ pub fn captures<'a>(
 // Whether class l has an owner in lane k.
 pub fn lacking(row: &[u8], k: usize, l: usize) -> bool
     requires { (k < 3) × (l < 256) }
-    ensures { result ≡ ltb (entry_at row.now k l) 255 }
+    ensures { result ≡ ltb (entryAt row.now k l) 255 }
 {
     entry(row, k * LANE + l) < NO_OWNER
 }

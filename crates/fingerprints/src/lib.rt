@@ -4,7 +4,7 @@
 ghost use Rattle.std.specs.Prelude.{◌≡◌, ℕ, ◌≤◌, ◌<◌, length, take, drop};
 ghost use Rattle.spec.specs.Lists.{elem};
 ghost use Rattle.spec.specs.Record.{className};
-ghost use Rattle.spec.specs.Sheet.{Group, group as group_of, classRecord};
+ghost use Rattle.spec.specs.Sheet.{Group, group as groupOf, classRecord};
 ghost use Rattle.view.specs.View.{spliced, Views};
 ghost use Rattle.records.specs.Records.{recordAt};
 ghost use Rattle.fingerprints.specs.Fingerprints.{printWith, printOf, Opens, Printed};
@@ -44,7 +44,7 @@ fn class_print<'a>(
     c: usize,
 ) -> u16
     ghost g: { ℕ → Group }
-    requires groups { group_of library.now (spliced user.now group.now view.cut) ≡ g }
+    requires groups { groupOf library.now (spliced user.now group.now view.cut) ≡ g }
     requires views { Views view library.now user.now group.now starts.now }
     requires there { c < view.classes.all }
     ensures { result ≡ printOf (className (classRecord (g c))) }
@@ -62,7 +62,7 @@ pub fn prints<'a>(
     row: &mut [u16],
 )
     ghost g: { ℕ → Group }
-    requires groups { group_of library.now (spliced user.now group.now view.cut) ≡ g }
+    requires groups { groupOf library.now (spliced user.now group.now view.cut) ≡ g }
     requires views { Views view library.now user.now group.now starts.now }
     requires long { view.classes.all ≤ length row.old }
     ensures first { Printed g view.classes.all row.new }

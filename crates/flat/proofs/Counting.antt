@@ -10,7 +10,7 @@ use lib.Dec.{eqb}
 use lib.ListN.{length, get_or}
 use borrow.Author.Tests.{eq-eqb, ne_eqb}
 use Rattle.spec.specs.Lists.{count, span}
-use Rattle.spec.specs.Verdicts.{verdictBytes, flatLines, flat_at}
+use Rattle.spec.specs.Verdicts.{verdictBytes, flatLines, flatAt}
 use Rattle.laws.proofs.Count.{step, count_none, count-more}
 use Rattle.flat.specs.Row.{faultedIn, markedIn}
 
@@ -53,15 +53,15 @@ count-end {p} f h = f.now ∙ ap (λ (k : ℕ). count p (span 0 k)) (omega (arit
 -- ---- what is counted
 
 abbrev pub faultedAt : List ℕ → ℕ → Bool
-faultedAt row i = not (eqb (flat_at row i).rule 0)
+faultedAt row i = not (eqb (flatAt row i).rule 0)
 
 module _ (row : List ℕ) (i : ℕ) where
   pub rule-clean : {x : ℕ} → x ≡ get_or row (verdictBytes * i) 0 → x ≡ 0 → faultedAt row i ≡ false
-  unfolding flat_at
+  unfolding flatAt
   rule-clean e z = rw (eq-eqb (get_or row (verdictBytes * i) 0) 0 (sym e ∙ z))
 
   pub rule-broken : {x : ℕ} → x ≡ get_or row (verdictBytes * i) 0 → (x ≡ 0 → ⊥) → faultedAt row i ≡ true
-  unfolding flat_at
+  unfolding flatAt
   rule-broken e z = rw (ne_eqb (get_or row (verdictBytes * i) 0) 0 (λ w. z (e ∙ w)))
 
 pub faulted-is : (row : List ℕ) {end k m : ℕ} → m ≡ count (faultedAt row) (span 0 end) → end ≡ k → m ≡ faultedIn row k

@@ -13,7 +13,7 @@ use Rattle.spec.specs.Rules.{Verdict}
 use Rattle.spec.specs.Verdicts.{flatLines, flatRewritten}
 use Rattle.laws.proofs.Bools.{false-t, true-t}
 use Rattle.theory.proofs.FlatRow.{rewritten-lines, rewritten-none, rewritten-same, rewritten-more}
-use Rattle.flat.specs.Row.{put_at, chosen}
+use Rattle.flat.specs.Row.{putAt, chosen}
 
 pub record Rewriting (nlib n : ℕ) (v : ℕ → Verdict) (marks before row : List ℕ) (c : ℕ) : Type 0 where
   pub low : nlib ≤ c
@@ -66,16 +66,16 @@ module _ {nlib n : ℕ} {v : ℕ → Verdict} {marks before row : List ℕ} {c :
     now = e ∙ f.now ∙ rewritten-same v before (chosen nlib c marks) (chosen nlib (c + 1) marks) (λ i. kept nlib c marks i q);
   }
 
-  pub rewrite-put : c < n → get_or marks c 0 ≡ 0 → n - nlib ≤ flatLines before → {w : Verdict} → w ≡ v (c - nlib) → {row' : List ℕ} → row' ≡ put_at (c - nlib) w row
+  pub rewrite-put : c < n → get_or marks c 0 ≡ 0 → n - nlib ≤ flatLines before → {w : Verdict} → w ≡ v (c - nlib) → {row' : List ℕ} → row' ≡ putAt (c - nlib) w row
       → Rewriting nlib n v marks before row' (c + 1)
-  unfolding put_at
+  unfolding putAt
   rewrite-put h q room ew e =
       let z : nlib + (c - nlib) ≡ c = omega (arith, f.low) in
       record {
         low = omega (arith, f.low);
         high = omega arith;
         now =
-            e ∙ ap₂ (put_at (c - nlib)) ew f.now
+            e ∙ ap₂ (putAt (c - nlib)) ew f.now
             ∙ rewritten-more v before (chosen nlib c marks) (chosen nlib (c + 1) marks) (c - nlib) (omega (arith, f.low)) (true-t (here nlib c marks (c - nlib) z q))
             (λ k ne. others nlib c marks k (λ z. ne (omega (arith, z))));
       }

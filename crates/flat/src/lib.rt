@@ -3,7 +3,7 @@
 
 ghost use Rattle.std.specs.Prelude.{◌≡◌, ℕ, ◌+◌, ◌-◌, ◌≤◌, ◌<◌, min, length, replicate};
 ghost use Rattle.std.proofs.Math.Option.{none};
-ghost use Rattle.spec.specs.Sheet.{Group, group as group_of};
+ghost use Rattle.spec.specs.Sheet.{Group, group as groupOf};
 ghost use Rattle.spec.specs.Rules.{verdictOf};
 ghost use Rattle.spec.specs.Refusals.{formRefusal, scratchLength};
 ghost use Rattle.spec.specs.Promises.{cleared};
@@ -12,10 +12,10 @@ ghost use Rattle.groups.specs.Groups.{Indexed};
 ghost use Rattle.overlay.specs.Memo.{memoOf};
 ghost use Rattle.captured.specs.Captured.{Captured};
 ghost use Rattle.breaks.specs.Breaking.{Judging};
-ghost use Rattle.rules.specs.Line.{line_of};
+ghost use Rattle.rules.specs.Line.{lineOf};
 ghost use Rattle.rules.specs.Walk.{Kept};
 ghost use Rattle.survey.specs.Survey.{Passing, setsIn};
-ghost use Rattle.flat.specs.Row.{put_at, chosen, faultedIn, markedIn};
+ghost use Rattle.flat.specs.Row.{putAt, chosen, faultedIn, markedIn};
 
 use breaks::{BANS_AT, FACTS, SETS_AT, bans};
 use captured::captures;
@@ -39,7 +39,7 @@ fn learn<'a>(
     lanes: &mut [u8],
 )
     ghost g: { ℕ → Group }
-    requires groups { group_of library.now user.now ≡ g }
+    requires groups { groupOf library.now user.now ≡ g }
     requires indexed { Indexed library.now user.now classes.library classes.all starts.now }
     requires accepted { formRefusal library.now user.now ≡ none }
     requires memo { memo.old ≡ memoOf g classes.library }
@@ -69,12 +69,12 @@ fn judged<'a>(
     kept: &mut [u8],
 ) -> Verdict
     ghost g: { ℕ → Group }
-    requires groups { group_of library.now user.now ≡ g }
+    requires groups { groupOf library.now user.now ≡ g }
     requires judging { Judging library.now user.now starts.now classes facts.now lanes.now }
     requires passing { Passing classes.library classes.all g (setsIn facts.now) }
     requires user_class { (classes.library ≤ c) × (c < classes.all) }
     requires kept { Kept classes.library classes.all g kept.old }
-    ensures verdict { line_of result ≡ verdictOf classes.library g c }
+    ensures verdict { lineOf result ≡ verdictOf classes.library g c }
     ensures kept { Kept classes.library classes.all g kept.new }
 {
     if clean(library, user, starts, classes, facts, c) {
@@ -86,7 +86,7 @@ fn judged<'a>(
 // Writes line i of the row.
 fn put(verdicts: &mut [u8], i: usize, verdict: Verdict)
     requires { i < flatLines verdicts.old }
-    ensures { verdicts.new ≡ put_at i (line_of verdict) verdicts.old }
+    ensures { verdicts.new ≡ putAt i (lineOf verdict) verdicts.old }
 {
     let at = VERDICT_BYTES * i;
     verdicts[at] = verdict.rule;
@@ -105,7 +105,7 @@ fn rewrite<'a>(
     verdicts: &mut [u8],
 )
     ghost g: { ℕ → Group }
-    requires groups { group_of library.now user.now ≡ g }
+    requires groups { groupOf library.now user.now ≡ g }
     requires judging { Judging library.now user.now starts.now classes facts.now lanes.now }
     requires passing { Passing classes.library classes.all g (setsIn facts.now) }
     requires long { (256 ≤ length marks.now) × (classes.all - classes.library ≤ flatLines verdicts.old) }
@@ -137,7 +137,7 @@ pub fn rejudge<'a>(
     scratch: &mut [u8],
 )
     ghost g: { ℕ → Group }
-    requires groups { group_of library.now user.now ≡ g }
+    requires groups { groupOf library.now user.now ≡ g }
     requires indexed { Indexed library.now user.now classes.library classes.all starts.now }
     requires accepted { formRefusal library.now user.now ≡ none }
     requires memo { memo.old ≡ memoOf g classes.library }

@@ -9,7 +9,7 @@ use native.Mathlib.Omega.{arith}
 use lib.Dec.{ltb}
 use lib.ListN.{length, take, replicate}
 use borrow.Author.Tests.{lt-ltb, le-ltb}
-use Rattle.spec.specs.Lists.{first_of}
+use Rattle.spec.specs.Lists.{firstOf}
 use Rattle.spec.specs.Sheet.{classCount, total, group, groupStart, locatedIn, located}
 use Rattle.spec.specs.Refusals.{Refusal as Reason, refuseIf, refuseRecord, formTests, deemedTests, recordRefusal, tornRefusal, noClassRefusal}
 use Rattle.spec.specs.Refusals.{formRefusal, deemedRefusal, sheetRefusal, sizeRefusal, presentRefusal}
@@ -21,7 +21,7 @@ use Rattle.pass.specs.Pass.{passOf}
 use Rattle.pass.specs.declared.Pass.{Pass}
 use Rattle.pass.specs.declared.Pass.TheVariants.{Fine as Passes, Refused as Stops}
 use Rattle.pass.proofs.Places.{answer}
-use Rattle.groups.specs.Groups.{start_of, Indexed}
+use Rattle.groups.specs.Groups.{startOf, Indexed}
 use Rattle.groups.proofs.Held.{in-library}
 use Rattle.overlay.specs.Memo.{memoOf}
 use Rattle.overlay.proofs.Memos.{memo-none, memo-length}
@@ -38,8 +38,8 @@ use Rattle.form.proofs.Alone.{alone-falls, alone-deemed, alone-memo}
 
 -- ---- answers along two sheets
 
-first-split : {A B : Type 0} (f : A → Option B) (xs ys : List A) → first_of (map f (xs ++ ys)) ≡ first_of (first_of (map f xs) ∷ first_of (map f ys) ∷ [])
-first-split f xs ys = ap first_of (map-append f xs ys) ∙ first-append (map f xs) (map f ys) ∙ keep-head _ _ _ (sym (first-only _))
+first-split : {A B : Type 0} (f : A → Option B) (xs ys : List A) → firstOf (map f (xs ++ ys)) ≡ firstOf (firstOf (map f xs) ∷ firstOf (map f ys) ∷ [])
+first-split f xs ys = ap firstOf (map-append f xs ys) ∙ first-append (map f xs) (map f ys) ∙ keep-head _ _ _ (sym (first-only _))
 
 -- ---- the rows
 
@@ -77,7 +77,7 @@ module _ {o : Option Reason} {library user row memo : List ℕ} where
 
 module _ (library user : List ℕ) where
   pub form-parts : formRefusal library user
-      ≡ first_of
+      ≡ firstOf
       (formIn (group library user) (classCount library) (total library user) 0 0 library
       ∷ formIn (group library user) (classCount library) (total library user) 1 (classCount library) user
       ∷ [])
@@ -90,16 +90,16 @@ module _ (library user : List ℕ) where
   -- ---- the deemed markers
 
   deemed-parts : deemedRefusal library user
-      ≡ first_of
-      (first_of (map (answer (deemedTests (group library user) (classCount library))) (locatedIn 0 0 library))
-      ∷ first_of (map (answer (deemedTests (group library user) (classCount library))) (locatedIn 1 (classCount library) user))
+      ≡ firstOf
+      (firstOf (map (answer (deemedTests (group library user) (classCount library))) (locatedIn 0 0 library))
+      ∷ firstOf (map (answer (deemedTests (group library user) (classCount library))) (locatedIn 1 (classCount library) user))
       ∷ [])
   unfolding deemedRefusal answer located
   deemed-parts = first-split (λ l. refuseRecord l (deemedTests (group library user) (classCount library) l)) (locatedIn 0 0 library) (locatedIn 1 (classCount library) user)
 
   -- ---- the whole
 
-  pub sheet-parts : sheetRefusal library user ≡ first_of (passesRefusal library user ∷ laterRefusal library user ∷ [])
+  pub sheet-parts : sheetRefusal library user ≡ firstOf (passesRefusal library user ∷ laterRefusal library user ∷ [])
   unfolding sheetRefusal passesRefusal laterRefusal
   sheet-parts =
       first-append
@@ -114,7 +114,7 @@ form-names library user nlib n sheet m s = along-names (formTests (group library
 
 module _ {library user : List ℕ} {nlib n : ℕ} {row : List ℕ} (x : Indexed library user nlib n row) where
   form-sheets : formRefusal library user
-      ≡ first_of (formIn (group library user) nlib n 0 (classesStart nlib 0) library ∷ formIn (group library user) nlib n 1 (classesStart nlib 1) user ∷ [])
+      ≡ firstOf (formIn (group library user) nlib n 0 (classesStart nlib 0) library ∷ formIn (group library user) nlib n 1 (classesStart nlib 1) user ∷ [])
   unfolding classesStart
   form-sheets = rw (x.nlib-is, x.n-is) (form-parts library user)
 
@@ -122,18 +122,18 @@ module _ {library user : List ℕ} {nlib n : ℕ} {row : List ℕ} (x : Indexed 
   first-deemed = ap (firstDeemed (group library user)) x.nlib-is
 
   module _ {c : ℕ} (e : c ≡ firstDeemed (group library user) nlib) where
-    deemed-at : deemedRefusal library user ≡ first_of (refuseIf (ltb c nlib) 11 0 (groupStart library c) ∷ none ∷ [])
+    deemed-at : deemedRefusal library user ≡ firstOf (refuseIf (ltb c nlib) 11 0 (groupStart library c) ∷ none ∷ [])
     deemed-at =
         let q = e ∙ first-deemed in
         deemed-parts library user
         ∙ rw (library-deemed (group library user) (classCount library) library x.library-clear.loose refl, user-deemed (group library user) (classCount library) user, ← q, ← x.nlib-is)
 
-    pub deemed-found : c < nlib → {b : ℕ} → b ≡ start_of library user c → deemedRefusal library user ≡ some (record { number = 11; sheet = 0; byte = b })
-    unfolding refuseIf first_of
+    pub deemed-found : c < nlib → {b : ℕ} → b ≡ startOf library user c → deemedRefusal library user ≡ some (record { number = 11; sheet = 0; byte = b })
+    unfolding refuseIf firstOf
     deemed-found h eb = deemed-at ∙ rw (lt-ltb c nlib h, eb, (in-library x h).start)
 
     pub deemed-none : (c < nlib → ⊥) → deemedRefusal library user ≡ none
-    unfolding refuseIf first_of
+    unfolding refuseIf firstOf
     deemed-none h = deemed-at ∙ rw (le-ltb c nlib (omega arith))
 
   -- what a call of the later checks promises
@@ -191,7 +191,7 @@ module _ {library user : List ℕ} {nlib n : ℕ} {row : List ℕ} (x : Indexed 
             indexed = λ _. rw (← x.nlib-is, ← x.n-is) x;
           }
 
-          pub later-deemed : c < nlib → {b : ℕ} → b ≡ start_of library user c → Later (refuse 11 0 b) memo
+          pub later-deemed : c < nlib → {b : ℕ} → b ≡ startOf library user c → Later (refuse 11 0 b) memo
           later-deemed l e = let o = then-deemed ∙ deemed-found h.0 l e in (rw o, rows (λ n. absurd (some≢none _ (sym o ∙ n))))
 
           pub later-fine : (c < nlib → ⊥) → Later (fine nlib n) memo
@@ -246,7 +246,7 @@ module _ (library user : List ℕ) (used : ℕ) where
     refused e = let o = size-first e in record { answered = rw o; ready = ready-fresh o rows }
 
     pub library-long : 32768 < length library → Answers (refuse 1 0 0) row memo
-    unfolding sizeRefusal refuseIf first_of
+    unfolding sizeRefusal refuseIf firstOf
     library-long h = refused (let o : sizeRefusal library user used ≡ some (record { number = 1; sheet = 0; byte = 0 }) = rw (lt-ltb 32768 (length library) h) in o)
 
   module _ (l : 32768 < length library → ⊥) where

@@ -13,7 +13,7 @@ use lib.Seq.{ext_get_or}
 use borrow.Author.Tests.{lt-ltb}
 use Rattle.spec.specs.Lists.{concat, span}
 use Rattle.spec.specs.Record.{ownMarkers}
-use Rattle.spec.specs.Sheet.{Group, recordsOf, recordsIn, splitGroups, groups_of, wholeEnd, classCount, total, group, classRecord, locate, locatedIn}
+use Rattle.spec.specs.Sheet.{Group, recordsOf, recordsIn, splitGroups, groupsOf, wholeEnd, classCount, total, group, classRecord, locate, locatedIn}
 use Rattle.spec.specs.Relations.{Says, Superclass, Encloser, Implements}
 use Rattle.spec.specs.Markers.{closure, union, unionAll}
 use Rattle.spec.specs.Classes.{supertypes, gathered, overlay}
@@ -23,7 +23,7 @@ use Rattle.laws.proofs.Bools.{decide}
 use Rattle.theory.proofs.Falls.{Falls}
 use Rattle.theory.proofs.Overlay.{supertypes-lower}
 use Rattle.laws.proofs.Rows.{length-values, getD-values}
-use Rattle.groups.specs.Groups.{start_of, Indexed}
+use Rattle.groups.specs.Groups.{startOf, Indexed}
 use Rattle.theory.proofs.Form.{group-past}
 use Rattle.groups.proofs.Held.{in-library}
 use Rattle.overlay.specs.Memo.{raw, memoOf}
@@ -31,11 +31,11 @@ use Rattle.form.specs.Form.{deemedBreaks, deemedFrom, firstDeemed}
 
 -- an empty sheet passes the first pass
 empty-clear : (n : ℕ) → Clear 1 n []
-unfolding locatedIn locate recordsOf recordsIn splitGroups wholeEnd concat classCount groups_of
+unfolding locatedIn locate recordsOf recordsIn splitGroups wholeEnd concat classCount groupsOf
 empty-clear n = record { end = refl; passed = tt; loose = refl; few = λ h. omega arith }
 
 none : classCount [] ≡ 0
-unfolding classCount groups_of splitGroups recordsOf recordsIn
+unfolding classCount groupsOf splitGroups recordsOf recordsIn
 none = refl
 
 module _ {library user : List ℕ} {nlib n : ℕ} {starts : List ℕ} (x : Indexed library user nlib n starts) where
@@ -43,9 +43,9 @@ module _ {library user : List ℕ} {nlib n : ℕ} {starts : List ℕ} (x : Index
   unfolding total
   count = omega (arith, x.nlib-is, none)
 
-  start-same : {c : ℕ} → c < nlib → start_of library user c ≡ start_of library [] c
-  unfolding start_of
-  start-same {c} h = let l : c < classCount library = omega (arith, x.nlib-is) in rw (lt-ltb c (classCount library) l, start_of)
+  start-same : {c : ℕ} → c < nlib → startOf library user c ≡ startOf library [] c
+  unfolding startOf
+  start-same {c} h = let l : c < classCount library = omega (arith, x.nlib-is) in rw (lt-ltb c (classCount library) l, startOf)
 
   pub alone : Indexed library [] nlib nlib starts
   unfolding total
@@ -64,7 +64,7 @@ module _ {library user : List ℕ} {nlib n : ℕ} {starts : List ℕ} (x : Index
 
   same : (c : ℕ) → c < nlib → group library user c ≡ group library [] c
   unfolding group classCount
-  same c h = (in-library x h).its ∙ sym (get_or-append (groups_of library) (groups_of []) [] c (in-library x h).there)
+  same c h = (in-library x h).its ∙ sym (get_or-append (groupsOf library) (groupsOf []) [] c (in-library x h).there)
 
   -- a record says it, so the class is the library's
   below : {k : ℕ} {read : List ℕ → ℕ} {t : ℕ} (c : ℕ) → Says k read (group library [] c) t → c < nlib

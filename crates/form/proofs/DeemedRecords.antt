@@ -11,9 +11,9 @@ use native.Mathlib.Omega.{arith}
 use lib.Dec.{ltb}
 use lib.ListN.{length}
 use borrow.Author.Tests.{lt-ltb, le-ltb}
-use Rattle.spec.specs.Lists.{first_of}
+use Rattle.spec.specs.Lists.{firstOf}
 use Rattle.spec.specs.Record.{kind, isClass}
-use Rattle.spec.specs.Sheet.{Group, Split, recordsOf, splitGroups, groups_of, classCount, groupStart, Located, locate, locatedIn}
+use Rattle.spec.specs.Sheet.{Group, Split, recordsOf, splitGroups, groupsOf, classCount, groupStart, Located, locate, locatedIn}
 use Rattle.spec.specs.Classes.{overlay}
 use Rattle.spec.specs.Refusals.{Refusal, refuseIf, refuseRecord, deemedTests}
 use Rattle.theory.proofs.Cut.{ontoClass, ontoLoose, split-class, split-other}
@@ -84,58 +84,58 @@ module _ (g : ℕ → Group) (nlib : ℕ) where
   -- ---- along the records
 
   abbrev Along : ℕ → ℕ → ℕ → ℕ → List (List ℕ) → Type 0
-  Along at n k b rs = n + length (splitGroups rs).groups ≤ nlib → first_of (answers (locate 0 at n k b rs)) ≡ found at n (splitGroups rs)
+  Along at n k b rs = n + length (splitGroups rs).groups ≤ nlib → firstOf (answers (locate 0 at n k b rs)) ≡ found at n (splitGroups rs)
 
   along-class : (at n k b : ℕ) (r : List ℕ) (rs : List (List ℕ)) → isClass r ≡ true → Along (at + length r) (suc n) 1 (kind r) rs → Along at n k b (r ∷ rs)
-  unfolding refuseIf first_of
+  unfolding refuseIf firstOf
   along-class at n k b r rs e f h =
       let q = ap (λ (t : Split). length t.groups) (split-class r rs e) in
-      let w : first_of (answers (locate 0 at n k b (r ∷ rs))) ≡ first_of (refuseIf (deemedBreaks n (overlay g n)) 11 0 at ∷ answers (locate 0 (at + length r) (suc n) 1 (kind r) rs)) =
-      rw (locate-class 0 at n k b r rs e) (ap (λ (o : Option Refusal). first_of (o ∷ answers (locate 0 (at + length r) (suc n) 1 (kind r) rs))) (at-class _ e (omega arith))) in
+      let w : firstOf (answers (locate 0 at n k b (r ∷ rs))) ≡ firstOf (refuseIf (deemedBreaks n (overlay g n)) 11 0 at ∷ answers (locate 0 (at + length r) (suc n) 1 (kind r) rs)) =
+      rw (locate-class 0 at n k b r rs e) (ap (λ (o : Option Refusal). firstOf (o ∷ answers (locate 0 (at + length r) (suc n) 1 (kind r) rs))) (at-class _ e (omega arith))) in
       w ∙ go (deemedBreaks n (overlay g n)) refl (f (omega arith)) ∙ sym (ap (found at n) (split-class r rs e))
     where
-      go : (x : Bool) → deemedBreaks n (overlay g n) ≡ x → first_of (answers (locate 0 (at + length r) (suc n) 1 (kind r) rs)) ≡ found (at + length r) (suc n) (splitGroups rs)
-          → first_of (refuseIf x 11 0 at ∷ answers (locate 0 (at + length r) (suc n) 1 (kind r) rs)) ≡ found at n (ontoClass r (splitGroups rs))
+      go : (x : Bool) → deemedBreaks n (overlay g n) ≡ x → firstOf (answers (locate 0 (at + length r) (suc n) 1 (kind r) rs)) ≡ found (at + length r) (suc n) (splitGroups rs)
+          → firstOf (refuseIf x 11 0 at ∷ answers (locate 0 (at + length r) (suc n) 1 (kind r) rs)) ≡ found at n (ontoClass r (splitGroups rs))
       go true d ih = sym (found-stop at n r (splitGroups rs) d)
       go false d ih = ih ∙ sym (found-on at n r (splitGroups rs) d)
 
   along-other : (at n k b : ℕ) (r : List ℕ) (rs : List (List ℕ)) → isClass r ≡ false → Along (at + length r) n (suc k) (kind r) rs → Along at n k b (r ∷ rs)
   along-other at n k b r rs e f h =
       let q = ap (λ (t : Split). length t.groups) (split-other r rs e) in
-      let w : first_of (answers (locate 0 at n k b (r ∷ rs))) ≡ first_of (answers (locate 0 (at + length r) n (suc k) (kind r) rs)) =
+      let w : firstOf (answers (locate 0 at n k b (r ∷ rs))) ≡ firstOf (answers (locate 0 (at + length r) n (suc k) (kind r) rs)) =
       rw (locate-other 0 at n k b r rs e) (skip-none _ _ (at_other _ e)) in
       w ∙ f (omega arith) ∙ sym (found-loose at n r (splitGroups rs)) ∙ sym (ap (found at n) (split-other r rs e))
 
   along : (at n k b : ℕ) (rs : List (List ℕ)) → Along at n k b rs
   along at n k b [] h =
-      let z : first_of (answers (locate 0 at n k b [])) ≡ none = (unfold locate first_of in refl) in z ∙ sym (found-nil at n)
+      let z : firstOf (answers (locate 0 at n k b [])) ≡ none = (unfold locate firstOf in refl) in z ∙ sym (found-nil at n)
   along at n k b (r ∷ rs) h = go (isClass r) refl (along (at + length r) (suc n) 1 (kind r) rs) (along (at + length r) n (suc k) (kind r) rs)
     where
       go : (x : Bool) → isClass r ≡ x → Along (at + length r) (suc n) 1 (kind r) rs → Along (at + length r) n (suc k) (kind r) rs
-          → first_of (answers (locate 0 at n k b (r ∷ rs))) ≡ found at n (splitGroups (r ∷ rs))
+          → firstOf (answers (locate 0 at n k b (r ∷ rs))) ≡ found at n (splitGroups (r ∷ rs))
       go true e f f' = along-class at n k b r rs e f h
       go false e f f' = along-other at n k b r rs e f' h
 
   -- user classes are not asked
-  along-user : (s at n k b : ℕ) (rs : List (List ℕ)) → nlib ≤ n → first_of (answers (locate s at n k b rs)) ≡ none
-  along-user s at n k b [] h = unfold locate first_of in refl
+  along-user : (s at n k b : ℕ) (rs : List (List ℕ)) → nlib ≤ n → firstOf (answers (locate s at n k b rs)) ≡ none
+  along-user s at n k b [] h = unfold locate firstOf in refl
   along-user s at n k b (r ∷ rs) h = go (isClass r) refl (along-user s (at + length r) (suc n) 1 (kind r) rs (omega arith)) (along-user s (at + length r) n (suc k) (kind r) rs h)
     where
-      go : (x : Bool) → isClass r ≡ x → first_of (answers (locate s (at + length r) (suc n) 1 (kind r) rs)) ≡ none
-          → first_of (answers (locate s (at + length r) n (suc k) (kind r) rs)) ≡ none → first_of (answers (locate s at n k b (r ∷ rs))) ≡ none
+      go : (x : Bool) → isClass r ≡ x → firstOf (answers (locate s (at + length r) (suc n) 1 (kind r) rs)) ≡ none
+          → firstOf (answers (locate s (at + length r) n (suc k) (kind r) rs)) ≡ none → firstOf (answers (locate s at n k b (r ∷ rs))) ≡ none
       go true e f f' = rw (locate-class s at n k b r rs e) (skip-none _ _ (at-user _ e h) ∙ f)
       go false e f f' = rw (locate-other s at n k b r rs e) (skip-none _ _ (at_other _ e) ∙ f')
 
   -- ---- the two sheets
 
   pub library-deemed : (s : List ℕ) → (splitGroups (recordsOf s)).loose ≡ [] → classCount s ≡ nlib
-      → first_of (answers (locatedIn 0 0 s)) ≡ refuseIf (ltb (firstDeemed g nlib) nlib) 11 0 (groupStart s (firstDeemed g nlib))
-  unfolding locatedIn classCount groups_of firstDeemed found
+      → firstOf (answers (locatedIn 0 0 s)) ≡ refuseIf (ltb (firstDeemed g nlib) nlib) 11 0 (groupStart s (firstDeemed g nlib))
+  unfolding locatedIn classCount groupsOf firstDeemed found
   library-deemed s l e =
       let d : ℕ = deemedFrom g 0 nlib in
       let z : d - 0 ≡ d = omega arith in
       along 0 0 0 0 (recordsOf s) (omega arith) ∙ rw (e, zero-add nlib, z, sheet-start s l d)
 
-  pub user-deemed : (s : List ℕ) → first_of (answers (locatedIn 1 nlib s)) ≡ none
+  pub user-deemed : (s : List ℕ) → firstOf (answers (locatedIn 1 nlib s)) ≡ none
   unfolding locatedIn
   user-deemed s = along-user 1 0 nlib 0 0 (recordsOf s) (le_refl nlib)

@@ -11,7 +11,7 @@ use native.Mathlib.Omega.{arith}
 use lib.Dec.{T, ltb, ltb→lt, nltb→le}
 use lib.ListN.{length, get_or}
 use borrow.Author.Tests.{eq-eqb, ne_eqb, lt-ltb, le-ltb}
-use Rattle.spec.specs.Lists.{first_of}
+use Rattle.spec.specs.Lists.{firstOf}
 use Rattle.spec.specs.Sheet.{recordsOf, classCount, total, groupStart, Located, locatedIn}
 use Rattle.spec.specs.Refusals.{Refusal, refuseIf, refuseRecord, recordTests, recordRefusal, tornRefusal, noClassRefusal}
 use Rattle.laws.proofs.Bools.{decide}
@@ -23,7 +23,7 @@ use Rattle.pass.specs.Pass.{passRefusal, passOf, filled, Filled}
 use Rattle.pass.specs.declared.Pass.{Pass}
 use Rattle.pass.specs.declared.Pass.TheVariants.{Fine as Passes, Refused as Stops}
 use Rattle.pass.proofs.Starts.{filled-below, filled-start}
-use Rattle.groups.specs.Groups.{start_of}
+use Rattle.groups.specs.Groups.{startOf}
 use Rattle.form.specs.Form.{passesRefusal, Starts, fine, refuse, checkedOf}
 
 -- ---- answers
@@ -33,7 +33,7 @@ abbrev pub Names : ℕ → Refusal → Type 0
 Names sheet r = r.sheet ≡ sheet
 
 -- records of one sheet are refused in that sheet
-pub along-names : (tests : Located → List (ℕ × Bool)) (sheet n : ℕ) (s : List ℕ) → Gives (Names sheet) (first_of (map (λ l. refuseRecord l (tests l)) (locatedIn sheet n s)))
+pub along-names : (tests : Located → List (ℕ × Bool)) (sheet n : ℕ) (s : List ℕ) → Gives (Names sheet) (firstOf (map (λ l. refuseRecord l (tests l)) (locatedIn sheet n s)))
 unfolding locatedIn
 along-names tests sheet n s =
     gives-first (Names sheet) _ (gives-map (Names sheet) (λ l. refuseRecord l (tests l)) (locatedIn sheet n s)
@@ -58,7 +58,7 @@ stops-some (some r) m {n} {s} {byte} g e = let a : n ≡ r.number = cc in let b 
 -- ---- both
 
 passes-parts : (library user : List ℕ)
-    → passesRefusal library user ≡ first_of (passRefusal 0 0 library ∷ noClassRefusal library ∷ passRefusal 1 (classCount library) user ∷ [])
+    → passesRefusal library user ≡ firstOf (passRefusal 0 0 library ∷ noClassRefusal library ∷ passRefusal 1 (classCount library) user ∷ [])
 unfolding passesRefusal passRefusal
 passes-parts library user =
     first-append (recordRefusal 0 0 library ∷ tornRefusal 0 library ∷ []) _
@@ -125,10 +125,10 @@ module _ {library row₀ row : List ℕ} {p : Pass} (w : Went 0 0 library row₀
       last-long : length row₂ ≡ 256
       last-long = w₂.rows.long ∙ first-long
 
-      then-second : passesRefusal library user ≡ first_of (passRefusal 1 k user ∷ [])
+      then-second : passesRefusal library user ≡ firstOf (passRefusal 1 k user ∷ [])
       then-second =
           passes-parts library user ∙ skip-none _ _ first-none-found ∙ skip-none _ _ (some-class z)
-          ∙ ap (λ (m : ℕ). first_of (passRefusal 1 m user ∷ [])) (sym first_count)
+          ∙ ap (λ (m : ℕ). firstOf (passRefusal 1 m user ∷ [])) (sym first_count)
 
       pub second-refused : (a b : ℕ) {number byte : ℕ} → q ≡ Stops number byte → (refuse number 1 byte ≡ checkedOf (passesRefusal library user) a b) × Starts library user row₂
       second-refused a b e₂ =
@@ -167,15 +167,15 @@ module _ {library row₀ row : List ℕ} {p : Pass} (w : Went 0 0 library row₀
             ap (λ (x : List ℕ). get_or x c 0) last-is ∙ ap (λ (i : ℕ). get_or (filled row k 0 user) i 0) (sym i)
             ∙ filled-start row k user user-passed.loose (omega (arith, user-passed.few first-few, first-long)) (c - k) (omega (arith, second-count))
 
-        starts-right : (c : ℕ) → c < n → get_or row₂ c 0 ≡ start_of library user c
-        unfolding start_of
+        starts-right : (c : ℕ) → c < n → get_or row₂ c 0 ≡ startOf library user c
+        unfolding startOf
         starts-right c h = go (decide (ltb c (classCount library)))
           where
-            go : T (ltb c (classCount library)) ⊎ T (not (ltb c (classCount library))) → get_or row₂ c 0 ≡ start_of library user c
-            go (inl t) = let g = ltb→lt c (classCount library) t in rw (lt-ltb c (classCount library) g, start_of) (library-start c (omega (arith, first_count)))
+            go : T (ltb c (classCount library)) ⊎ T (not (ltb c (classCount library))) → get_or row₂ c 0 ≡ startOf library user c
+            go (inl t) = let g = ltb→lt c (classCount library) t in rw (lt-ltb c (classCount library) g, startOf) (library-start c (omega (arith, first_count)))
             go (inr t) =
                 let g = nltb→le c (classCount library) t in
-                rw (le-ltb c (classCount library) g, start_of) (user-start c (omega (arith, first_count)) h ∙ ap (λ (m : ℕ). groupStart user (c - m)) first_count)
+                rw (le-ltb c (classCount library) g, startOf) (user-start c (omega (arith, first_count)) h ∙ ap (λ (m : ℕ). groupStart user (c - m)) first_count)
 
         pub second-fine : length library ≤ 32768 → length user ≤ 32768
             → (fine k n ≡ checkedOf (passesRefusal library user) (classCount library) (total library user)) × Starts library user row₂

@@ -16,7 +16,7 @@ use Rattle.theory.proofs.Answers.{first-none}
 use Rattle.theory.proofs.Accept.{sound}
 use Rattle.theory.proofs.Falls.{Falls, falls}
 use Rattle.theory.proofs.Unrefused.{present-facts}
-use Rattle.groups.specs.Groups.{Indexed, start_of}
+use Rattle.groups.specs.Groups.{Indexed, startOf}
 
 module _ (library user : List ℕ) (used : ℕ) (e : presentRefusal library user used ≡ none) where
   pub sheet-fine : sheetRefusal library (take used user) ≡ none
@@ -26,7 +26,7 @@ module _ (library user : List ℕ) (used : ℕ) (e : presentRefusal library user
   used-there = (present-facts library user used e).in_buffer
 
   -- a row that holds the starts, for what speaks of no row
-  pub some-row : Indexed library (take used user) (classCount library) (total library (take used user)) (map (start_of library (take used user)) (span 0 256))
+  pub some-row : Indexed library (take used user) (classCount library) (total library (take used user)) (map (startOf library (take used user)) (span 0 256))
   some-row =
       let s = sound library (take used user) sheet-fine in
       let p = present-facts library user used e in
@@ -39,8 +39,8 @@ module _ (library user : List ℕ) (used : ℕ) (e : presentRefusal library user
         n-is = refl;
         some = positive (classCount library) s.some;
         few = s.few;
-        long = length-values (start_of library (take used user)) 256;
-        starts = λ c h. getD-values (start_of library (take used user)) 256 0 c (omega (arith, s.few));
+        long = length-values (startOf library (take used user)) 256;
+        starts = λ c h. getD-values (startOf library (take used user)) 256 0 c (omega (arith, s.few));
       }
 
   module _ {s : List ℕ} (q : s ≡ take used user) where

@@ -2,7 +2,7 @@
 -- Assumes nothing.
 use Rattle.std.specs.Prelude.{◌≡◌, Bool, true, false, not, ◌&&◌, ◌||◌, List, [], ◌∷◌, ℕ, zero, suc, ◌+◌, eqb, length}
 use Rattle.std.proofs.Math.Option.{Option, none, some}
-use Rattle.spec.specs.Lists.{first_of}
+use Rattle.spec.specs.Lists.{firstOf}
 use Rattle.spec.specs.Sheet.{Group, classCount, total, group}
 use Rattle.spec.specs.Markers.{clash}
 use Rattle.spec.specs.Classes.{overlay}
@@ -33,7 +33,7 @@ firstDeemed g nlib = deemedFrom g 0 nlib
 -- 2 to 7 and 16 of two sheets, and 8 to 11
 unfoldable pub passesRefusal : List ℕ → List ℕ → Option Reason
 passesRefusal library user =
-    first_of
+    firstOf
     (recordRefusal 0 0 library
     ∷ tornRefusal 0 library
     ∷ noClassRefusal library
@@ -42,7 +42,7 @@ passesRefusal library user =
     ∷ [])
 
 unfoldable pub laterRefusal : List ℕ → List ℕ → Option Reason
-laterRefusal library user = first_of (formRefusal library user ∷ deemedRefusal library user ∷ [])
+laterRefusal library user = firstOf (formRefusal library user ∷ deemedRefusal library user ∷ [])
 
 -- where the first pass refuses nothing, the row is right
 pub record Starts (library user row : List ℕ) : Type 0 where

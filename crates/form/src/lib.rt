@@ -2,7 +2,7 @@
 #![tactic(auto)]
 
 ghost use Rattle.std.specs.Prelude.{◌≡◌, List, [], ℕ, ◌+◌, ◌≤◌, min, length, take, replicate};
-ghost use Rattle.spec.specs.Sheet.{Group, group as group_of, classCount, total};
+ghost use Rattle.spec.specs.Sheet.{Group, group as groupOf, classCount, total};
 ghost use Rattle.spec.specs.Refusals.{sheetRefusal, presentRefusal};
 ghost use Rattle.theory.proofs.Falls.{Falls};
 ghost use Rattle.view.specs.View.{Fits, spliced, Views};
@@ -71,7 +71,7 @@ fn deemed_breaks(c: usize, m: u8) -> bool
 // the library is asked beside an empty one.
 fn deemed(library: &[u8], starts: &[u16], nlib: usize, memo: &mut [u16]) -> usize
     ghost g: { ℕ → Group }
-    requires groups { group_of library.now [] ≡ g }
+    requires groups { groupOf library.now [] ≡ g }
     requires indexed { Indexed library.now [] nlib nlib starts.now }
     requires falls { Falls g }
     requires memo { memo.old ≡ replicate 256 65535 }

@@ -16,7 +16,7 @@ use Rattle.laws.proofs.Parts.{part_length}
 use Rattle.theory.proofs.Cut.{Whole, records-of-whole, join-records}
 use Rattle.records.specs.Records.{between, Tiled, Carries}
 use Rattle.records.proofs.Between.{placed}
-use Rattle.groups.specs.Groups.{sheetNumber, start_of, end_of, Indexed}
+use Rattle.groups.specs.Groups.{sheetNumber, startOf, endOf, Indexed}
 use Rattle.groups.proofs.Held.{in-library, in-user, group-lengths, group-tiled, group-between, end-small, class-there}
 
 tiled-bytes : {s : List ℕ} {at end : ℕ} → Tiled s at end → concat (between s at end) ≡ take (end - at) (drop at s)
@@ -24,7 +24,7 @@ unfolding between
 tiled-bytes {s} {at} {end} h = join-records (take (end - at) (drop at s)) (h.whole ∙ sym (part_length s at (end - at) (omega (arith, h.within, h.ordered))))
 
 module _ {library user : List ℕ} {nlib n : ℕ} {row : List ℕ} (x : Indexed library user nlib n row) {c : ℕ} (hn : c < n)
-    {start end : ℕ} (es : start ≡ start_of library user c) (ee : end ≡ end_of library user c) where
+    {start end : ℕ} (es : start ≡ startOf library user c) (ee : end ≡ endOf library user c) where
   part-is : take (end - start) (drop start (sheetOf library user (sheetNumber nlib c))) ≡ concat (group library user c)
   part-is = rw (es, ee) (sym (tiled-bytes (group-tiled x hn)) ∙ ap concat (group-between x hn))
 
@@ -52,6 +52,6 @@ carries {library} {user} x {c} h {bytes} e =
     let w : All Whole g = subst (All Whole) (group-between x h) (unfold between in records-of-whole _) in
     let p = placed bytes [] g [] 0 (length bytes) w (e ∙ sym (append-nil (concat g))) refl (zero-add (length (concat g)) ∙ ap length (sym e)) in
     record {
-      place = record { tiled = p.0; small = (unfold end_of in omega (arith, end-small x h, ap length e)); sizes = subst (All (λ r. T (lengthFits r))) (sym p.1) (group-lengths x c) };
+      place = record { tiled = p.0; small = (unfold endOf in omega (arith, end-small x h, ap length e)); sizes = subst (All (λ r. T (lengthFits r))) (sym p.1) (group-lengths x c) };
       records = p.1;
     }

@@ -9,7 +9,7 @@ use native.Mathlib.Omega.{arith}
 use lib.ListN.{length}
 use borrow.Author.Tests.{ne_eqb}
 use Rattle.spec.specs.Record.{kind, isClass}
-use Rattle.spec.specs.Sheet.{Group, Split, recordsOf, splitGroups, groups_of, classCount, total, group, locate, locatedIn}
+use Rattle.spec.specs.Sheet.{Group, Split, recordsOf, splitGroups, groupsOf, classCount, total, group, locate, locatedIn}
 use Rattle.spec.specs.Refusals.{formRefusal}
 use Rattle.laws.proofs.Bools.{false-t}
 use Rattle.laws.proofs.All.{All, all_append, all-get}
@@ -33,11 +33,11 @@ few s at n k p (r ∷ rs) b h = go (isClass r) refl h (few s (at + length r) (su
     go false e h f f' = let t = f' (omega (arith, h.0.recordNumber)) h.1 in rw (split-other r rs e) (record { loose = omega (arith, t.loose); groups = t.groups })
 
 pub group-few : {library user : List ℕ} {nlib n : ℕ} {row : List ℕ} → Indexed library user nlib n row → (c : ℕ) → length (group library user c) ≤ 255
-unfolding group groups_of locatedIn
+unfolding group groupsOf locatedIn
 group-few {library} {user} x c =
     let a = few 0 0 0 0 0 (recordsOf library) (omega arith) x.library-clear.passed in
     let b = few 1 0 (classCount library) 0 0 (recordsOf user) (omega arith) x.user-clear.passed in
-    all-get {A = Group} (λ g. length g ≤ 255) [] (groups_of library ++ groups_of user) (all_append (λ g. length g ≤ 255) (groups_of library) (groups_of user) a.groups b.groups) (omega arith) c
+    all-get {A = Group} (λ g. length g ≤ 255) [] (groupsOf library ++ groupsOf user) (all_append (λ g. length g ≤ 255) (groupsOf library) (groupsOf user) a.groups b.groups) (omega arith) c
 
 -- the library's classes come first
 pub classes-ordered : {library user : List ℕ} {nlib n : ℕ} {row : List ℕ} → Indexed library user nlib n row → nlib ≤ n

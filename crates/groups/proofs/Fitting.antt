@@ -7,7 +7,7 @@ use Prim.Native.Nat.{ℕ, ◌≤◌, ◌<◌}
 use lib.Dec.{T}
 use lib.ListN.{length, get_or}
 use Rattle.spec.specs.Record.{isKind, kindFits, LOCAL, MEMBER}
-use Rattle.spec.specs.Sheet.{Group, recordsOf, groups_of, group, ofKind, locatedIn}
+use Rattle.spec.specs.Sheet.{Group, recordsOf, groupsOf, group, ofKind, locatedIn}
 use Rattle.laws.proofs.All.{All, all-get, all-kept}
 use Rattle.theory.proofs.Accept.{Clear, each-record}
 use Rattle.theory.proofs.Cut.{in-groups}
@@ -19,10 +19,10 @@ use Rattle.groups.proofs.Held.{in-library, in-user}
 abbrev pub Fitting : ℕ → List ℕ → Type 0
 Fitting s r = T (kindFits s r)
 
-in-sheet : {sheet m : ℕ} {s : List ℕ} → Clear sheet m s → (i : ℕ) → All (Fitting sheet) (get_or (groups_of s) i [])
+in-sheet : {sheet m : ℕ} {s : List ℕ} → Clear sheet m s → (i : ℕ) → All (Fitting sheet) (get_or (groupsOf s) i [])
 unfolding locatedIn
 in-sheet {sheet} {m} {s} clear i =
-    all-get {A = Group} (All (Fitting sheet)) [] (groups_of s)
+    all-get {A = Group} (All (Fitting sheet)) [] (groupsOf s)
     (in-groups (Fitting sheet) s (each-record (Fitting sheet) sheet (λ l e p. subst (λ (k : ℕ). Fitting k l.bytes) e p.kindFits) 0 m 0 0 (recordsOf s) clear.passed)) tt i
 
 none_of : (k s : ℕ) (h : Group) → All (Fitting s) h → ((r : List ℕ) → Fitting s r → T (isKind k r) → ⊥) → length (ofKind k h) ≡ 0

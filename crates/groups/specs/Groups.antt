@@ -11,11 +11,11 @@ unfoldable pub sheetNumber : ℕ → ℕ → ℕ
 sheetNumber nlib c = elim (ltb c nlib) [ true ↦ 0 | false ↦ 1 ]
 
 -- the byte where the group of class c begins in its sheet, and the byte after it
-unfoldable pub start_of : List ℕ → List ℕ → ℕ → ℕ
-start_of library user c = elim (ltb c (classCount library)) [ true ↦ groupStart library c | false ↦ groupStart user (c - classCount library) ]
+unfoldable pub startOf : List ℕ → List ℕ → ℕ → ℕ
+startOf library user c = elim (ltb c (classCount library)) [ true ↦ groupStart library c | false ↦ groupStart user (c - classCount library) ]
 
-unfoldable pub end_of : List ℕ → List ℕ → ℕ → ℕ
-end_of library user c = start_of library user c + length (concat (group library user c))
+unfoldable pub endOf : List ℕ → List ℕ → ℕ → ℕ
+endOf library user c = startOf library user c + length (concat (group library user c))
 
 -- both sheets passed the first pass, and the row holds the start of each group
 pub record Indexed (library user : List ℕ) (nlib n : ℕ) (row : List ℕ) : Type 0 where
@@ -28,8 +28,8 @@ pub record Indexed (library user : List ℕ) (nlib n : ℕ) (row : List ℕ) : T
   pub some : 1 ≤ nlib
   pub few : n ≤ 256
   pub long : length row ≡ 256
-  pub starts : (c : ℕ) → c < n → get_or row c 0 ≡ start_of library user c
+  pub starts : (c : ℕ) → c < n → get_or row c 0 ≡ startOf library user c
 
 -- the byte after the group of class c in any two sheets of these lengths that the row indexes
 pub record EndOf (starts : List ℕ) (classes : Classes) (library user c end : ℕ) : Type 0 where
-  pub is : (l u : List ℕ) → Indexed l u classes.library classes.all starts → length l ≡ library → length u ≡ user → end ≡ end_of l u c
+  pub is : (l u : List ℕ) → Indexed l u classes.library classes.all starts → length l ≡ library → length u ≡ user → end ≡ endOf l u c

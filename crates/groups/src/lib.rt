@@ -3,7 +3,7 @@
 
 ghost use Rattle.std.specs.Prelude.{◌≡◌, ℕ, ◌≤◌, ◌<◌, length};
 ghost use Rattle.spec.specs.Record.{u16};
-ghost use Rattle.spec.specs.Sheet.{Group, group as group_of, classRecord};
+ghost use Rattle.spec.specs.Sheet.{Group, group as groupOf, classRecord};
 ghost use Rattle.records.specs.Records.{Carries};
 ghost use Rattle.groups.specs.Groups.{sheetNumber, Indexed, EndOf};
 
@@ -47,7 +47,7 @@ pub fn class_bytes<'a>(
     c: usize,
 ) -> &'a [u8]
     ghost g: { ℕ → Group }
-    requires groups { group_of library.now user.now ≡ g }
+    requires groups { groupOf library.now user.now ≡ g }
     requires indexed { Indexed library.now user.now classes.library classes.all starts.now }
     requires there { c < classes.all }
     ensures { Carries result.now (g c) }
@@ -70,7 +70,7 @@ pub fn class_word<'a>(
     j: usize,
 ) -> u16
     ghost g: { ℕ → Group }
-    requires groups { group_of library.now user.now ≡ g }
+    requires groups { groupOf library.now user.now ≡ g }
     requires indexed { Indexed library.now user.now classes.library classes.all starts.now }
     requires there { (c < classes.all) × (j < 12) }
     ensures { result ≡ u16 (classRecord (g c)) j }

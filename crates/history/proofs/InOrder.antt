@@ -8,7 +8,7 @@ use Prim.Native.Nat.{ℕ}
 use lib.ListN.{length, take}
 use Rattle.spec.specs.Refusals.{Refusal, judgeRefusal, queryRefusal}
 use Rattle.spec.specs.Verdicts.{VerdictRow}
-use Rattle.spec.specs.Promises.{accepted, State, Changes, bytes_at, no_part, Names}
+use Rattle.spec.specs.Promises.{accepted, State, Changes, bytesAt, noPart, Names}
 use Rattle.theory.specs.Claims.{InOrder}
 use Rattle.theory.proofs.Answers.{first-none}
 use Rattle.theory.proofs.Order.{sheets-in-order, order-holds}
@@ -37,12 +37,12 @@ module _ (library user : List ℕ) (used c : ℕ) where
   asked-in-order e = order-holds library user used (first-none _ e).0
 
   named-in-order : (bytes : List ℕ) → Names library user used c bytes → bytes ≢ [] → InOrder library (take used user)
-  unfolding bytes_at
+  unfolding bytesAt
   named-in-order bytes p filled = go (queryRefusal library user used c) refl
     where
       go : (o : Option Refusal) → queryRefusal library user used c ≡ o → InOrder library (take used user)
       go none e = asked-in-order e
-      go (some r) e = absurd (filled (p.answered ∙ ap (bytes_at library user) (sym (kept-refused no_part _ e))))
+      go (some r) e = absurd (filled (p.answered ∙ ap (bytesAt library user) (sym (kept-refused noPart _ e))))
 
 pub reads-in-order : (row : VerdictRow) → ReadsInOrder row
 unfolding judgeRefusal

@@ -9,7 +9,7 @@ use lib.Dec.{ltb, nltb→le}
 use lib.ListN.{length, take, drop, length-append}
 use lib.Seq.{length-take-le}
 use Rattle.spec.specs.Lists.{concat}
-use Rattle.spec.specs.Sheet.{groups_of, classCount}
+use Rattle.spec.specs.Sheet.{groupsOf, classCount}
 use Rattle.spec.specs.Refusals.{sheetLimit, addedSheet, replacedSheet, withdrawnSheet, sheetRefusal, newRefusal, presentRefusal, fewLinesRefusal, addRefusal, replaceRefusal, withdrawRefusal}
 use Rattle.spec.specs.Verdicts.{VerdictRow}
 use Rattle.spec.specs.Promises.{State, addition, replacement, withdrawal}
@@ -61,8 +61,8 @@ module _ (row : VerdictRow) (library : List ℕ) (s : State row) where
       let left : List ℕ = withdrawnSheet old in
       let some : 1 ≤ classCount old = some-class old q.1.0 in
       let few : classCount old ≤ lines = nltb→le lines (classCount old) (plain-none (ltb lines (classCount old)) 12 q.1.1.1.0) in
-      let parts : length old ≡ length left + length (concat (map concat (drop (classCount old - 1) (groups_of old)))) =
-      ap length (withdrawn-front library old f.sheets some) ∙ length-append left (concat (map concat (drop (classCount old - 1) (groups_of old)))) in
+      let parts : length old ≡ length left + length (concat (map concat (drop (classCount old - 1) (groupsOf old)))) =
+      ap length (withdrawn-front library old f.sheets some) ∙ length-append left (concat (map concat (drop (classCount old - 1) (groupsOf old)))) in
       record {
         size = omega (arith, f.user-size, length-take-le s.used s.user f.in_buffer, parts);
         sheets = withdrawn-sheets library old f.sheets q.1.0 q.1.1.0;

@@ -10,7 +10,7 @@ use native.Mathlib.Omega.{arith}
 use lib.ListN.{length, get_or, take, drop, set, length-append, get_or-append}
 use lib.Seq.{take-append_seam, drop-append_seam, get_or-set_other}
 use Rattle.spec.specs.Lists.{concat}
-use Rattle.spec.specs.Sheet.{Group, recordsOf, groups_of, classCount, total, group}
+use Rattle.spec.specs.Sheet.{Group, recordsOf, groupsOf, classCount, total, group}
 use Rattle.laws.proofs.All.{All, all_append, all_set}
 use Rattle.theory.proofs.Cut.{IsGroup, groups-of-join, count-of-join}
 use Rattle.history.specs.Model.{Model, sheet, used, buffer}
@@ -35,7 +35,7 @@ unfolding total
 total-count library gs w = ap (λ (n : ℕ). classCount library + n) (count-of-join gs w)
 
 module _ (library : List ℕ) (gs : List (List ℕ)) (g : List ℕ) (w : All IsGroup gs) (wg : IsGroup g) where
-  pub added-groups : groups_of (concat (gs ++ (g ∷ []))) ≡ groups_of (concat gs) ++ (recordsOf g ∷ [])
+  pub added-groups : groupsOf (concat (gs ++ (g ∷ []))) ≡ groupsOf (concat gs) ++ (recordsOf g ∷ [])
   added-groups =
       groups-of-join (gs ++ (g ∷ [])) (all_append IsGroup gs (g ∷ []) w (wg, tt))
       ∙ map-append recordsOf gs (g ∷ []) ∙ ap (λ (l : List Group). l ++ (recordsOf g ∷ [])) (sym (groups-of-join gs w))
@@ -44,11 +44,11 @@ module _ (library : List ℕ) (gs : List (List ℕ)) (g : List ℕ) (w : All IsG
   pub added-group : (d : ℕ) → d < total library (concat gs) → group library (concat gs) d ≡ group library (concat (gs ++ (g ∷ []))) d
   unfolding group total classCount
   added-group d h =
-      sym (get_or-append (groups_of library ++ groups_of (concat gs)) (recordsOf g ∷ []) [] d (omega (arith, length-append (groups_of library) (groups_of (concat gs)))))
+      sym (get_or-append (groupsOf library ++ groupsOf (concat gs)) (recordsOf g ∷ []) [] d (omega (arith, length-append (groupsOf library) (groupsOf (concat gs)))))
       ∙ ap (λ (l : List Group). get_or l d [])
-      (append_assoc (groups_of library) (groups_of (concat gs)) (recordsOf g ∷ []) ∙ ap (λ (l : List Group). groups_of library ++ l) (sym added-groups))
+      (append_assoc (groupsOf library) (groupsOf (concat gs)) (recordsOf g ∷ []) ∙ ap (λ (l : List Group). groupsOf library ++ l) (sym added-groups))
 
-  set-groups : (k : ℕ) → groups_of (concat (set gs k g)) ≡ set (groups_of (concat gs)) k (recordsOf g)
+  set-groups : (k : ℕ) → groupsOf (concat (set gs k g)) ≡ set (groupsOf (concat gs)) k (recordsOf g)
   set-groups k =
       groups-of-join (set gs k g) (all_set IsGroup gs k g w wg) ∙ map-set recordsOf gs k g ∙ ap (λ (l : List Group). set l k (recordsOf g)) (sym (groups-of-join gs w))
 
@@ -56,7 +56,7 @@ module _ (library : List ℕ) (gs : List (List ℕ)) (g : List ℕ) (w : All IsG
   pub set-group : (k d : ℕ) → d ≢ classCount library + k → group library (concat (set gs k g)) d ≡ group library (concat gs) d
   unfolding group classCount
   set-group k d ne =
-      ap (λ (l : List Group). get_or (groups_of library ++ l) d []) (set-groups k) ∙ getD-second (groups_of library) (groups_of (concat gs)) k (recordsOf g) [] d ne
+      ap (λ (l : List Group). get_or (groupsOf library ++ l) d []) (set-groups k) ∙ getD-second (groupsOf library) (groupsOf (concat gs)) k (recordsOf g) [] d ne
 
 -- ---- the buffer is the sheet and then the bytes past it
 

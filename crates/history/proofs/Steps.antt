@@ -9,7 +9,7 @@ use Prim.Native.Nat.{ℕ, ◌+◌, ◌-◌}
 use lib.Dec.{eqb}
 use lib.ListN.{length, take, drop, set, replicate}
 use Rattle.spec.specs.Lists.{concat}
-use Rattle.spec.specs.Sheet.{groups_of, classCount, total}
+use Rattle.spec.specs.Sheet.{groupsOf, classCount, total}
 use Rattle.spec.specs.Rules.{Verdict, clean}
 use Rattle.spec.specs.Refusals.{Refusal, addedSheet, replacedSheet, withdrawnSheet, lastClass, addRefusal, replaceRefusal, withdrawRefusal}
 use Rattle.spec.specs.Verdicts.{VerdictRow, userVerdict, dependsOn, dependentCount}
@@ -18,7 +18,7 @@ use Rattle.laws.proofs.All.{All}
 use Rattle.theory.proofs.Cut.{IsGroup, groups-of-join, count-of-join, regroup, concat-append, map-take}
 use Rattle.theory.proofs.Promised.{kept-refused, new-fine}
 use Rattle.history.specs.Model.{Call, add, replace, withdraw, Model, sheet, used, buffer, modelRefusal, newGroups, newSheet, modelValue, newPast, changed, modelStep}
-use Rattle.history.specs.Demand3.{Done, left_of, PromisedBy, Promised}
+use Rattle.history.specs.Demand3.{Done, leftOf, PromisedBy, Promised}
 use Rattle.history.proofs.Model.{total-count, front-is, rest-is}
 
 -- ---- what is left afterwards
@@ -72,8 +72,8 @@ made-is m w (replace c g) =
     ap (λ (gs : List (List ℕ)). concat (set gs (c - classCount m.library) g)) (ap (map concat) (groups-of-join m.groups w) ∙ regroup m.groups w)
 made-is m w withdraw =
     ap concat
-    (ap (λ (k : ℕ). map concat (take (k - 1) (groups_of (concat m.groups)))) (count-of-join m.groups w)
-    ∙ map-take concat (length m.groups - 1) (groups_of (concat m.groups))
+    (ap (λ (k : ℕ). map concat (take (k - 1) (groupsOf (concat m.groups)))) (count-of-join m.groups w)
+    ∙ map-take concat (length m.groups - 1) (groupsOf (concat m.groups))
     ∙ ap (take (length m.groups - 1)) (ap (map concat) (groups-of-join m.groups w) ∙ regroup m.groups w))
 
 module _ (row : VerdictRow) where
@@ -86,7 +86,7 @@ module _ (row : VerdictRow) where
   -- what a call makes of its answer and the state, and what it leaves in the scratch that it was lent
   pub record Does (call : Call) (e : Edit) (s : State row) (scratch : List ℕ) (answer : Answer ℕ) (after : State row) (scratchAfter : List ℕ) : Type 0 where
     pub changes : Changes row e s answer after
-    pub scratch-is : scratchAfter ≡ afterwards e.refusal scratch (left_of call scratch)
+    pub scratch-is : scratchAfter ≡ afterwards e.refusal scratch (leftOf call scratch)
 
   pub promised : (library : List ℕ) (s : State row) (call : Call) (scratch : List ℕ) (answer : Answer ℕ) (after : State row) (scratchAfter : List ℕ)
       → PromisedBy row library s call scratch answer after scratchAfter → Does call (editOf library s call (length scratch)) s scratch answer after scratchAfter

@@ -10,11 +10,11 @@ use lib.Dec.{T, not_T, eqb, ltb, eqb→eq}
 use lib.ListN.{length, take, drop, replicate, length-append}
 use lib.Seq.{take-append_seam, drop-append_seam, length-take-le}
 use Rattle.spec.specs.Lists.{any, concat, elem, span}
-use Rattle.spec.specs.Sheet.{Group, groups_of, recordsOf, classCount, total, group, groupReferences}
+use Rattle.spec.specs.Sheet.{Group, groupsOf, recordsOf, classCount, total, group, groupReferences}
 use Rattle.spec.specs.Rules.{clean}
 use Rattle.spec.specs.Refusals.{addedSheet, withdrawnSheet, lastClass, sheetRefusal, presentRefusal, emptyRefusal, namedRefusal, fewLinesRefusal, addRefusal, withdrawRefusal}
 use Rattle.spec.specs.Verdicts.{VerdictRow, flat, userVerdict}
-use Rattle.spec.specs.Promises.{Answer, accepted, State, Adds, Withdraws, addition, withdrawal, edited, bufferWith, answer_of}
+use Rattle.spec.specs.Promises.{Answer, accepted, State, Adds, Withdraws, addition, withdrawal, edited, bufferWith, answerOf}
 use Rattle.spec.proofs.Also.{◌also◌}
 use Rattle.laws.proofs.Bools.{eq→eqb, nltb}
 use Rattle.laws.proofs.All.{All, weaken, none_any, below_span}
@@ -93,7 +93,7 @@ module _ (row : VerdictRow) (laws : RowLaws row) (library g : List ℕ) (before 
   -- ---- why the withdrawal is not refused
 
   abbrev gs : List (List ℕ)
-  gs = map concat (groups_of s)
+  gs = map concat (groupsOf s)
 
   gs-whole : All IsGroup gs
   gs-whole = sheet-groups s old.userSheet.end old.userSheet.loose
@@ -105,16 +105,16 @@ module _ (row : VerdictRow) (laws : RowLaws row) (library g : List ℕ) (before 
   unfolding addedSheet concat
   new_is = concat-append gs (g ∷ []) ∙ ap₂ (λ (x y : List ℕ). x ++ y) s-is (append-nil g)
 
-  groups-new : groups_of new ≡ groups_of s ++ (recordsOf g ∷ [])
-  groups-new = ap groups_of (sym new_is) ∙ added-groups library gs g gs-whole passes.whole ∙ ap (λ (u : List ℕ). groups_of u ++ (recordsOf g ∷ [])) s-is
+  groups-new : groupsOf new ≡ groupsOf s ++ (recordsOf g ∷ [])
+  groups-new = ap groupsOf (sym new_is) ∙ added-groups library gs g gs-whole passes.whole ∙ ap (λ (u : List ℕ). groupsOf u ++ (recordsOf g ∷ [])) s-is
 
   pub back : withdrawnSheet new ≡ s
   unfolding withdrawnSheet classCount
   back =
       ap (λ (hs : List Group). concat (map concat (take (length hs - 1) hs))) groups-new
-      ∙ ap (λ (k : ℕ). concat (map concat (take k (groups_of s ++ (recordsOf g ∷ [])))))
-      (let z : length (groups_of s ++ (recordsOf g ∷ [])) - 1 ≡ length (groups_of s) = omega (arith, length-append (groups_of s) (recordsOf g ∷ [])) in z)
-      ∙ ap (λ (hs : List Group). concat (map concat hs)) (take-append_seam (groups_of s) (recordsOf g ∷ []))
+      ∙ ap (λ (k : ℕ). concat (map concat (take k (groupsOf s ++ (recordsOf g ∷ [])))))
+      (let z : length (groupsOf s ++ (recordsOf g ∷ [])) - 1 ≡ length (groupsOf s) = omega (arith, length-append (groupsOf s) (recordsOf g ∷ [])) in z)
+      ∙ ap (λ (hs : List Group). concat (map concat hs)) (take-append_seam (groupsOf s) (recordsOf g ∷ []))
       ∙ s-is
 
   last-is : lastClass library new ≡ total library s
@@ -163,9 +163,9 @@ module _ (row : VerdictRow) (laws : RowLaws row) (library g : List ℕ) (before 
 
   module _ (answer : Answer ℕ) (w : Withdraws row library after answer last) where
     answered : answer ≡ accepted class
-    unfolding withdrawal answer_of lastClass
+    unfolding withdrawal answerOf lastClass
     answered =
-        w.answered ∙ ap (λ o. answer_of o (total library (take after.used after.user) - 1)) unrefused
+        w.answered ∙ ap (λ o. answerOf o (total library (take after.used after.user) - 1)) unrefused
         ∙ ap accepted (ap (λ (u : List ℕ). lastClass library u) sheet-after ∙ last-is ∙ sym told.1)
 
     used-last : last.used ≡ before.used

@@ -45,10 +45,10 @@ MayChange m (replace c g) i = Dependent m (replace c g) c (classCount m.library 
 MayChange m withdraw i = i + 1 ≡ length m.groups
 
 -- what an accepted call leaves in the scratch; a withdrawal is lent none
-abbrev pub left_of : Call → List ℕ → List ℕ
-left_of (add g) scratch = cleared scratch
-left_of (replace c g) scratch = cleared scratch
-left_of withdraw scratch = scratch
+abbrev pub leftOf : Call → List ℕ → List ℕ
+leftOf (add g) scratch = cleared scratch
+leftOf (replace c g) scratch = cleared scratch
+leftOf withdraw scratch = scratch
 
 module _ (row : VerdictRow) where
   -- one call as it went: what it brought, what it answered, and what it left
@@ -96,7 +96,7 @@ module _ (row : VerdictRow) where
   pub record Answers (m : Model) (before : State row) (d : Done) : Type 0 where
     pub answer-is : d.answer ≡ modelAnswer m d.call (length d.scratch)
     pub refused : (r : Refusal) → modelRefusal m d.call (length d.scratch) ≡ some r → (d.after ≡ before) × (d.scratchAfter ≡ d.scratch)
-    pub scratch-is : d.scratchAfter ≡ afterwards (modelRefusal m d.call (length d.scratch)) d.scratch (left_of d.call d.scratch)
+    pub scratch-is : d.scratchAfter ≡ afterwards (modelRefusal m d.call (length d.scratch)) d.scratch (leftOf d.call d.scratch)
     pub value : (n : ℕ) → d.answer ≡ accepted n → Value m d.call n
     pub line : (n : ℕ) → d.answer ≡ accepted n → LineLeft m d.call d.after
     pub kept : (i : ℕ) → Not (MayChange m d.call i) → row.at d.after.verdicts i ≡ row.at before.verdicts i

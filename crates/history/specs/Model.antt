@@ -4,10 +4,10 @@
 use Rattle.std.specs.Prelude.{List, [], ◌∷◌, ◌++◌, map, ℕ, ◌+◌, ◌-◌, length, take, drop, set, replicate}
 use Rattle.std.proofs.Math.Option.{Option}
 use Rattle.spec.specs.Lists.{concat, count, span}
-use Rattle.spec.specs.Sheet.{groups_of, classCount, total}
+use Rattle.spec.specs.Sheet.{groupsOf, classCount, total}
 use Rattle.spec.specs.Refusals.{Refusal, addRefusal, replaceRefusal, withdrawRefusal}
 use Rattle.spec.specs.Verdicts.{dependsOn}
-use Rattle.spec.specs.Promises.{Answer, answer_of, afterwards}
+use Rattle.spec.specs.Promises.{Answer, answerOf, afterwards}
 
 -- "call by call, the arguments alone: group, class number for a Replace"; the scratch length is handed beside it
 pub data Call : Type 0 where
@@ -34,7 +34,7 @@ buffer m = sheet m ++ m.past
 
 -- "At an accepted judging it is given the library sheet, the user buffer, the used length and the slate's length"; "at first the user sheet's in order"
 unfoldable pub opened : List ℕ → List ℕ → ℕ → ℕ → Model
-opened library user used lines = record { library = library; lines = lines; groups = map concat (groups_of (take used user)); past = drop used user }
+opened library user used lines = record { library = library; lines = lines; groups = map concat (groupsOf (take used user)); past = drop used user }
 
 -- "A call is refused just as Add or Replace above says of the book's sheets, buffer and slate's length"
 unfoldable pub modelRefusal : Model → Call → ℕ → Option Refusal
@@ -58,7 +58,7 @@ modelValue m (replace c g) = let new = newSheet m (replace c g) in count (λ d. 
 modelValue m withdraw = classCount m.library + length m.groups - 1
 
 unfoldable pub modelAnswer : Model → Call → ℕ → Answer ℕ
-modelAnswer m call scratch = answer_of (modelRefusal m call scratch) (modelValue m call)
+modelAnswer m call scratch = answerOf (modelRefusal m call scratch) (modelValue m call)
 
 -- "Buffer bytes freed by a shorter sheet become zero, the others past it stay"
 unfoldable pub newPast : Model → Call → List ℕ

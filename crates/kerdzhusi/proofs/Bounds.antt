@@ -8,13 +8,13 @@ use Prim.Native.Nat.{ℕ, zero, suc, ◌≤◌, zero-le}
 use native.Mathlib.Omega.{arith}
 use lib.Dec.{eqb, ltb, nltb→le}
 use lib.ListN.{length, take, drop, length-append, length-take, take-append-drop}
-use Rattle.spec.specs.Lists.{concat, count, span, first_of}
+use Rattle.spec.specs.Lists.{concat, count, span, firstOf}
 use Rattle.spec.specs.Record.{u16}
 use Rattle.spec.specs.Sheet.{wholeFirst, recordsIn, recordsOf, wholeEnd, classCount, total}
 use Rattle.spec.specs.Verdicts.{faulted, faultedCount, flat}
 use Rattle.spec.specs.Refusals.{Refusal, refusePlain, sizeRefusal, sheetRefusal, presentRefusal, noUserRefusal, groupRefusal, roomRefusal, addedSheet, replacedSheet, judgeRefusal, addRefusal}
 use Rattle.spec.specs.Refusals.{replaceRefusal, withdrawRefusal, queryRefusal}
-use Rattle.spec.specs.Promises.{Answer, refused, accepted, answer_of, Counts, countsOf, Judges, State, addition, replacement, withdrawal, Adds, Replaces, Withdraws}
+use Rattle.spec.specs.Promises.{Answer, refused, accepted, answerOf, Counts, countsOf, Judges, State, addition, replacement, withdrawal, Adds, Replaces, Withdraws}
 use Rattle.theory.specs.Claims.{sheetOf, Blames, size, torn, at, noClass, plain, BlamesEdit, present, made}
 use Rattle.laws.proofs.Bools.{not-or-l, not-or-r}
 use Rattle.laws.proofs.All.{All}
@@ -67,8 +67,8 @@ abbrev Low : Refusal → Type 0
 Low r = r.byte ≤ 32768
 
 -- where the first refusals are low, the first of all is, if it is so past them
-past-low : (os rest : List (Option Refusal)) → All (Gives Low) os → {r : Refusal} → first_of (os ++ rest) ≡ some r → (All (λ o. o ≡ none) os → Low r) → Low r
-unfolding first_of
+past-low : (os rest : List (Option Refusal)) → All (Gives Low) os → {r : Refusal} → firstOf (os ++ rest) ≡ some r → (All (λ o. o ≡ none) os → Low r) → Low r
+unfolding firstOf
 past-low [] rest h e k = k tt
 past-low (none ∷ os) rest h e k = past-low os rest h.1 e (λ q. k (refl, q))
 past-low (some x ∷ os) rest h e k = subst (Gives Low) e h.0
@@ -101,7 +101,7 @@ module _ (library user : List ℕ) (used : ℕ) where
       (nltb→le 32768 (length library) (if_none (ltb 32768 (length library)) 1 0 0 q.0), omega (arith, length-take used user, u))
 
   -- a refusal that blames the present sheets
-  present-low : (os : List (Option Refusal)) {r : Refusal} → first_of (presentRefusal library user used ∷ os) ≡ some r → Blames library (take used user) r → Low r
+  present-low : (os : List (Option Refusal)) {r : Refusal} → firstOf (presentRefusal library user used ∷ os) ≡ some r → Blames library (take used user) r → Low r
   unfolding presentRefusal
   present-low os {r} e b =
       past-low (sizeRefusal library user used ∷ []) (sheetRefusal library (take used user) ∷ os) (size_low, tt)
@@ -109,13 +109,13 @@ module _ (library user : List ℕ) (used : ℕ) where
       (λ q. let l = sizes q.0 in blamed-low library (take used user) l.0 l.1 r b)
 
   -- so of an answer
-  told-low : {A : Type 0} (os : List (Option Refusal)) (x : A) {a : Answer A} → a ≡ answer_of (first_of (presentRefusal library user used ∷ os)) x
-      → ((r : Refusal) → first_of (presentRefusal library user used ∷ os) ≡ some r → Blames library (take used user) r) → {r : Refusal} → a ≡ refused r → Low r
+  told-low : {A : Type 0} (os : List (Option Refusal)) (x : A) {a : Answer A} → a ≡ answerOf (firstOf (presentRefusal library user used ∷ os)) x
+      → ((r : Refusal) → firstOf (presentRefusal library user used ∷ os) ≡ some r → Blames library (take used user) r) → {r : Refusal} → a ≡ refused r → Low r
   told-low os x q blames {r} f = let e = told-refused _ x (sym f ∙ q) in present-low os e (blames r e)
 
   -- a refusal of an edit: some low ones, and where none of them is met the new sheet is small
   edit-low : (new : List ℕ) (os rest : List (Option Refusal)) → All (Gives Low) os → (All (λ o. o ≡ none) os → length new ≤ 32768) → {r : Refusal}
-      → first_of (presentRefusal library user used ∷ (os ++ rest)) ≡ some r → BlamesEdit library user used new r → Low r
+      → firstOf (presentRefusal library user used ∷ (os ++ rest)) ≡ some r → BlamesEdit library user used new r → Low r
   edit-low new os rest h small e (present f b) = present-low [] (first_some [] f) b
   edit-low new os rest h small {r} e (made f n b) =
       past-low os rest h (sym (skip-none _ (os ++ rest) f) ∙ e)
@@ -128,7 +128,7 @@ unfolding judgeRefusal
 judges-low p f = told-low _ _ _ _ _ p.answered ((refusals-hold _ _ _).judge _ _).place f
 
 -- Name and Marks
-pub query-low : {A : Type 0} (library user : List ℕ) (used c : ℕ) (x : A) {a : Answer A} → a ≡ answer_of (queryRefusal library user used c) x → {r : Refusal} → a ≡ refused r → r.byte ≤ 32768
+pub query-low : {A : Type 0} (library user : List ℕ) (used c : ℕ) (x : A) {a : Answer A} → a ≡ answerOf (queryRefusal library user used c) x → {r : Refusal} → a ≡ refused r → r.byte ≤ 32768
 unfolding queryRefusal
 query-low library user used c x q f = told-low library user used _ x q ((refusals-hold library user used).query c).place f
 

@@ -6,7 +6,7 @@ use Prim.Native.Nat.{ℕ, ◌+◌, ◌*◌, ◌≤◌, ◌<◌}
 use native.Mathlib.Nat.{le_refl}
 use native.Mathlib.Omega.{arith}
 use lib.ListN.{length, get_or}
-use Rattle.lanes.specs.Lanes.{Draws, own, via, entry_at, Sound, Other, Settled, Least, SettledAt, AllSettled, SeedsFit}
+use Rattle.lanes.specs.Lanes.{Draws, own, via, entryAt, Sound, Other, Settled, Least, SettledAt, AllSettled, SeedsFit}
 use Rattle.lanes.proofs.Enclosing.{fits-lower, fits-owner}
 use Rattle.lanes.proofs.Chains.{draws-fit}
 
@@ -31,13 +31,13 @@ close-start step outer n lanes g f =
 
 module _ {step : ℕ → List ℕ} {outer : ℕ → ℕ} {n lanes : ℕ} {g s : List ℕ} (few : n ≤ 256) (f : CloseAt step outer n lanes g s 0) where
   -- Along a chain: t has an owner no higher than y, it fits m since y does, and m has taken it.
-  close-least : (k y m : ℕ) → k < lanes → m < n → Draws step outer n (entry_at g k) y m → entry_at s k m ≤ y
+  close-least : (k y m : ℕ) → k < lanes → m < n → Draws step outer n (entryAt g k) y m → entryAt s k m ≤ y
   unfolding Sound AllSettled SettledAt Settled
   close-least k y m hk hm (own e z) = let d = f.down (k * 256 + m) in omega arith
   close-least k y m hk hm (via {t = t} z e l d) =
       let r = close-least k y t hk l d in
       let b = fits-owner (omega arith) z in
-      let v : entry_at s k t < 255 = omega arith in
+      let v : entryAt s k t < 255 = omega arith in
       let w = f.settled refl m hm k t hk e l v (fits-lower r (draws-fit (f.sound k t hk l v)) (draws-fit d) z) in
       omega arith
 

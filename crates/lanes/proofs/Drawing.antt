@@ -12,7 +12,7 @@ use native.Mathlib.Omega.{arith}
 use lib.Dec.{eqb, ltb}
 use lib.ListN.{length, get_or, set, length-set}
 use borrow.Author.Tests.{eq-eqb, ne_eqb, eqb-true, lt-ltb, le-ltb, ltb-true, ltb-false}
-use Rattle.lanes.specs.Lanes.{OwnerFits, entry_at, Settled, Enclosers, fitsRow, either_of, lowers, drawn, drew, drawnLanes, drewLanes, lanes_of}
+use Rattle.lanes.specs.Lanes.{OwnerFits, entryAt, Settled, Enclosers, fitsRow, eitherOf, lowers, drawn, drew, drawnLanes, drewLanes, lanesOf}
 use Rattle.lanes.proofs.Runs.{run_none, run-then, run-lower, Offered}
 
 -- ---- the row of marks says what fits
@@ -46,7 +46,7 @@ module _ (marks : List ℕ) (m t k : ℕ) (s : List ℕ) where
   unfolding drawn drew
   drawn-none h = (rw (h, drawn), rw (h, drew))
 
-  drawn-some : lowers marks m t k s ≡ true → (set s (k * 256 + m) (entry_at s k t) ≡ drawn marks m t k s) × (1 ≡ drew marks m t k s)
+  drawn-some : lowers marks m t k s ≡ true → (set s (k * 256 + m) (entryAt s k t) ≡ drawn marks m t k s) × (1 ≡ drew marks m t k s)
   unfolding drawn drew
   drawn-some h = (rw (h, drawn), rw (h, drew))
 
@@ -54,41 +54,41 @@ module _ (marks : List ℕ) (m t k : ℕ) (s : List ℕ) where
   drawn-long = go (lowers marks m t k s) refl
     where
       go : (b : Bool) → lowers marks m t k s ≡ b → length (drawn marks m t k s) ≡ length s
-      go true e = rw (← (drawn-some e).0) (length-set s (k * 256 + m) (entry_at s k t))
+      go true e = rw (← (drawn-some e).0) (length-set s (k * 256 + m) (entryAt s k t))
       go false e = rw (← (drawn-none e).0)
 
-  module _ {has new : ℕ} (eh : has ≡ entry_at s k m) (en : new ≡ entry_at s k t) where
+  module _ {has new : ℕ} (eh : has ≡ entryAt s k m) (en : new ≡ entryAt s k t) where
     pub draw-high : has ≤ new → (s ≡ drawn marks m t k s) × (0 ≡ drew marks m t k s)
     unfolding lowers
-    draw-high h = drawn-none (rw (le-ltb (entry_at s k t) (entry_at s k m) (omega arith)))
+    draw-high h = drawn-none (rw (le-ltb (entryAt s k t) (entryAt s k m) (omega arith)))
 
     pub draw-unfit : fitsRow marks new ≡ false → (s ≡ drawn marks m t k s) × (0 ≡ drew marks m t k s)
     unfolding lowers
-    draw-unfit h = drawn-none (rw (rw en at h) (and-false (ltb (entry_at s k t) (entry_at s k m))))
+    draw-unfit h = drawn-none (rw (rw en at h) (and-false (ltb (entryAt s k t) (entryAt s k m))))
 
     pub draw-low : new < has → fitsRow marks new ≡ true → (set s (k * 256 + m) new ≡ drawn marks m t k s) × (1 ≡ drew marks m t k s)
     unfolding lowers
-    draw-low h f = rw en (drawn-some (rw (lt-ltb (entry_at s k t) (entry_at s k m) (omega arith)) (rw en at f)))
+    draw-low h f = rw en (drawn-some (rw (lt-ltb (entryAt s k t) (entryAt s k m) (omega arith)) (rw en at f)))
 
 -- ---- all lanes
 
 module _ (marks : List ℕ) (m t : ℕ) (s : List ℕ) where
   lanes_next : (k : ℕ) → (drawnLanes marks m t (k + 1) s ≡ drawn marks m t k (drawnLanes marks m t k s))
-      × (drewLanes marks m t (k + 1) s ≡ either_of (drewLanes marks m t k s) (drew marks m t k (drawnLanes marks m t k s)))
+      × (drewLanes marks m t (k + 1) s ≡ eitherOf (drewLanes marks m t k s) (drew marks m t k (drawnLanes marks m t k s)))
   unfolding drawnLanes drewLanes
   lanes_next k = (rw (add-one k), rw (add-one k))
 
-lanes-there : (n lanes t : ℕ) → t < n → lanes_of n lanes t ≡ lanes
-unfolding lanes_of
-lanes-there n lanes t h = rw (lt-ltb t n h, lanes_of)
+lanes-there : (n lanes t : ℕ) → t < n → lanesOf n lanes t ≡ lanes
+unfolding lanesOf
+lanes-there n lanes t h = rw (lt-ltb t n h, lanesOf)
 
-lanes-past : (n lanes t : ℕ) → n ≤ t → lanes_of n lanes t ≡ 0
-unfolding lanes_of
-lanes-past n lanes t h = rw (le-ltb t n h, lanes_of)
+lanes-past : (n lanes t : ℕ) → n ≤ t → lanesOf n lanes t ≡ 0
+unfolding lanesOf
+lanes-past n lanes t h = rw (le-ltb t n h, lanesOf)
 
 -- the row s' and the answer r of all lanes
 abbrev pub Drawn : List ℕ → ℕ → ℕ → ℕ → ℕ → List ℕ → List ℕ → ℕ → Type 0
-Drawn marks n lanes m t s s' r = (s' ≡ drawnLanes marks m t (lanes_of n lanes t) s) × (r ≡ drewLanes marks m t (lanes_of n lanes t) s)
+Drawn marks n lanes m t s s' r = (s' ≡ drawnLanes marks m t (lanesOf n lanes t) s) × (r ≡ drewLanes marks m t (lanesOf n lanes t) s)
 
 -- k lanes of t have been drawn from
 pub record DrawAt (marks : List ℕ) (lanes m t : ℕ) (s₀ s : List ℕ) (a k : ℕ) : Type 0 where
@@ -102,7 +102,7 @@ unfolding drawnLanes drewLanes
 draw-start marks lanes m t s = record { within = omega arith; long = refl; row = refl; answer = refl }
 
 module _ {marks : List ℕ} {lanes m t : ℕ} {s₀ s : List ℕ} {a k : ℕ} (f : DrawAt marks lanes m t s₀ s a k) where
-  pub draw-next : {s' : List ℕ} {b r : ℕ} → k < lanes → (s' ≡ drawn marks m t k s) × (b ≡ drew marks m t k s) → r ≡ either_of a b → length s' ≡ length s
+  pub draw-next : {s' : List ℕ} {b r : ℕ} → k < lanes → (s' ≡ drawn marks m t k s) × (b ≡ drew marks m t k s) → r ≡ eitherOf a b → length s' ≡ length s
       → DrawAt marks lanes m t s₀ s' r (k + 1)
   draw-next h q e l = record {
     within = omega arith;
@@ -112,7 +112,7 @@ module _ {marks : List ℕ} {lanes m t : ℕ} {s₀ s : List ℕ} {a k : ℕ} (f
   }
 
   pub draw-end : {n : ℕ} → lanes ≤ k → t < n → Drawn marks n lanes m t s₀ s a
-  draw-end {n} h l = let e : lanes_of n lanes t ≡ k = lanes-there n lanes t l ∙ omega (arith, f.within) in rw e (f.row, f.answer)
+  draw-end {n} h l = let e : lanesOf n lanes t ≡ k = lanes-there n lanes t l ∙ omega (arith, f.within) in rw e (f.row, f.answer)
 
 pub draw-past : (marks : List ℕ) (n lanes m t : ℕ) (s : List ℕ) → n ≤ t → Drawn marks n lanes m t s s 0
 unfolding drawnLanes drewLanes
@@ -126,18 +126,18 @@ module _ {marks : List ℕ} {n lanes m t : ℕ} (few : n ≤ 256) (hm : m < n) w
     unfolding Settled lowers
     stays h = record { run = λ step outer e g. run_none s (λ j q a b c. rw q (settled outer g (rw q at c))) }
       where
-        settled : (outer : ℕ → ℕ) → Enclosers outer m marks → OwnerFits outer (entry_at s k t) m → entry_at s k m ≤ entry_at s k t
-        settled outer g c = ltb-false (entry_at s k t) (entry_at s k m) (rw (fits-every marks outer m (entry_at s k t) g c, and-true) at h)
+        settled : (outer : ℕ → ℕ) → Enclosers outer m marks → OwnerFits outer (entryAt s k t) m → entryAt s k m ≤ entryAt s k t
+        settled outer g c = ltb-false (entryAt s k t) (entryAt s k m) (rw (fits-every marks outer m (entryAt s k t) g c, and-true) at h)
 
-    takes : lowers marks m t k s ≡ true → Offered marks n lanes m t (λ j. j ≡ k) s (set s (k * 256 + m) (entry_at s k t)) 1
+    takes : lowers marks m t k s ≡ true → Offered marks n lanes m t (λ j. j ≡ k) s (set s (k * 256 + m) (entryAt s k t)) 1
     unfolding lowers
     takes h =
-        let w = both_true (ltb (entry_at s k t) (entry_at s k m)) (fitsRow marks (entry_at s k t)) h in
+        let w = both_true (ltb (entryAt s k t) (entryAt s k m)) (fitsRow marks (entryAt s k t)) h in
         record {
           run = λ step outer e g.
               run-lower step outer n lanes s k m t few hk hm ht long (λ s. (j : ℕ) → j ≡ k → Settled outer n j m s t)
-              (ltb-true (entry_at s k t) (entry_at s k m) w.0)
-              (fits-only marks outer m (entry_at s k t) g w.1)
+              (ltb-true (entryAt s k t) (entryAt s k m) w.0)
+              (fits-only marks outer m (entryAt s k t) g w.1)
               e;
         }
 
@@ -149,7 +149,7 @@ module _ {marks : List ℕ} {n lanes m t : ℕ} (few : n ≤ 256) (hm : m < n) w
         go false e = rw (← (drawn-none marks m t k s e).0, ← (drawn-none marks m t k s e).1) (stays e)
 
   then-lane : {s₀ s s' : List ℕ} {k a b : ℕ} → Offered marks n lanes m t (λ j. j < k) s₀ s a → Offered marks n lanes m t (λ j. j ≡ k) s s' b
-      → Offered marks n lanes m t (λ j. j < suc k) s₀ s' (either_of a b)
+      → Offered marks n lanes m t (λ j. j < suc k) s₀ s' (eitherOf a b)
   then-lane {k = k} f h =
       record {
         run = λ step outer x g.
@@ -176,6 +176,6 @@ module _ {marks : List ℕ} {n lanes m t : ℕ} (few : n ≤ 256) (hm : m < n) w
     unfolding drawnLanes drewLanes
     offered q = rw (q.0, q.1) (go (ltb t n) refl)
       where
-        go : (b : Bool) → ltb t n ≡ b → Offered marks n lanes m t (λ j. j < lanes) s (drawnLanes marks m t (lanes_of n lanes t) s) (drewLanes marks m t (lanes_of n lanes t) s)
+        go : (b : Bool) → ltb t n ≡ b → Offered marks n lanes m t (λ j. j < lanes) s (drawnLanes marks m t (lanesOf n lanes t) s) (drewLanes marks m t (lanesOf n lanes t) s)
         go true e = let h = ltb-true t n e in rw (lanes-there n lanes t h) (first-lanes h lanes (le_refl lanes)).1
         go false e = let h = ltb-false t n e in rw (lanes-past n lanes t h) (no-lanes h)

@@ -8,7 +8,7 @@ use Prim.Native.Nat.{ℕ, ◌+◌, ◌≤◌, ◌<◌}
 use native.Mathlib.Nat.{le_of_suc-le-suc, eq-or-lt_of_le}
 use native.Mathlib.Omega.{arith}
 use lib.ListN.{length}
-use Rattle.lanes.specs.Lanes.{Run, SettledAt, AllSettled, either_of, sweptOf}
+use Rattle.lanes.specs.Lanes.{Run, SettledAt, AllSettled, eitherOf, sweptOf}
 use Rattle.lanes.proofs.Runs.{run-then, run_only}
 
 -- ---- the order: each class has its turn
@@ -30,7 +30,7 @@ pub record SweepAt (step : ℕ → List ℕ) (outer : ℕ → ℕ) (n lanes : �
   pub run : Run step outer n lanes (λ s. (j : ℕ) → j < i → SettledAt step outer n lanes (sweptOf up n j) s) s₀ s a
 
 module _ {step : ℕ → List ℕ} {outer : ℕ → ℕ} {n lanes : ℕ} {up : Bool} {s₀ s : List ℕ} {a i : ℕ} (f : SweepAt step outer n lanes up s₀ s a i) where
-  pub sweep-next : {s' : List ℕ} {m b r : ℕ} → m ≡ sweptOf up n i → Run step outer n lanes (SettledAt step outer n lanes m) s s' b → r ≡ either_of a b
+  pub sweep-next : {s' : List ℕ} {m b r : ℕ} → m ≡ sweptOf up n i → Run step outer n lanes (SettledAt step outer n lanes m) s s' b → r ≡ eitherOf a b
       → length s' ≡ length s → SweepAt step outer n lanes up s₀ s' r (i + 1)
   sweep-next q h e l =
       record {

@@ -6,7 +6,7 @@ use mathlib.Core.List.{List, [], ◌∷◌, Memᴰ}
 use mathlib.Core.Logic.{⊎_elim}
 use Prim.Native.Nat.{ℕ, ◌<◌}
 use lib.ListN.{length}
-use Rattle.lanes.specs.Lanes.{Settled, Run, SettledAt, Enclosers, either_of}
+use Rattle.lanes.specs.Lanes.{Settled, Run, SettledAt, Enclosers, eitherOf}
 use Rattle.lanes.proofs.Runs.{run_none, run-then, run_only, Offered}
 
 -- The steps of m to the classes `rest` are still to be taken: if m is settled with these, it is settled.
@@ -30,7 +30,7 @@ visit-start step outer n lanes m marks s w g rest q =
     }
 
 module _ {step : ℕ → List ℕ} {outer : ℕ → ℕ} {n lanes m : ℕ} {marks s₀ s rest : List ℕ} {a : ℕ} (f : VisitAt step outer n lanes m marks s₀ s rest a) where
-  pub visit-next : {s' rest' : List ℕ} {t b r : ℕ} → rest ≡ t ∷ rest' → Offered marks n lanes m t (λ j. j < lanes) s s' b → r ≡ either_of a b → length s' ≡ length s
+  pub visit-next : {s' rest' : List ℕ} {t b r : ℕ} → rest ≡ t ∷ rest' → Offered marks n lanes m t (λ j. j < lanes) s s' b → r ≡ eitherOf a b → length s' ≡ length s
       → VisitAt step outer n lanes m marks s₀ s' rest' r
   visit-next {s'} {rest'} {t} q o e l =
       record {

@@ -2,7 +2,7 @@
 #![tactic(auto)]
 
 ghost use Rattle.std.specs.Prelude.{◌≡◌, ◌≤◌, ◌<◌, ◌++◌, length, get_or, drop, replicate};
-ghost use Rattle.lanes.specs.Lanes.{Room, either_of, fitsRow, drawn, drew, drawnLanes, drewLanes, lanes_of, sweptOf};
+ghost use Rattle.lanes.specs.Lanes.{Room, eitherOf, fitsRow, drawn, drew, drawnLanes, drewLanes, lanesOf, sweptOf};
 
 // The entries of a lane, one a class.
 pub const LANE: usize = 256;
@@ -43,7 +43,7 @@ pub fn entry(row: &[u8], i: usize) -> usize
 
 // Joins the answers of two parts of a search: 0 only where neither changed anything. A sum would say the same, but might grow too large.
 pub fn either(a: usize, b: usize) -> usize
-    ensures { result ≡ either_of a b }
+    ensures { result ≡ eitherOf a b }
 {
     if a == 0 { b } else { a }
 }
@@ -82,8 +82,8 @@ fn draw(marks: &[u8], n: usize, lanes: usize, k: usize, m: usize, t: usize, row:
 pub fn draw_lanes(marks: &[u8], n: usize, lanes: usize, m: usize, t: usize, row: &mut [u8]) -> usize
     requires room { Room n lanes row.old }
     requires long { (256 ≤ length marks.now) × (m < n) }
-    ensures row { row.new ≡ drawnLanes marks.now m t (lanes_of n lanes t) row.old }
-    ensures answer { result ≡ drewLanes marks.now m t (lanes_of n lanes t) row.old }
+    ensures row { row.new ≡ drawnLanes marks.now m t (lanesOf n lanes t) row.old }
+    ensures answer { result ≡ drewLanes marks.now m t (lanesOf n lanes t) row.old }
 {
     if n <= t {
         return 0;

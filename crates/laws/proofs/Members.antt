@@ -9,7 +9,7 @@ use Prim.Native.Nat.{ℕ, zero, suc, ◌+◌, ◌≤◌, ◌<◌}
 use native.Mathlib.Nat.{add-zero, suc-add, add-suc, zero-add}
 use native.Mathlib.Omega.{arith}
 use lib.Dec.{T, T_not, eqb, eqb→eq, eqb_refl}
-use Rattle.spec.specs.Lists.{any, keep, gather, numbered, only_if, elem, span, ascending}
+use Rattle.spec.specs.Lists.{any, keep, gather, numbered, onlyIf, elem, span, ascending}
 use Rattle.spec.specs.Relations.{At, here, next}
 use Rattle.laws.proofs.Bools.{or_cases, or_l, or_r, decide}
 use Rattle.laws.proofs.All.{All, of_members}
@@ -98,13 +98,13 @@ module _ {A : Type 0} (p : A → Bool) where
       go false k = k
 
 module _ {A : Type 0} where
-  pub only-mem : (b : Bool) (xs : List A) {x : A} → Memᴰ x (only_if b xs) → T b × Memᴰ x xs
-  unfolding only_if
+  pub only-mem : (b : Bool) (xs : List A) {x : A} → Memᴰ x (onlyIf b xs) → T b × Memᴰ x xs
+  unfolding onlyIf
   only-mem true xs m = (tt, m)
   only-mem false xs m = absurd (Memᴰ.not-nil m)
 
-  pub mem-only : (b : Bool) (xs : List A) {x : A} → T b → Memᴰ x xs → Memᴰ x (only_if b xs)
-  unfolding only_if
+  pub mem-only : (b : Bool) (xs : List A) {x : A} → T b → Memᴰ x xs → Memᴰ x (onlyIf b xs)
+  unfolding onlyIf
   mem-only true xs t m = m
   mem-only false xs t m = absurd t
 

@@ -7,7 +7,7 @@ use native.Mathlib.Nat.{add-zero, zero-sub, sub-zero, suc-sub-suc}
 use native.Mathlib.Omega.{arith}
 use lib.ListN.{length, get_or, take, drop, length-drop}
 use lib.Seq.{length-take-le, get_or-take, get_or-drop, drop-drop, take-nil}
-use Rattle.spec.specs.Record.{u8, u16, kind, ty_at}
+use Rattle.spec.specs.Record.{u8, u16, kind, tyAt}
 
 pub u16-take : (n : ℕ) (s : List ℕ) (i : ℕ) → i + 1 < n → u16 (take n s) i ≡ u16 s i
 unfolding u16
@@ -43,8 +43,8 @@ module _ (s : List ℕ) (at n : ℕ) where
   unfolding kind
   part-kind h = part-word 2 (omega arith)
 
-  pub part_type : (j : ℕ) → j + 3 < n → ty_at (take n (drop at s)) j ≡ ty_at s (at + j)
-  unfolding u8 ty_at
+  pub part_type : (j : ℕ) → j + 3 < n → tyAt (take n (drop at s)) j ≡ tyAt s (at + j)
+  unfolding u8 tyAt
   part_type j h =
       let e : at + (j + 1) ≡ at + j + 1 = omega arith in
       let f : at + (j + 2) ≡ at + j + 2 = omega arith in

@@ -10,7 +10,7 @@ use lib.ListN.{length, get_or, take, length-append}
 use lib.Seq.{take-length, length-take-le}
 use Rattle.spec.specs.Lists.{gather, span}
 use Rattle.spec.specs.Sheet.{classCount, total}
-use Rattle.spec.specs.Verdicts.{userVerdict, flat, flatLines, flat_at, bytes_of, flatRewritten}
+use Rattle.spec.specs.Verdicts.{userVerdict, flat, flatLines, flatAt, bytesOf, flatRewritten}
 use Rattle.spec.specs.Refusals.{presentRefusal, judgeRefusal}
 use Rattle.spec.specs.Promises.{Counts, countsOf, afterwards, cleared, judgedRow, Judges}
 use Rattle.theory.proofs.Answers.{first-none}
@@ -89,17 +89,17 @@ module _ (library user : List ℕ) (used : ℕ) (verdicts scratch : List ℕ) (r
     unfolding total
     few = omega (arith, (accepted-sound library user used accepted-sheets).few)
 
-    byte-is : (i : ℕ) → i < classCount (take used user) → (k : ℕ) → k < 2 → get_or verdicts' (2 * i + k) 0 ≡ get_or (bytes_of (userVerdict library (take used user) i)) k 0
+    byte-is : (i : ℕ) → i < classCount (take used user) → (k : ℕ) → k < 2 → get_or verdicts' (2 * i + k) 0 ≡ get_or (bytesOf (userVerdict library (take used user) i)) k 0
     unfolding flatLines
     byte-is i h k l =
         let q : (2 * i + k) % 2 ≡ k = omega arith in
         ap (λ (r : List ℕ). get_or r (2 * i + k) 0) row_is
         ∙ read-new (λ i. ltb i (classCount (take used user))) (userVerdict library (take used user)) verdicts i (omega (arith, few, room))
         (lt→ltb i (classCount (take used user)) h) (2 * i + k) (omega arith)
-        ∙ ap (λ (m : ℕ). get_or (bytes_of (userVerdict library (take used user) i)) m 0) q
+        ∙ ap (λ (m : ℕ). get_or (bytesOf (userVerdict library (take used user) i)) m 0) q
 
     pub row-holds : RowHolds library (take used user) verdicts'
-    unfolding flat_at bytes_of
+    unfolding flatAt bytesOf
     row-holds = record {
       long = ap length row_is ∙ rewritten-length _ _ verdicts ∙ room;
       verdicts = λ i h.

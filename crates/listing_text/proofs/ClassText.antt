@@ -10,14 +10,14 @@ use lib.ListN.{length, get_or, length-append, length-drop}
 use lib.Seq.{get_or-append-add}
 use Rattle.spec.specs.Lists.{gather, span}
 use Rattle.spec.specs.Record.{className}
-use Rattle.spec.specs.Sheet.{groups_of, classCount, groupStart, group, classRecord}
-use Rattle.spec.specs.Verdicts.{userVerdict, flat_at}
+use Rattle.spec.specs.Sheet.{groupsOf, classCount, groupStart, group, classRecord}
+use Rattle.spec.specs.Verdicts.{userVerdict, flatAt}
 use Rattle.theory.specs.Claims.{running}
 use Rattle.theory.proofs.Running.{begins, group-last}
 use Rattle.groups.proofs.Held.{first-within, group-placed, class-fits}
 use Rattle.text.specs.Text.{decimal}
 use Rattle.text.proofs.Digits.{decimal-length}
-use Rattle.listing_text.specs.Listing.{line_of, lineText, space, newline}
+use Rattle.listing_text.specs.Listing.{lineOf, lineText, space, newline}
 use Rattle.listing_text.specs.Sheets.{UserSheet}
 use Rattle.listing_text.specs.Written.{Written, RowHolds}
 use Rattle.listing_text.proofs.Texts.{then, no_text, same_text}
@@ -25,13 +25,13 @@ use Rattle.listing_text.proofs.Texts.{then, no_text, same_text}
 -- ---- one line
 
 -- the group of the i-th user class, by its number
-user-group : (library sheet : List ℕ) (i : ℕ) → group library sheet (classCount library + i) ≡ get_or (groups_of sheet) i []
+user-group : (library sheet : List ℕ) (i : ℕ) → group library sheet (classCount library + i) ≡ get_or (groupsOf sheet) i []
 unfolding group classCount
-user-group library sheet i = get_or-append-add (groups_of library) (groups_of sheet) i []
+user-group library sheet i = get_or-append-add (groupsOf library) (groupsOf sheet) i []
 
 module _ {sheet : List ℕ} {i : ℕ} (h : i < classCount sheet) where
   pub line-short : {nlib : ℕ} → UserSheet nlib sheet → (library : List ℕ) → length (lineText library sheet i) ≤ 164
-  unfolding lineText line_of className
+  unfolding lineText lineOf className
   line-short u library =
       let c = classCount library + i in
       let v = userVerdict library sheet i in
@@ -40,14 +40,14 @@ module _ {sheet : List ℕ} {i : ℕ} (h : i < classCount sheet) where
 
   -- a line by what the code reads is that of the class, beside the library whose verdicts the row holds
   pub line-is : {nlib : ℕ} {verdicts : List ℕ} (library : List ℕ) → nlib ≡ classCount library → RowHolds library sheet verdicts
-      → line_of (nlib + i) (className (classRecord (get_or (groups_of sheet) i []))) (flat_at verdicts i) ≡ lineText library sheet i
+      → lineOf (nlib + i) (className (classRecord (get_or (groupsOf sheet) i []))) (flatAt verdicts i) ≡ lineText library sheet i
   unfolding lineText
   line-is library en w = rw (en, w.verdicts i h, user-group library sheet i)
 
 -- the verdict's bytes as the code reads them
 pub line_read : (c : ℕ) (verdicts : List ℕ) (i : ℕ) {name name' : List ℕ} → name ≡ name' → {rule place : ℕ} → rule ≡ get_or verdicts (2 * i) 0 → place ≡ get_or verdicts (2 * i + 1) 0
-    → decimal c ++ (space ++ (name ++ (space ++ (decimal rule ++ (space ++ (decimal place ++ newline)))))) ≡ line_of c name' (flat_at verdicts i)
-unfolding line_of flat_at
+    → decimal c ++ (space ++ (name ++ (space ++ (decimal rule ++ (space ++ (decimal place ++ newline)))))) ≡ lineOf c name' (flatAt verdicts i)
+unfolding lineOf flatAt
 line_read c verdicts i e er ep = rw (e, er, ep)
 
 -- ---- the lines
@@ -108,4 +108,4 @@ module _ {library sheet out₀ : List ℕ} {at : ℕ} where
         go (yes e) = subst (λ (k : ℕ). Written out₀ at (gather (lineText library sheet) (span 0 k)) out p) e f.text
         go (no n) =
             let h : i < classCount sheet = omega (arith, f.high) in
-            absurd (omega (arith, begins-there, (class-fits u.clear i h).0, first-within (get_or (groups_of sheet) i []), (group-placed u.clear i h).0.within))
+            absurd (omega (arith, begins-there, (class-fits u.clear i h).0, first-within (get_or (groupsOf sheet) i []), (group-placed u.clear i h).0.within))

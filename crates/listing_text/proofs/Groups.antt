@@ -12,7 +12,7 @@ use lib.ListN.{length, get_or, take, drop, length-append, length-drop}
 use lib.Seq.{take-length}
 use Rattle.spec.specs.Lists.{concat, keep}
 use Rattle.spec.specs.Record.{isClass, lengthFits, CLASS}
-use Rattle.spec.specs.Sheet.{Group, Split, recordsOf, wholeEnd, splitGroups, groups_of, classCount, groupStart, total, ofKind}
+use Rattle.spec.specs.Sheet.{Group, Split, recordsOf, wholeEnd, splitGroups, groupsOf, classCount, groupStart, total, ofKind}
 use Rattle.spec.specs.Refusals.{presentRefusal}
 use Rattle.theory.specs.Claims.{firstLength, running}
 use Rattle.laws.proofs.All.{All, keep-yes, keep-no}
@@ -80,7 +80,7 @@ whole-place s e l a = record {
 }
 
 pub group-length : {rest : List ℕ} → AtGroup rest → {r : ℕ} → r ≡ nthByte CLASS 1 0 (between rest 0 (length rest)) → r ≡ firstLength rest
-unfolding firstLength groups_of
+unfolding firstLength groupsOf
 group-length {rest} w e = e ∙ ap (nthByte CLASS 1 0) (all-records rest) ∙ second-class (recordsOf rest) w.loose
 
 -- ---- accepted sheets
@@ -93,7 +93,7 @@ module _ (library sheet : List ℕ) (e : presentRefusal library sheet (length sh
   library-place = whole-place library both.librarySheet.end (present-facts library sheet (length sheet) e).library-size (record-lengths both.librarySheet)
 
   pub library-count : {nlib : ℕ} → nlib ≡ length (ofKind CLASS (between library 0 (length library))) → nlib ≡ classCount library
-  unfolding classCount groups_of
+  unfolding classCount groupsOf
   library-count q = q ∙ ap (λ (rs : Group). length (ofKind CLASS rs)) (all-records library) ∙ class-groups (recordsOf library)
 
   pub user-sheet : {nlib : ℕ} → nlib ≡ classCount library → UserSheet nlib sheet
@@ -126,7 +126,7 @@ module _ {nlib : ℕ} {sheet : List ℕ} (u : UserSheet nlib sheet) (i : ℕ) {s
   pub further : i < classCount sheet → start ≡ running sheet i
       → {len : ℕ} → len ≡ firstLength (take (length sheet - start) (drop start sheet)) → (start + len ≡ running sheet (i + 1)) × (1 ≤ len) × (start + len ≤ length sheet)
   further h es {len} el =
-      let g : Group = get_or (groups_of sheet) i [] in
+      let g : Group = get_or (groupsOf sheet) i [] in
       let b : running sheet i ≡ groupStart sheet i = begins u.clear i (omega arith) in
       let r : start + len ≡ running sheet (i + 1) =
       ap (λ (k : ℕ). start + k) (el ∙ ap firstLength (rest_part sheet start)) ∙ ap (λ (k : ℕ). k + firstLength (drop k sheet)) es ∙ sym (running-next sheet i) in

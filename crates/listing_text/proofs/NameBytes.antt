@@ -6,7 +6,7 @@ use Prim.Native.Nat.{ℕ, ◌+◌, ◌-◌, ◌≤◌, ◌<◌}
 use native.Mathlib.Omega.{arith}
 use lib.ListN.{length, get_or, take, drop}
 use Rattle.spec.specs.Record.{u16, className}
-use Rattle.spec.specs.Sheet.{Group, groups_of, classCount, groupStart, classRecord}
+use Rattle.spec.specs.Sheet.{Group, groupsOf, classCount, groupStart, classRecord}
 use Rattle.laws.proofs.Parts.{part-rest}
 use Rattle.groups.proofs.Held.{first-within, group-placed, class-fits, class-here, class-long-here}
 use Rattle.listing_text.specs.Sheets.{UserSheet}
@@ -16,13 +16,13 @@ pub record NameAt (sheet : List ℕ) (i at size : ℕ) : Type 0 where
   pub long : 13 ≤ size
   pub short : size ≤ 112
   pub within : at + size ≤ length sheet
-  pub is : take (at + size - (at + 12)) (drop (at + 12) sheet) ≡ className (classRecord (get_or (groups_of sheet) i []))
+  pub is : take (at + size - (at + 12)) (drop (at + 12) sheet) ≡ className (classRecord (get_or (groupsOf sheet) i []))
 
 pub name-at : {nlib : ℕ} {sheet : List ℕ} → UserSheet nlib sheet → {i : ℕ} → i < classCount sheet
     → {at size : ℕ} → at ≡ groupStart sheet i → size ≡ u16 sheet at → NameAt sheet i at size
 unfolding className
 name-at {nlib} {sheet} u {i} h {at} {size} a es =
-    let g : Group = get_or (groups_of sheet) i [] in
+    let g : Group = get_or (groupsOf sheet) i [] in
     let z : size ≡ u16 sheet (groupStart sheet i) = es ∙ ap (u16 sheet) a in
     let e : size ≡ length (classRecord g) = z ∙ sym (class-long-here u.clear i h) in
     let whole : classRecord g ≡ take size (drop at sheet) = class-here u.clear i h ∙ rw (← a, ← es) in

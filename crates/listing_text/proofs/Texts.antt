@@ -5,7 +5,7 @@ use mathlib.Core.List.{List, [], ◌∷◌, ◌++◌}
 use Prim.Native.Nat.{ℕ, ◌+◌, ◌-◌, ◌≤◌}
 use native.Mathlib.Omega.{arith}
 use lib.ListN.{length, set, take, drop, length-append}
-use Rattle.text.specs.Text.{decimal, put_all, overlaid}
+use Rattle.text.specs.Text.{decimal, putAll, overlaid}
 use Rattle.text.proofs.Buffer.{put-length, put-append, put-nothing, put-text}
 use Rattle.laws.proofs.Parts.{part_length}
 use Rattle.listing_text.specs.Written.{Written}
@@ -13,13 +13,13 @@ use Rattle.listing_text.specs.Written.{Written}
 module _ {out : List ℕ} {at : ℕ} {out' : List ℕ} {after : ℕ} where
   -- what the functions of `text` promise
   pub one_byte : {b : ℕ} → after ≡ at + 1 → out' ≡ set out at b → Written out at (b ∷ []) out' after
-  unfolding put_all
+  unfolding putAll
   one_byte e f = record { place = e; bytes = f }
 
-  pub a-number : (x : ℕ) → after ≡ at + length (decimal x) → out' ≡ put_all out at (decimal x) → Written out at (decimal x) out' after
+  pub a-number : (x : ℕ) → after ≡ at + length (decimal x) → out' ≡ putAll out at (decimal x) → Written out at (decimal x) out' after
   a-number x e f = record { place = e; bytes = f }
 
-  pub a-part : (text : List ℕ) (from to : ℕ) → from ≤ to → to ≤ length text → after ≡ at + (to - from) → out' ≡ put_all out at (take (to - from) (drop from text))
+  pub a-part : (text : List ℕ) (from to : ℕ) → from ≤ to → to ≤ length text → after ≡ at + (to - from) → out' ≡ putAll out at (take (to - from) (drop from text))
       → Written out at (take (to - from) (drop from text)) out' after
   a-part text from to l h e f =
       record { place = e ∙ ap (λ (k : ℕ). at + k) (sym (part_length text from (to - from) (omega arith))); bytes = f }
@@ -32,7 +32,7 @@ module _ {out : List ℕ} {at : ℕ} {out' : List ℕ} {after : ℕ} where
   same_text e w = subst (λ (x : List ℕ). Written out at x out' after) e w
 
   pub no_text : out' ≡ out → after ≡ at → Written out at [] out' after
-  unfolding put_all
+  unfolding putAll
   no_text e q = record { place = omega arith; bytes = e }
 
 -- one text, then another
@@ -47,5 +47,5 @@ then {out} {at} {s = s} {t = t} v w = record {
 pub from_start : {out : List ℕ} {text : List ℕ} {out' : List ℕ} {after : ℕ} → Written out 0 text out' after → (after ≡ length text) × (out' ≡ overlaid text out)
 from_start {out} {text} w = (
   omega (arith, w.place),
-  w.bytes ∙ ap (λ (o : List ℕ). put_all o 0 text) (sym (put-nothing out)) ∙ put-text [] out text,
+  w.bytes ∙ ap (λ (o : List ℕ). putAll o 0 text) (sym (put-nothing out)) ∙ put-text [] out text,
 )

@@ -42,13 +42,13 @@ unfoldable pub refusalText : Refusal → List ℕ
 refusalText r = refusedWord ++ (decimal r.number ++ (sheetWord ++ (decimal r.sheet ++ (byteWord ++ (decimal r.byte ++ newline)))))
 
 -- "per user class number, name, rule, place"
-unfoldable pub line_of : ℕ → List ℕ → Verdict → List ℕ
-line_of c name v = decimal c ++ (space ++ (name ++ (space ++ (decimal v.rule ++ (space ++ (decimal v.recordNumber ++ newline))))))
+unfoldable pub lineOf : ℕ → List ℕ → Verdict → List ℕ
+lineOf c name v = decimal c ++ (space ++ (name ++ (space ++ (decimal v.rule ++ (space ++ (decimal v.recordNumber ++ newline))))))
 
 module _ (library user : List ℕ) where
   -- that of the i-th one
   unfoldable pub lineText : ℕ → List ℕ
-  lineText i = let c = classCount library + i in line_of c (className (classRecord (group library user c))) (userVerdict library user i)
+  lineText i = let c = classCount library + i in lineOf c (className (classRecord (group library user c))) (userVerdict library user i)
 
 -- the verdicts of as many classes as there can be
 abbrev pub listedLines : ℕ

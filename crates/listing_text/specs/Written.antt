@@ -2,15 +2,15 @@
 -- Assumes nothing.
 use Rattle.std.specs.Prelude.{◌≡◌, List, ℕ, ◌+◌, ◌<◌, length}
 use Rattle.spec.specs.Sheet.{classCount}
-use Rattle.spec.specs.Verdicts.{userVerdict, flat_at}
-use Rattle.text.specs.Text.{put_all}
+use Rattle.spec.specs.Verdicts.{userVerdict, flatAt}
+use Rattle.text.specs.Text.{putAll}
 
 -- the buffer holds the text from `at` on, as far as it fits, and `after` is the place behind it
 pub record Written (out : List ℕ) (at : ℕ) (text : List ℕ) (out' : List ℕ) (after : ℕ) : Type 0 where
   pub place : after ≡ at + length text
-  pub bytes : out' ≡ put_all out at text
+  pub bytes : out' ≡ putAll out at text
 
 -- the row holds the verdict of each class of the user sheet
 pub record RowHolds (library user : List ℕ) (row : List ℕ) : Type 0 where
   pub long : length row ≡ 512
-  pub verdicts : (i : ℕ) → i < classCount user → flat_at row i ≡ userVerdict library user i
+  pub verdicts : (i : ℕ) → i < classCount user → flatAt row i ≡ userVerdict library user i

@@ -5,14 +5,14 @@ ghost use Rattle.std.specs.Prelude.{◌≡◌, [], ◌++◌, ◌+◌, ◌*◌, �
 ghost use Rattle.std.proofs.Math.Option.{none};
 ghost use Rattle.spec.specs.Lists.{gather, span};
 ghost use Rattle.spec.specs.Record.{className};
-ghost use Rattle.spec.specs.Sheet.{groups_of, classCount, groupStart, classRecord};
-ghost use Rattle.spec.specs.Verdicts.{flat_at};
+ghost use Rattle.spec.specs.Sheet.{groupsOf, classCount, groupStart, classRecord};
+ghost use Rattle.spec.specs.Verdicts.{flatAt};
 ghost use Rattle.spec.specs.Refusals.{presentRefusal, judgeRefusal};
 ghost use Rattle.spec.specs.Promises.{afterwards, cleared};
 ghost use Rattle.theory.specs.Claims.{firstLength};
 ghost use Rattle.form.specs.Form.{refusalOf};
 ghost use Rattle.text.specs.Text.{decimal, overlaid};
-ghost use Rattle.listing_text.specs.Listing.{countsText, refusalText, line_of, lineText, listedLines, listingText, space, newline};
+ghost use Rattle.listing_text.specs.Listing.{countsText, refusalText, lineOf, lineText, listedLines, listingText, space, newline};
 ghost use Rattle.listing_text.specs.Sheets.{UserSheet, AtGroup};
 ghost use Rattle.listing_text.specs.Written.{Written, RowHolds};
 
@@ -85,7 +85,7 @@ fn class_line(
     requires group { (i < classCount sheet.now) × (start ≡ groupStart sheet.now i) }
     requires line { (2 * i + 1 < length verdicts.now) × (at < 700000) }
     ensures { Written out.old at
-        (line_of (nlib + i) (className (classRecord (get_or (groups_of sheet.now) i []))) (flat_at verdicts.now i))
+        (lineOf (nlib + i) (className (classRecord (get_or (groupsOf sheet.now) i []))) (flatAt verdicts.now i))
         out.new result }
 {
     let end = start + wide(word_in(sheet, start));

@@ -3,9 +3,9 @@
 use mathlib.Core.Path.{refl}
 use Rattle.spec.specs.Evaluate.{evaluation}
 use Rattle.spec.proofs.Also.{◌also◌}
-use Rattle.meaning.specs.Canonical.{is_set, bodyNumber, insert, ascend, arranged, canonicalGroup, canonical}
+use Rattle.meaning.specs.Canonical.{isSet, bodyNumber, insert, ascend, arranged, canonicalGroup, canonical}
 use Rattle.meaning.specs.Examples.{examples, AllHold}
 
 pub examples-hold : AllHold examples
-unfolding examples is_set bodyNumber insert ascend arranged canonicalGroup canonical evaluation
+unfolding examples isSet bodyNumber insert ascend arranged canonicalGroup canonical evaluation
 examples-hold = refl also refl also refl also refl also refl also tt

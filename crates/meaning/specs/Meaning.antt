@@ -3,7 +3,7 @@
 use Rattle.std.specs.Prelude.{◌≡◌, ◌↔◌, ℕ, T}
 use mathlib.Core.List.{List, [], ◌∷◌, Memᴰ}
 use Rattle.spec.specs.Record.{isKind, FIELD, LOCAL, REFERS, target, index}
-use Rattle.spec.specs.Sheet.{Group, groups_of, classRecord, ofKind}
+use Rattle.spec.specs.Sheet.{Group, groupsOf, classRecord, ofKind}
 use Rattle.spec.specs.Relations.{Implements, Uses, Builds}
 
 -- the group REFERS to member i of class d
@@ -32,4 +32,4 @@ SameGroups (g ∷ gs) [] = ⊥
 SameGroups (g ∷ gs) (h ∷ hs) = SameMeaning g h × SameGroups gs hs
 
 unfoldable pub MeanSame : List ℕ → List ℕ → Type 0
-MeanSame s t = SameGroups (groups_of s) (groups_of t)
+MeanSame s t = SameGroups (groupsOf s) (groupsOf t)

@@ -10,13 +10,13 @@ use native.Mathlib.Omega.{arith}
 use lib.Dec.{eqb, ltb}
 use lib.ListN.{length, get_or, get_or-eq_default}
 use borrow.Author.Tests.{eq-eqb, ne_eqb, eqb-true, le-ltb, ltb-false}
-use Rattle.spec.specs.Lists.{any, keep, only_if, elem}
-use Rattle.spec.specs.Record.{none16, kind, by_kind, isKind, isClass, CLASS, IMPLEMENTS, FIELD, LOCAL, USES, BUILDS, MEMBER, REFERS}
-use Rattle.spec.specs.Record.{superclass, encloser, target, Ty, fieldTy, local_ty, unlessNone, tyReferences, references}
+use Rattle.spec.specs.Lists.{any, keep, onlyIf, elem}
+use Rattle.spec.specs.Record.{none16, kind, byKind, isKind, isClass, CLASS, IMPLEMENTS, FIELD, LOCAL, USES, BUILDS, MEMBER, REFERS}
+use Rattle.spec.specs.Record.{superclass, encloser, target, Ty, fieldTy, localTy, unlessNone, tyReferences, references}
 use Rattle.laws.proofs.Bools.{eq→eqb}
 use Rattle.laws.proofs.All.{keep-no}
 use Rattle.theory.proofs.References.{by-kind, references-class, references-implements, references-field, references-local, references-uses, references-builds, references-member, references-refers}
-use Rattle.named.specs.Named.{typeNamed, firstOfAll, firstNamed, secondNamed, named_by}
+use Rattle.named.specs.Named.{typeNamed, firstOfAll, firstNamed, secondNamed, namedBy}
 
 -- by the kind: one of the eight, or none
 each-kind : {P : Type 0} (k : ℕ)
@@ -72,10 +72,10 @@ module _ (n : ℕ) (h : n ≤ 65535) where
 
   module _ (r : List ℕ) where
     abbrev Same : Bool → Type 0
-    Same builds = below n (named_by builds r) ≡ below n (firstNamed builds r ∷ secondNamed builds r ∷ [])
+    Same builds = below n (namedBy builds r) ≡ below n (firstNamed builds r ∷ secondNamed builds r ∷ [])
 
     along-builds : Same true
-    unfolding named_by firstNamed secondNamed only_if
+    unfolding namedBy firstNamed secondNamed onlyIf
     along-builds = go (isKind BUILDS r)
       where
         go : (b : Bool)
@@ -89,7 +89,7 @@ module _ (n : ℕ) (h : n ≤ 65535) where
 
     -- a kind whose list and whose two classes are known
     known : (xs : List ℕ) (x y : ℕ) → references r ≡ xs → firstOfAll r ≡ x → secondNamed false r ≡ y → below n xs ≡ below n (x ∷ y ∷ []) → Same false
-    unfolding named_by firstNamed
+    unfolding namedBy firstNamed
     known xs x y ex ef es e = ap (below n) ex ∙ e ∙ sym (ap₂ (λ (a b : ℕ). below n (a ∷ b ∷ [])) ef es)
 
     -- one that names a class after its kind
@@ -103,8 +103,8 @@ module _ (n : ℕ) (h : n ≤ 65535) where
     a-type t k e c ex ef = known (tyReferences t) (typeNamed t) none16 ex ef (second_is (ne_eqb (kind r) CLASS (λ q. c (sym e ∙ q)))) (of-type t)
 
     -- a kind past the table, or 0
-    unknown : {A : Type 0} (d : A) (choices : List A) → length choices ≡ 8 → (kind r ≡ 0) ⊎ (9 ≤ kind r) → by_kind r d choices ≡ d
-    unfolding by_kind
+    unknown : {A : Type 0} (d : A) (choices : List A) → length choices ≡ 8 → (kind r ≡ 0) ⊎ (9 ≤ kind r) → byKind r d choices ≡ d
+    unfolding byKind
     unknown d choices l (inl e) = ap (λ (k : ℕ). get_or (d ∷ choices) k d) e
     unknown d choices l (inr e) = let long : length (d ∷ choices) ≤ kind r = omega (arith, l) in get_or-eq_default (d ∷ choices) d long
 
@@ -117,7 +117,7 @@ module _ (n : ℕ) (h : n ≤ 65535) where
         (second_is (eq-eqb (kind r) CLASS e)) (of-class (superclass r) (encloser r)))
         (λ e. a-target IMPLEMENTS e (λ q. omega arith) (references-implements r (eq→eqb e)) (by-kind r none16 _ IMPLEMENTS (eq→eqb e)))
         (λ e. a-type (fieldTy r) FIELD e (λ q. omega arith) (references-field r (eq→eqb e)) (by-kind r none16 _ FIELD (eq→eqb e)))
-        (λ e. a-type (local_ty r) LOCAL e (λ q. omega arith) (references-local r (eq→eqb e)) (by-kind r none16 _ LOCAL (eq→eqb e)))
+        (λ e. a-type (localTy r) LOCAL e (λ q. omega arith) (references-local r (eq→eqb e)) (by-kind r none16 _ LOCAL (eq→eqb e)))
         (λ e. a-target USES e (λ q. omega arith) (references-uses r (eq→eqb e)) (by-kind r none16 _ USES (eq→eqb e)))
         (λ e. a-target BUILDS e (λ q. omega arith) (references-builds r (eq→eqb e)) (by-kind r none16 _ BUILDS (eq→eqb e)))
         (λ e. none_named (references-member r (eq→eqb e)) (by-kind r none16 _ MEMBER (eq→eqb e)) (λ q. omega arith))
@@ -146,7 +146,7 @@ elem_below n t h (x ∷ xs) = go (ltb x n) refl (elem_below n t h xs)
 
 module _ (r : List ℕ) (t : ℕ) (h : t < 65535) where
   named-is : elem t (references r) ≡ (eqb t (firstNamed false r) || (eqb t (secondNamed false r) || false))
-  unfolding elem any named_by
+  unfolding elem any namedBy
   named-is =
       sym (elem_below 65535 t h (references r)) ∙ ap (elem t) (named-below 65535 (omega arith) r false)
       ∙ elem_below 65535 t h (firstNamed false r ∷ secondNamed false r ∷ [])

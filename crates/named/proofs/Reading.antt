@@ -8,7 +8,7 @@ use native.Mathlib.Decide.{ℕ_discrete}
 use native.Mathlib.Omega.{arith}
 use lib.ListN.{get_or}
 use borrow.Author.Tests.{eq-eqb, ne_eqb}
-use Rattle.spec.specs.Record.{u8, u16, kind, none16, CLASS, IMPLEMENTS, FIELD, LOCAL, USES, BUILDS, MEMBER, REFERS, target, ty_at}
+use Rattle.spec.specs.Record.{u8, u16, kind, none16, CLASS, IMPLEMENTS, FIELD, LOCAL, USES, BUILDS, MEMBER, REFERS, target, tyAt}
 use Rattle.laws.proofs.Bools.{eq→eqb}
 use Rattle.theory.proofs.References.{by-kind}
 use Rattle.records.proofs.Sizes.{shortest}
@@ -19,12 +19,12 @@ use Rattle.named.specs.Named.{typeNamed, firstOfAll, firstNamed, secondNamed}
 -- ---- a type
 
 module _ (s : List ℕ) (i : ℕ) where
-  pub type-class : {b x : ℕ} → b ≡ get_or s (i + 1) 0 → b ≡ 0 → x ≡ u16 s (i + 2) → x ≡ typeNamed (ty_at s i)
-  unfolding typeNamed ty_at u8
+  pub type-class : {b x : ℕ} → b ≡ get_or s (i + 1) 0 → b ≡ 0 → x ≡ u16 s (i + 2) → x ≡ typeNamed (tyAt s i)
+  unfolding typeNamed tyAt u8
   type-class eb z ex = rw (eq-eqb (get_or s (i + 1) 0) 0 (sym eb ∙ z), typeNamed) ex
 
-  pub type-primitive : {b : ℕ} → b ≡ get_or s (i + 1) 0 → (b ≡ 0 → ⊥) → 65535 ≡ typeNamed (ty_at s i)
-  unfolding typeNamed ty_at u8
+  pub type-primitive : {b : ℕ} → b ≡ get_or s (i + 1) 0 → (b ≡ 0 → ⊥) → 65535 ≡ typeNamed (tyAt s i)
+  unfolding typeNamed tyAt u8
   type-primitive eb z = rw (ne_eqb (get_or s (i + 1) 0) 0 (λ q. z (eb ∙ q)), typeNamed)
 
 -- ---- a record
@@ -42,11 +42,11 @@ module _ {s : List ℕ} {at : ℕ} (z : Sized s at) {k : ℕ} (ek : k ≡ u16 s 
   unfolding firstNamed firstOfAll
   first-class e ex = ex ∙ sym (superclass-at z (kind-is z ek e)) ∙ sym (by-kind (recordAt s at) none16 _ CLASS (eq→eqb (kind-is z ek e)))
 
-  pub first_field : k ≡ FIELD → {x : ℕ} → x ≡ typeNamed (ty_at s (at + 6)) → x ≡ firstNamed false (recordAt s at)
+  pub first_field : k ≡ FIELD → {x : ℕ} → x ≡ typeNamed (tyAt s (at + 6)) → x ≡ firstNamed false (recordAt s at)
   unfolding firstNamed firstOfAll
   first_field e ex = ex ∙ ap typeNamed (sym (field-type-at z (kind-is z ek e))) ∙ sym (by-kind (recordAt s at) none16 _ FIELD (eq→eqb (kind-is z ek e)))
 
-  pub first-local : k ≡ LOCAL → {x : ℕ} → x ≡ typeNamed (ty_at s (at + 4)) → x ≡ firstNamed false (recordAt s at)
+  pub first-local : k ≡ LOCAL → {x : ℕ} → x ≡ typeNamed (tyAt s (at + 4)) → x ≡ firstNamed false (recordAt s at)
   unfolding firstNamed firstOfAll
   first-local e ex = ex ∙ ap typeNamed (sym (local-type-at z (kind-is z ek e))) ∙ sym (by-kind (recordAt s at) none16 _ LOCAL (eq→eqb (kind-is z ek e)))
 

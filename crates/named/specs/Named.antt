@@ -1,19 +1,19 @@
 -- The classes that a record names, one after the other: at most two.
 -- Assumes nothing.
 use Rattle.std.specs.Prelude.{Bool, true, false, List, [], ◌∷◌, ℕ, eqb}
-use Rattle.spec.specs.Lists.{only_if}
-use Rattle.spec.specs.Record.{none16, by_kind, isKind, isClass, BUILDS, superclass, encloser, target, Ty, fieldTy, local_ty, references}
+use Rattle.spec.specs.Lists.{onlyIf}
+use Rattle.spec.specs.Record.{none16, byKind, isKind, isClass, BUILDS, superclass, encloser, target, Ty, fieldTy, localTy, references}
 
 -- the class of a type, none if it is primitive
 unfoldable pub typeNamed : Ty → ℕ
 typeNamed t = elim (eqb t.code 0) [ true ↦ t.class | false ↦ none16 ]
 
 unfoldable pub firstOfAll : List ℕ → ℕ
-firstOfAll r = by_kind r none16
+firstOfAll r = byKind r none16
     (superclass r
     ∷ target r
     ∷ typeNamed (fieldTy r)
-    ∷ typeNamed (local_ty r)
+    ∷ typeNamed (localTy r)
     ∷ target r
     ∷ target r
     ∷ none16
@@ -35,5 +35,5 @@ secondNamed builds r = elim builds [
 ]
 
 -- what document 01 says of either
-unfoldable pub named_by : Bool → List ℕ → List ℕ
-named_by builds r = elim builds [ true ↦ only_if (isKind BUILDS r) (target r ∷ []) | false ↦ references r ]
+unfoldable pub namedBy : Bool → List ℕ → List ℕ
+namedBy builds r = elim builds [ true ↦ onlyIf (isKind BUILDS r) (target r ∷ []) | false ↦ references r ]

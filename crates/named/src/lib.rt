@@ -3,7 +3,7 @@
 
 ghost use Rattle.std.specs.Prelude.{◌≡◌, true, false, ◌+◌, ◌≤◌, ◌<◌, length};
 ghost use Rattle.spec.specs.Lists.{elem};
-ghost use Rattle.spec.specs.Record.{ty_at, references};
+ghost use Rattle.spec.specs.Record.{tyAt, references};
 ghost use Rattle.records.specs.Records.{Sized, recordAt};
 ghost use Rattle.named.specs.Named.{typeNamed, firstNamed, secondNamed};
 
@@ -15,7 +15,7 @@ use records::{
 // The class of the type at i.
 fn type_named(bytes: &[u8], i: usize) -> usize
     requires { (i + 3 < length bytes.now) × (length bytes.now ≤ 32768) }
-    ensures { result ≡ typeNamed (ty_at bytes.now i) }
+    ensures { result ≡ typeNamed (tyAt bytes.now i) }
 {
     if bytes[i + CODE_AT] == 0 {
         return wide(word_in(bytes, i + TYPE_CLASS_AT));

@@ -11,7 +11,7 @@ use lib.Dec.{T, eqb, ltb, ltb→lt, nltb→le}
 use lib.ListN.{length, get_or, get_or-eq_default}
 use borrow.Author.Tests.{eq-eqb, ne_eqb}
 use Rattle.spec.specs.Lists.{all, keep, gather, span}
-use Rattle.spec.specs.Record.{u8, u16, bit, ownMarkers, Ty, ty_at, tyReferences}
+use Rattle.spec.specs.Record.{u8, u16, bit, ownMarkers, Ty, tyAt, tyReferences}
 use Rattle.spec.specs.Sheet.{Group, group, total, classRecord, ofKind}
 use Rattle.spec.specs.Markers.{union, unionAll, closures, closure}
 use Rattle.spec.specs.Classes.{superclasses, targets, supertypes, gathered, overlay, hasMarker, satisfies}
@@ -59,16 +59,16 @@ fill_end {library} {user} {nlib} {n} x {row = row} {c} f h =
 -- ---- the markers of a type
 
 module _ (row s : List ℕ) (i : ℕ) where
-  pub type-array : (get_or s i 0 ≡ 0 → ⊥) → 0 ≡ rowMarkers row (ty_at s i)
-  unfolding rowMarkers markersBy ty_at u8
+  pub type-array : (get_or s i 0 ≡ 0 → ⊥) → 0 ≡ rowMarkers row (tyAt s i)
+  unfolding rowMarkers markersBy tyAt u8
   type-array n = rw (ne_eqb (get_or s i 0) 0 n, markersBy)
 
-  pub type-primitive : get_or s i 0 ≡ 0 → (get_or s (i + 1) 0 ≡ 0 → ⊥) → 255 ≡ rowMarkers row (ty_at s i)
-  unfolding rowMarkers markersBy ty_at u8
+  pub type-primitive : get_or s i 0 ≡ 0 → (get_or s (i + 1) 0 ≡ 0 → ⊥) → 255 ≡ rowMarkers row (tyAt s i)
+  unfolding rowMarkers markersBy tyAt u8
   type-primitive z n = rw (eq-eqb (get_or s i 0) 0 z, ne_eqb (get_or s (i + 1) 0) 0 n, markersBy)
 
-  pub type-class : get_or s i 0 ≡ 0 → get_or s (i + 1) 0 ≡ 0 → {c m : ℕ} → c ≡ u16 s (i + 2) → m ≡ get_or row c 0 → m ≡ rowMarkers row (ty_at s i)
-  unfolding rowMarkers markersBy ty_at u8
+  pub type-class : get_or s i 0 ≡ 0 → get_or s (i + 1) 0 ≡ 0 → {c m : ℕ} → c ≡ u16 s (i + 2) → m ≡ get_or row c 0 → m ≡ rowMarkers row (tyAt s i)
+  unfolding rowMarkers markersBy tyAt u8
   type-class z y {c} ec em = rw (eq-eqb (get_or s i 0) 0 z, eq-eqb (get_or s (i + 1) 0) 0 y, markersBy) (em ∙ ap (λ (k : ℕ). get_or row k 0) ec)
 
 -- a right row tells the markers of a type

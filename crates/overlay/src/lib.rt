@@ -3,8 +3,8 @@
 #![tactic(auto)]
 
 ghost use Rattle.std.specs.Prelude.{◌≡◌, ℕ, ◌+◌, ◌≤◌, ◌<◌, min, max, length, get_or, set};
-ghost use Rattle.spec.specs.Record.{ty_at};
-ghost use Rattle.spec.specs.Sheet.{Group, group as group_of};
+ghost use Rattle.spec.specs.Record.{tyAt};
+ghost use Rattle.spec.specs.Sheet.{Group, group as groupOf};
 ghost use Rattle.spec.specs.Classes.{overlay as overlayOf};
 ghost use Rattle.theory.proofs.Falls.{Falls};
 ghost use Rattle.records.specs.Records.{Carries};
@@ -34,7 +34,7 @@ fn bytes_of<'a>(
 ) -> &'a [u8]
     requires indexed { Indexed library.now user.now classes.library classes.all starts.now }
     requires there { c < classes.all }
-    ensures { let g : ℕ → Group = group_of library.now user.now in Carries result.now (g c) }
+    ensures { let g : ℕ → Group = groupOf library.now user.now in Carries result.now (g c) }
 {
     class_bytes(library, user, starts, classes, c)
 }
@@ -51,10 +51,10 @@ fn lower<'a>(
     memo: &mut [u16],
 ) -> u8
     requires indexed { Indexed library.now user.now classes.library classes.all starts.now }
-    requires falls { let g : ℕ → Group = group_of library.now user.now in Falls g }
+    requires falls { let g : ℕ → Group = groupOf library.now user.now in Falls g }
     requires there { c < classes.all }
-    requires knows { let g : ℕ → Group = group_of library.now user.now in Knows g c memo.old }
-    ensures markers { let g : ℕ → Group = group_of library.now user.now in result ≡ lowerRaw g c i }
+    requires knows { let g : ℕ → Group = groupOf library.now user.now in Knows g c memo.old }
+    ensures markers { let g : ℕ → Group = groupOf library.now user.now in result ≡ lowerRaw g c i }
     ensures memo { memo.new ≡ memo.old }
 {
     if c <= i {
@@ -74,11 +74,11 @@ fn gathered<'a>(
     memo: &mut [u16],
 ) -> u8
     requires indexed { Indexed library.now user.now classes.library classes.all starts.now }
-    requires falls { let g : ℕ → Group = group_of library.now user.now in Falls g }
+    requires falls { let g : ℕ → Group = groupOf library.now user.now in Falls g }
     requires there { c < classes.all }
-    requires knows { let g : ℕ → Group = group_of library.now user.now in Knows g c memo.old }
-    ensures markers { let g : ℕ → Group = group_of library.now user.now in result ≡ raw g c }
-    ensures memo { let g : ℕ → Group = group_of library.now user.now in memo.new ≡ set memo.old c (raw g c) }
+    requires knows { let g : ℕ → Group = groupOf library.now user.now in Knows g c memo.old }
+    ensures markers { let g : ℕ → Group = groupOf library.now user.now in result ≡ raw g c }
+    ensures memo { let g : ℕ → Group = groupOf library.now user.now in memo.new ≡ set memo.old c (raw g c) }
 {
     let known = memo[c];
     if known < SETS {
@@ -105,10 +105,10 @@ fn interfaces<'a>(
     memo: &mut [u16],
 ) -> u8
     requires indexed { Indexed library.now user.now classes.library classes.all starts.now }
-    requires falls { let g : ℕ → Group = group_of library.now user.now in Falls g }
+    requires falls { let g : ℕ → Group = groupOf library.now user.now in Falls g }
     requires there { c < classes.all }
-    requires knows { let g : ℕ → Group = group_of library.now user.now in Knows g c memo.old }
-    ensures markers { let g : ℕ → Group = group_of library.now user.now in result ≡ withInterfaces g c mine }
+    requires knows { let g : ℕ → Group = groupOf library.now user.now in Knows g c memo.old }
+    ensures markers { let g : ℕ → Group = groupOf library.now user.now in result ≡ withInterfaces g c mine }
     ensures memo { memo.new ≡ memo.old }
 {
     let bytes = bytes_of(library, user, starts, classes, c);
@@ -136,7 +136,7 @@ pub fn overlay<'a>(
     memo: &mut [u16],
 ) -> u8
     ghost g: { ℕ → Group }
-    requires groups { group_of library.now user.now ≡ g }
+    requires groups { groupOf library.now user.now ≡ g }
     requires indexed { Indexed library.now user.now classes.library classes.all starts.now }
     requires falls { Falls g }
     requires there { c < classes.all }
@@ -160,7 +160,7 @@ pub fn overlay_in_turn<'a>(
     memo: &mut [u16],
 ) -> u8
     ghost g: { ℕ → Group }
-    requires groups { group_of library.now user.now ≡ g }
+    requires groups { groupOf library.now user.now ≡ g }
     requires indexed { Indexed library.now user.now classes.library classes.all starts.now }
     requires falls { Falls g }
     requires there { c < classes.all }
@@ -186,7 +186,7 @@ fn overlay_or_none<'a>(
     memo: &mut [u16],
 ) -> u8
     ghost g: { ℕ → Group }
-    requires groups { group_of library.now user.now ≡ g }
+    requires groups { groupOf library.now user.now ≡ g }
     requires indexed { Indexed library.now user.now classes.library classes.all starts.now }
     requires falls { Falls g }
     requires memo { memo.old ≡ memoOf g (max classes.library (min c classes.all)) }
@@ -209,7 +209,7 @@ pub fn overlays<'a>(
     row: &mut [u8],
 )
     ghost g: { ℕ → Group }
-    requires groups { group_of library.now user.now ≡ g }
+    requires groups { groupOf library.now user.now ≡ g }
     requires indexed { Indexed library.now user.now classes.library classes.all starts.now }
     requires falls { Falls g }
     requires memo { memo.old ≡ memoOf g classes.library }
@@ -234,7 +234,7 @@ pub fn known(row: &[u8], c: usize) -> u8
 // The markers that the type at i satisfies, by the row of all classes' markers: those of its class, all if it is primitive, none if it is an array.
 pub fn type_markers(bytes: &[u8], i: usize, row: &[u8]) -> u8
     requires { (i + 3 < length bytes.now) × (length bytes.now ≤ 32768) }
-    ensures { result ≡ rowMarkers row.now (ty_at bytes.now i) }
+    ensures { result ≡ rowMarkers row.now (tyAt bytes.now i) }
 {
     if bytes[i] != 0 {
         return 0;

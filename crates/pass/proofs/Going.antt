@@ -13,13 +13,13 @@ use lib.ListN.{length, drop, set, length-append, length-set}
 use borrow.Author.Tests.{eq-eqb, ne_eqb}
 use Rattle.spec.specs.Lists.{all, concat}
 use Rattle.spec.specs.Record.{u16}
-use Rattle.spec.specs.Sheet.{wholeFirst, recordsOf, wholeEnd, Split, splitGroups, groups_of, classCount, Located, locatedIn}
+use Rattle.spec.specs.Sheet.{wholeFirst, recordsOf, wholeEnd, Split, splitGroups, groupsOf, classCount, Located, locatedIn}
 use Rattle.spec.specs.Refusals.{refuseIf, recordTests, recordRefusal, tornRefusal}
 use Rattle.laws.proofs.Bools.{not-or-l, not-or-r}
 use Rattle.laws.proofs.All.{All}
 use Rattle.theory.proofs.Cut.{split-class, split-other, records-stop}
 use Rattle.theory.proofs.Answers.{some≢none, first_past, first_some, Fails, record-none}
-use Rattle.pass.specs.Pass.{number_of, place, recordNumber, passRefusal, shifted, passOf, fill, filled, Filled}
+use Rattle.pass.specs.Pass.{numberOf, place, recordNumber, passRefusal, shifted, passOf, fill, filled, Filled}
 use Rattle.pass.specs.declared.Pass.{Pass}
 use Rattle.pass.specs.declared.Pass.TheVariants.{Fine, Refused}
 use Rattle.pass.proofs.Starts.{fill-class, fill-other}
@@ -33,7 +33,7 @@ use Rattle.records.proofs.Whole.{Whole, whole-at, at-whole, whole-unless, end-st
 
 -- the number of a whole record, and what it refuses
 module _ (sheet : ℕ) (s : List ℕ) (at n k b : ℕ) (w : Whole s at) where
-  pub number-here : recordNumber sheet s at n k b ≡ number_of (recordTests (place sheet at n k b (recordAt s at)))
+  pub number-here : recordNumber sheet s at n k b ≡ numberOf (recordTests (place sheet at n k b (recordAt s at)))
   unfolding recordNumber
   number-here = rw (at-whole w, recordNumber)
 
@@ -79,13 +79,13 @@ module _ {s : List ℕ} {at : ℕ} (w : Whole s at) where
   end_step = rw (records-here w, length-append, length-here w)
 
   pub count-class : u16 s (at + 2) ≡ 1 → classCount (drop at s) ≡ suc (classCount (drop (at + u16 s at) s))
-  unfolding classCount groups_of
+  unfolding classCount groupsOf
   count-class e =
       ap (λ (rs : List (List ℕ)). length (splitGroups rs).groups) (records-here w)
       ∙ ap (λ (t : Split). length t.groups) (split-class (recordAt s at) (recordsOf (drop (at + u16 s at) s)) (class-here w e))
 
   pub count-other : (u16 s (at + 2) ≡ 1 → ⊥) → classCount (drop at s) ≡ classCount (drop (at + u16 s at) s)
-  unfolding classCount groups_of
+  unfolding classCount groupsOf
   count-other e =
       ap (λ (rs : List (List ℕ)). length (splitGroups rs).groups) (records-here w)
       ∙ ap (λ (t : Split). length t.groups) (split-other (recordAt s at) (recordsOf (drop (at + u16 s at) s)) (other-here w e))
@@ -106,7 +106,7 @@ module _ (s : List ℕ) (e : wholeFirst s ≡ false) where
   none_end = rw (records-stop s e)
 
   pub none-count : classCount s ≡ 0
-  unfolding classCount groups_of
+  unfolding classCount groupsOf
   none-count = ap (λ (rs : List (List ℕ)). length (splitGroups rs).groups) (records-stop s e) ∙ (unfold splitGroups in refl)
 
   none-fill : (row : List ℕ) (n at : ℕ) → fill row n at (recordsOf s) ≡ row

@@ -10,9 +10,9 @@ use native.Mathlib.Omega.{arith}
 use lib.ListN.{length, set, length-append}
 use lib.Dec.{T}
 use borrow.Author.Tests.{eq-eqb}
-use Rattle.spec.specs.Lists.{concat, first_of}
+use Rattle.spec.specs.Lists.{concat, firstOf}
 use Rattle.spec.specs.Record.{kind, isClass}
-use Rattle.spec.specs.Sheet.{recordsIn, recordsOf, wholeEnd, Split, splitGroups, groups_of, classCount, Located, locate, locatedIn}
+use Rattle.spec.specs.Sheet.{recordsIn, recordsOf, wholeEnd, Split, splitGroups, groupsOf, classCount, Located, locate, locatedIn}
 use Rattle.spec.specs.Refusals.{Refusal, refuseIf, refuseRecord, recordTests, recordRefusal, tornRefusal, oneClass}
 use Rattle.laws.proofs.All.{All, all_append, all_map}
 use Rattle.theory.proofs.Cut.{concat-append, split-class, split-other, split-join, IsGroup, group-one, records-of-groups, count-of-join, whole_join}
@@ -23,14 +23,14 @@ use Rattle.pass.proofs.Starts.{fill-class, fill-other}
 
 -- ---- refusals further on
 
-first-shifted : (d : ℕ) (o : Option Refusal) (os os' : List (Option Refusal)) → first_of os' ≡ shifted d (first_of os) → first_of (shifted d o ∷ os') ≡ shifted d (first_of (o ∷ os))
-unfolding first_of
+first-shifted : (d : ℕ) (o : Option Refusal) (os os' : List (Option Refusal)) → firstOf os' ≡ shifted d (firstOf os) → firstOf (shifted d o ∷ os') ≡ shifted d (firstOf (o ∷ os))
+unfolding firstOf
 first-shifted d none os os' e = e
 first-shifted d (some r) os os' e = refl
 
 tests-shifted : (d sheet at : ℕ) (ts : List (ℕ × Bool))
-    → first_of (map (λ t. refuseIf t.1 t.0 sheet (d + at)) ts) ≡ shifted d (first_of (map (λ t. refuseIf t.1 t.0 sheet at) ts))
-unfolding first_of refuseIf
+    → firstOf (map (λ t. refuseIf t.1 t.0 sheet (d + at)) ts) ≡ shifted d (firstOf (map (λ t. refuseIf t.1 t.0 sheet at) ts))
+unfolding firstOf refuseIf
 tests-shifted d sheet at [] = refl
 tests-shifted d sheet at ((n, true) ∷ ts) = refl
 tests-shifted d sheet at ((n, false) ∷ ts) = tests-shifted d sheet at ts
@@ -46,10 +46,10 @@ answer-shifted d sheet at n k b r = go (isClass r) refl
 
 -- the first answer along some records
 abbrev along : ℕ → ℕ → ℕ → ℕ → ℕ → List (List ℕ) → Option Refusal
-along sheet at n k b rs = first_of (map (answer recordTests) (locate sheet at n k b rs))
+along sheet at n k b rs = firstOf (map (answer recordTests) (locate sheet at n k b rs))
 
 along-shifted : (d sheet at n k b : ℕ) (rs : List (List ℕ)) → along sheet (d + at) n k b rs ≡ shifted d (along sheet at n k b rs)
-along-shifted d sheet at n k b [] = unfold locate first_of in refl
+along-shifted d sheet at n k b [] = unfold locate firstOf in refl
 along-shifted d sheet at n k b (r ∷ rs) =
     let n' : ℕ = classesAfter (isClass r) n in
     let k' : ℕ = recordsAfter (isClass r) k in
@@ -115,31 +115,31 @@ fill-append row n at (r ∷ rs) rs' = go (isClass r) refl (fill-append (set row 
     go false e f g = rw (fill-other row n at r (rs ++ rs') e, fill-other row n at r rs e, long-cons r rs at, count-other r rs e, g)
 
 along-append : (sheet n : ℕ) (rs rs' : List (List ℕ)) → Opens rs'
-    → along sheet 0 n 0 0 (rs ++ rs') ≡ first_of (along sheet 0 n 0 0 rs ∷ shifted (length (concat rs)) (along sheet 0 (n + count rs) 0 0 rs') ∷ [])
+    → along sheet 0 n 0 0 (rs ++ rs') ≡ firstOf (along sheet 0 n 0 0 rs ∷ shifted (length (concat rs)) (along sheet 0 (n + count rs) 0 0 rs') ∷ [])
 along-append sheet n rs rs' o =
     let d : ℕ = length (concat rs) in
     let e : 0 + d ≡ d + 0 = omega arith in
     let ls : List Located = locate sheet 0 n 0 0 rs in
     let ls' : List Located = locate sheet (0 + d) (n + count rs) 0 0 rs' in
-    let q : first_of (map (answer recordTests) ls') ≡ shifted d (along sheet 0 (n + count rs) 0 0 rs') = rw e (along-shifted d sheet 0 (n + count rs) 0 0 rs') in
-    ap (λ (l : List Located). first_of (map (answer recordTests) l)) (locate-append sheet 0 n 0 0 rs rs' o)
-    ∙ ap first_of (map-append (answer recordTests) ls ls') ∙ first-append (map (answer recordTests) ls) (map (answer recordTests) ls')
-    ∙ keep-head _ _ _ (sym (first-only _)) ∙ ap (λ (x : Option Refusal). first_of (along sheet 0 n 0 0 rs ∷ x ∷ [])) q
+    let q : firstOf (map (answer recordTests) ls') ≡ shifted d (along sheet 0 (n + count rs) 0 0 rs') = rw e (along-shifted d sheet 0 (n + count rs) 0 0 rs') in
+    ap (λ (l : List Located). firstOf (map (answer recordTests) l)) (locate-append sheet 0 n 0 0 rs rs' o)
+    ∙ ap firstOf (map-append (answer recordTests) ls ls') ∙ first-append (map (answer recordTests) ls) (map (answer recordTests) ls')
+    ∙ keep-head _ _ _ (sym (first-only _)) ∙ ap (λ (x : Option Refusal). firstOf (along sheet 0 n 0 0 rs ∷ x ∷ [])) q
 
 -- ---- parts of a sheet
 
 -- the pass of a, else that of b, whose bytes stand further on and after the classes of a, is that of both; so of the classes and of the row of starts
 pub record Seam (a b : List ℕ) : Type 0 where
-  pub refusal : (sheet n : ℕ) → passRefusal sheet n (a ++ b) ≡ first_of (passRefusal sheet n a ∷ shifted (length a) (passRefusal sheet (n + classCount a) b) ∷ [])
+  pub refusal : (sheet n : ℕ) → passRefusal sheet n (a ++ b) ≡ firstOf (passRefusal sheet n a ∷ shifted (length a) (passRefusal sheet (n + classCount a) b) ∷ [])
   pub classes : classCount (a ++ b) ≡ classCount a + classCount b
   pub row : (row : List ℕ) (n at : ℕ) → filled row n at (a ++ b) ≡ filled (filled row n at a) (n + classCount a) (at + length a) b
 
-before-none : (o : Option Refusal) → first_of (o ∷ none ∷ []) ≡ o
-before-none o = keep-head o (none ∷ []) [] (unfold first_of in refl) ∙ first-only o
+before-none : (o : Option Refusal) → firstOf (o ∷ none ∷ []) ≡ o
+before-none o = keep-head o (none ∷ []) [] (unfold firstOf in refl) ∙ first-only o
 
 -- nothing stands after the first part
 pub seam-nothing : (a : List ℕ) → Seam a []
-unfolding passRefusal recordRefusal tornRefusal locatedIn locate recordsOf wholeEnd classCount groups_of filled fill first_of refuseIf concat recordsIn splitGroups
+unfolding passRefusal recordRefusal tornRefusal locatedIn locate recordsOf wholeEnd classCount groupsOf filled fill firstOf refuseIf concat recordsIn splitGroups
 seam-nothing a = record {
   refusal = λ sheet n. ap (passRefusal sheet n) (append-nil a) ∙ sym (before-none (passRefusal sheet n a));
   classes = ap classCount (append-nil a) ∙ sym (add-zero (classCount a));
@@ -172,8 +172,8 @@ module _ (xs ys : List (List ℕ)) (wx : All IsGroup xs) (wy : All IsGroup ys) w
 
   refusal-both : (sheet n : ℕ)
       → passRefusal sheet n (concat xs ++ concat ys)
-      ≡ first_of (passRefusal sheet n (concat xs) ∷ shifted (length (concat xs)) (passRefusal sheet (n + classCount (concat xs)) (concat ys)) ∷ [])
-  unfolding classCount groups_of wholeEnd
+      ≡ firstOf (passRefusal sheet n (concat xs) ∷ shifted (length (concat xs)) (passRefusal sheet (n + classCount (concat xs)) (concat ys)) ∷ [])
+  unfolding classCount groupsOf wholeEnd
   refusal-both sheet n =
       let a = whole-pass sheet n (concat xs) (whole_join xs wx) in
       let b = whole-pass sheet (n + classCount (concat xs)) (concat ys) (whole_join ys wy) in
@@ -184,7 +184,7 @@ module _ (xs ys : List (List ℕ)) (wx : All IsGroup xs) (wy : All IsGroup ys) w
   classes-both = ap classCount (sym (concat-append xs ys)) ∙ count-of-join (xs ++ ys) both ∙ omega (arith, length-append xs ys, count-of-join xs wx, count-of-join ys wy)
 
   row-both : (row : List ℕ) (n at : ℕ) → filled row n at (concat xs ++ concat ys) ≡ filled (filled row n at (concat xs)) (n + classCount (concat xs)) (at + length (concat xs)) (concat ys)
-  unfolding filled classCount groups_of wholeEnd
+  unfolding filled classCount groupsOf wholeEnd
   row-both row n at = rw (records-both, ← whole_join xs wx) (fill-append row n at (recordsOf (concat xs)) (recordsOf (concat ys)))
 
   pub seam-groups : Seam (concat xs) (concat ys)

@@ -11,7 +11,7 @@ use borrow.Author.Tests.{le-ltb, lt-leb}
 use Rattle.spec.specs.Record.{u16, kind, isClass, bodyFits}
 use Rattle.spec.specs.Sheet.{wholeFirst}
 use Rattle.spec.specs.Refusals.{recordTests}
-use Rattle.pass.specs.Pass.{homeFits, name_at, nameStart, fixed_at, orderNumber, or_else, headNumber, number_of, place, recordNumber}
+use Rattle.pass.specs.Pass.{homeFits, nameAt, nameStart, fixedAt, orderNumber, orElse, headNumber, numberOf, place, recordNumber}
 use Rattle.records.specs.Records.{sizeFits, recordAt}
 use Rattle.pass.proofs.Bodies.{kind_fits, body_at, body-fits}
 use Rattle.records.proofs.Whole.{Whole, at-whole, not-whole, length-here, kind-here}
@@ -58,10 +58,10 @@ placed sheet at n k b r h = go (isClass r) refl
     go true e = rw (e, place, kind_fits sheet r, length-fits r, or-false (leb 256 n), le-ltb (kind r) 0 (omega arith))
     go false e = rw (e, place, kind_fits sheet r, length-fits r, lt-leb 256 (n - 1) (omega arith))
 
-or-second : {i : ℕ} (m : ℕ) → i ≡ 0 → or_else i m ≡ m
+or-second : {i : ℕ} (m : ℕ) → i ≡ 0 → orElse i m ≡ m
 or-second m e = rw e
 
-or-first : (i m : ℕ) → (i ≡ 0 → ⊥) → or_else i m ≡ i
+or-first : (i m : ℕ) → (i ≡ 0 → ⊥) → orElse i m ≡ i
 or-first zero m h = absurd (h refl)
 or-first (suc i) m h = refl
 
@@ -73,15 +73,15 @@ abbrev pub late : Bool → Bool → Bool → ℕ
 late true e f = elim e [ true ↦ 7 | false ↦ elim f [ true ↦ 16 | false ↦ 0 ] ]
 late false e f = 5
 
-late-tests : (d e f : Bool) → number_of ((5, not d) ∷ (7, e) ∷ (16, f) ∷ []) ≡ late d e f
-unfolding number_of
+late-tests : (d e f : Bool) → numberOf ((5, not d) ∷ (7, e) ∷ (16, f) ∷ []) ≡ late d e f
+unfolding numberOf
 late-tests true e f = refl
 late-tests false e f = refl
 
 -- the body is asked only if the length fits
 decided : (a b g d d' e f : Bool) → (b ≡ true → d ≡ d')
-    → number_of ((3, not a) ∷ (4, not b) ∷ (6, not g) ∷ (5, not d) ∷ (7, e) ∷ (16, f) ∷ []) ≡ or_else (early a b g) (late d' e f)
-unfolding number_of
+    → numberOf ((3, not a) ∷ (4, not b) ∷ (6, not g) ∷ (5, not d) ∷ (7, e) ∷ (16, f) ∷ []) ≡ orElse (early a b g) (late d' e f)
+unfolding numberOf
 decided false b g d d' e f h = refl
 decided true false g d d' e f h = refl
 decided true true false d d' e f h = refl
@@ -98,7 +98,7 @@ order-size sheet kind n k e = early-size (homeFits sheet kind) (sizeFits kind n)
 
 whole-number : (sheet : ℕ) (s : List ℕ) (at n k b : ℕ) → Whole s at → n ≤ 256
     → let j = u16 s (at + 2) in
-    recordNumber sheet s at n k b ≡ or_else (orderNumber sheet j (u16 s at) k) (late (body_at sheet s at (u16 s at) j) (full (eqb j 1) n k) (falling (eqb j 1) j b))
+    recordNumber sheet s at n k b ≡ orElse (orderNumber sheet j (u16 s at) k) (late (body_at sheet s at (u16 s at) j) (full (eqb j 1) n k) (falling (eqb j 1) j b))
 unfolding recordNumber recordAt orderNumber kind
 whole-number sheet s at n k b w h =
     let r = recordAt s at in
@@ -117,7 +117,7 @@ module _ (sheet : ℕ) (s : List ℕ) (at kind n k : ℕ) {i : ℕ} (ei : i ≡ 
   unfolding headNumber
   by_order z = rw (← ei) (sym (or-first i _ z))
 
-  pub by-fixed : i ≡ 0 → {f : Bool} → f ≡ fixed_at sheet s at kind → headNumber sheet s at kind n k ≡ elim f [ true ↦ 0 | false ↦ 5 ]
+  pub by-fixed : i ≡ 0 → {f : Bool} → f ≡ fixedAt sheet s at kind → headNumber sheet s at kind n k ≡ elim f [ true ↦ 0 | false ↦ 5 ]
   unfolding headNumber
   by-fixed z e = rw (← ei, ← e) (or-second _ z)
 
@@ -126,24 +126,24 @@ pub no-home : (sheet : ℕ) (s : List ℕ) (at k n j : ℕ) → homeFits sheet k
 no-home sheet s at k n j z = by_order sheet s at k n j (unfold orderNumber in rw (z, orderNumber)) (λ e. omega arith)
 
 -- what a head with a number, or without one, says of all tests
-head-some : (i : ℕ) (f g e l : Bool) → (or_else i (elim f [ true ↦ 0 | false ↦ 5 ]) ≡ 0 → ⊥) → or_else i (elim f [ true ↦ 0 | false ↦ 5 ]) ≡ or_else i (late (f && g) e l)
+head-some : (i : ℕ) (f g e l : Bool) → (orElse i (elim f [ true ↦ 0 | false ↦ 5 ]) ≡ 0 → ⊥) → orElse i (elim f [ true ↦ 0 | false ↦ 5 ]) ≡ orElse i (late (f && g) e l)
 head-some zero true g e l z = absurd (z refl)
 head-some zero false g e l z = refl
 head-some (suc i) f g e l z = refl
 
-head-none : (i : ℕ) (f g e l : Bool) → or_else i (elim f [ true ↦ 0 | false ↦ 5 ]) ≡ 0 → (i ≡ 0) × (or_else i (late (f && g) e l) ≡ late g e l)
+head-none : (i : ℕ) (f g e l : Bool) → orElse i (elim f [ true ↦ 0 | false ↦ 5 ]) ≡ 0 → (i ≡ 0) × (orElse i (late (f && g) e l) ≡ late g e l)
 head-none zero true g e l z = (refl, refl)
 head-none zero false g e l z = absurd (omega (arith, z))
 head-none (suc i) f g e l z = absurd (omega (arith, z))
 
 pub head-size : (sheet : ℕ) (s : List ℕ) (at kind n k : ℕ) {i : ℕ} → i ≡ headNumber sheet s at kind n k → i ≡ 0 → sizeFits kind n ≡ true
 unfolding headNumber
-head-size sheet s at kind n k e z = order-size sheet kind n k (head-none (orderNumber sheet kind n k) (fixed_at sheet s at kind) true true true (sym e ∙ z)).0
+head-size sheet s at kind n k e z = order-size sheet kind n k (head-none (orderNumber sheet kind n k) (fixedAt sheet s at kind) true true true (sym e ∙ z)).0
 
 module _ (sheet k b : ℕ) {s : List ℕ} {at n : ℕ} (w : Whole s at) (h : n ≤ 256) {len kind i : ℕ} (el : len ≡ u16 s at) (ek : kind ≡ u16 s (at + 2)) (ei : i ≡ headNumber sheet s at kind len k) where
   -- what is asked after the head
   abbrev named : Bool
-  named = name_at s at len (nameStart kind len)
+  named = nameAt s at len (nameStart kind len)
 
   abbrev filled : Bool
   filled = full (eqb kind 1) n k
@@ -151,13 +151,13 @@ module _ (sheet k b : ℕ) {s : List ℕ} {at n : ℕ} (w : Whole s at) (h : n �
   abbrev falls : Bool
   falls = falling (eqb kind 1) kind b
 
-  in_all : recordNumber sheet s at n k b ≡ or_else (orderNumber sheet kind len k) (late (fixed_at sheet s at kind && named) filled falls)
+  in_all : recordNumber sheet s at n k b ≡ orElse (orderNumber sheet kind len k) (late (fixedAt sheet s at kind && named) filled falls)
   in_all = rw (el, ek) (whole-number sheet s at n k b w h)
 
   pub by-head : (i ≡ 0 → ⊥) → i ≡ recordNumber sheet s at n k b
   unfolding headNumber
-  by-head z = ei ∙ head-some (orderNumber sheet kind len k) (fixed_at sheet s at kind) named filled falls (λ q. z (ei ∙ q)) ∙ sym in_all
+  by-head z = ei ∙ head-some (orderNumber sheet kind len k) (fixedAt sheet s at kind) named filled falls (λ q. z (ei ∙ q)) ∙ sym in_all
 
   pub by_name : i ≡ 0 → recordNumber sheet s at n k b ≡ late named filled falls
   unfolding headNumber
-  by_name z = in_all ∙ (head-none (orderNumber sheet kind len k) (fixed_at sheet s at kind) named filled falls (sym ei ∙ z)).1
+  by_name z = in_all ∙ (head-none (orderNumber sheet kind len k) (fixedAt sheet s at kind) named filled falls (sym ei ∙ z)).1

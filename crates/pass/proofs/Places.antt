@@ -9,12 +9,12 @@ use native.Mathlib.Omega.{arith}
 use lib.Dec.{T, eqb, ltb, ltb→lt}
 use lib.ListN.{length}
 use borrow.Author.Tests.{ne_eqb}
-use Rattle.spec.specs.Lists.{all, first_of}
+use Rattle.spec.specs.Lists.{all, firstOf}
 use Rattle.spec.specs.Record.{kind, isClass}
 use Rattle.spec.specs.Sheet.{Located, locate}
 use Rattle.spec.specs.Refusals.{Refusal, refuseIf, refuseRecord}
 use Rattle.laws.proofs.Bools.{and_l, and_r}
-use Rattle.pass.specs.Pass.{number_of, place}
+use Rattle.pass.specs.Pass.{numberOf, place}
 
 module _ (sheet at n k b : ℕ) (r : List ℕ) where
   abbrev pub classPlace : Located
@@ -72,8 +72,8 @@ answer tests l = refuseRecord l (tests l)
 
 -- a record is refused by the number of the first test that it meets, where no test has the number 0
 pub number-refuses : (l : Located) (ts : List (ℕ × Bool)) → T (all (λ t. ltb 0 t.0) ts)
-    → refuseRecord l ts ≡ refuseIf (not (eqb (number_of ts) 0)) (number_of ts) l.sheet l.byte
-unfolding refuseRecord number_of all refuseIf first_of
+    → refuseRecord l ts ≡ refuseIf (not (eqb (numberOf ts) 0)) (numberOf ts) l.sheet l.byte
+unfolding refuseRecord numberOf all refuseIf firstOf
 number-refuses l [] h = refl
 number-refuses l ((n, true) ∷ ts) h =
     let p = ltb→lt 0 n (and_l (ltb 0 n) (all (λ t. ltb 0 t.0) ts) h) in
@@ -82,10 +82,10 @@ number-refuses l ((n, false) ∷ ts) h = number-refuses l ts (and_r (ltb 0 n) (a
 
 -- so of a record at its place
 pub place-refuses : (tests : Located → List (ℕ × Bool)) (sheet at n k b : ℕ) (r : List ℕ) → T (all (λ t. ltb 0 t.0) (tests (place sheet at n k b r)))
-    → answer tests (place sheet at n k b r) ≡ refuseIf (not (eqb (number_of (tests (place sheet at n k b r))) 0)) (number_of (tests (place sheet at n k b r))) sheet at
+    → answer tests (place sheet at n k b r) ≡ refuseIf (not (eqb (numberOf (tests (place sheet at n k b r))) 0)) (numberOf (tests (place sheet at n k b r))) sheet at
 unfolding answer
 place-refuses tests sheet at n k b r h =
     let p : Located = place sheet at n k b r in
-    let m : ℕ = number_of (tests p) in
+    let m : ℕ = numberOf (tests p) in
     number-refuses p (tests p) h
     ∙ by_place sheet at n k b r (λ l. refuseIf (not (eqb m 0)) m l.sheet l.byte ≡ refuseIf (not (eqb m 0)) m sheet at) refl refl

@@ -10,7 +10,7 @@ use lib.ListN.{length, get_or, take, set, length-append, length-set}
 use lib.Seq.{get_or-set_same, get_or-set_other}
 use Rattle.spec.specs.Lists.{concat}
 use Rattle.spec.specs.Record.{isClass}
-use Rattle.spec.specs.Sheet.{Split, splitGroups, recordsOf, groups_of, classCount, groupStart}
+use Rattle.spec.specs.Sheet.{Split, splitGroups, recordsOf, groupsOf, classCount, groupStart}
 use Rattle.theory.proofs.Cut.{concat-append, ontoClass, ontoLoose, split-class, split-other}
 use Rattle.pass.specs.Pass.{fill, filled}
 
@@ -88,10 +88,10 @@ filled-below row n at s j h = below row n at (recordsOf s) j h
 
 -- where no record stands before the first CLASS record
 pub sheet-start : (s : List ℕ) → (splitGroups (recordsOf s)).loose ≡ [] → (i : ℕ) → startFrom 0 (splitGroups (recordsOf s)) i ≡ groupStart s i
-unfolding groups_of groupStart startFrom concat
+unfolding groupsOf groupStart startFrom concat
 sheet-start s e i = omega (arith, ap (λ (rs : List (List ℕ)). length (concat rs)) e)
 
 pub filled-start : (row : List ℕ) (n : ℕ) (s : List ℕ) → (splitGroups (recordsOf s)).loose ≡ [] → n + classCount s ≤ length row
     → (i : ℕ) → i < classCount s → get_or (filled row n 0 s) (n + i) 0 ≡ groupStart s i
-unfolding filled classCount groups_of
+unfolding filled classCount groupsOf
 filled-start row n s e l i h = right row n 0 (recordsOf s) i l h ∙ sheet-start s e i

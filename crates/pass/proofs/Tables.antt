@@ -10,7 +10,7 @@ use lib.ListN.{get_or, get_or-eq_default}
 use borrow.Author.Tests.{leb-true, leb-false}
 use Rattle.spec.specs.Record.{classFlagsFit}
 use Rattle.records.proofs.Sizes.{each, shortest, size-known, at_least}
-use Rattle.pass.specs.Pass.{homeFits, nameStart, fixed_at}
+use Rattle.pass.specs.Pass.{homeFits, nameStart, fixedAt}
 use Rattle.records.specs.Records.{sizeFits}
 
 never : {A B : Type 0} → (A → ⊥) → A → B
@@ -85,18 +85,18 @@ start-inside k {m} {n} l h =
 
 -- ---- kinds without flags or type
 
-fixed-unknown : (sheet : ℕ) (s : List ℕ) (at k : ℕ) → 8 < k → fixed_at sheet s at k ≡ true
-unfolding fixed_at
+fixed-unknown : (sheet : ℕ) (s : List ℕ) (at k : ℕ) → 8 < k → fixedAt sheet s at k ≡ true
+unfolding fixedAt
 fixed-unknown sheet s at k h = rw (get_or-eq_default _ _ h)
 
-pub fixed-none : (sheet : ℕ) (s : List ℕ) (at k : ℕ) → (k ≡ 1 → ⊥) → (k ≡ 3 → ⊥) → (k ≡ 4 → ⊥) → (k ≡ 7 → ⊥) → true ≡ fixed_at sheet s at k
-unfolding fixed_at
+pub fixed-none : (sheet : ℕ) (s : List ℕ) (at k : ℕ) → (k ≡ 1 → ⊥) → (k ≡ 3 → ⊥) → (k ≡ 4 → ⊥) → (k ≡ 7 → ⊥) → true ≡ fixedAt sheet s at k
+unfolding fixedAt
 fixed-none sheet s at k n1 n3 n4 n7 = go (leb 9 k) refl
   where
-    go : (b : Bool) → leb 9 k ≡ b → true ≡ fixed_at sheet s at k
+    go : (b : Bool) → leb 9 k ≡ b → true ≡ fixedAt sheet s at k
     go true e = sym (fixed-unknown sheet s at k (leb-true 9 k e))
     go false e =
-        each (λ j. k ≡ j → true ≡ fixed_at sheet s at j) 9
+        each (λ j. k ≡ j → true ≡ fixedAt sheet s at j) 9
         (λ e. refl, (never n1, (λ e. refl, (never n3, (never n4, (λ e. refl, (λ e. refl, (never n7, (λ e. refl, tt)))))))))
         k (leb-false 9 k e) refl
 

@@ -2,8 +2,8 @@
 -- Assumes nothing.
 use Rattle.std.specs.Prelude.{◌≡◌, Bool, true, false, ◌&&◌, ◌||◌, List, [], ◌∷◌, ℕ, zero, suc, ◌+◌, ◌-◌, ◌*◌, eqb, ltb, length, get_or, take, drop, set}
 use Rattle.std.proofs.Math.Option.{Option, none, some}
-use Rattle.spec.specs.Lists.{first_of}
-use Rattle.spec.specs.Record.{u8, u16, isClass, kind, nameFits, tyFits, ty_at, classFlagsFit}
+use Rattle.spec.specs.Lists.{firstOf}
+use Rattle.spec.specs.Record.{u8, u16, isClass, kind, nameFits, tyFits, tyAt, classFlagsFit}
 use Rattle.spec.specs.Sheet.{wholeFirst, recordsOf, Located}
 use Rattle.spec.specs.Refusals.{Refusal, recordTests, recordRefusal, tornRefusal}
 use Rattle.records.specs.Records.{sizeFits, recordAt}
@@ -22,21 +22,21 @@ unfoldable pub homeFits : ℕ → ℕ → Bool
 homeFits sheet k = get_or (false ∷ true ∷ true ∷ eqb sheet 1 ∷ eqb sheet 1 ∷ eqb sheet 1 ∷ eqb sheet 1 ∷ eqb sheet 0 ∷ eqb sheet 1 ∷ []) k false
 
 -- the name bytes of a record at `at` with length n, after its first j bytes
-unfoldable pub name_at : List ℕ → ℕ → ℕ → ℕ → Bool
-name_at s at n j = nameFits (take ((at + n) - (at + j)) (drop (at + j) s))
+unfoldable pub nameAt : List ℕ → ℕ → ℕ → ℕ → Bool
+nameAt s at n j = nameFits (take ((at + n) - (at + j)) (drop (at + j) s))
 
 -- the byte of a record with length n where its name begins, n if it has none
 unfoldable pub nameStart : ℕ → ℕ → ℕ
 nameStart k n = get_or (n ∷ 12 ∷ n ∷ 10 ∷ 8 ∷ n ∷ n ∷ 6 ∷ n ∷ []) k n
 
 -- what stands at fixed places in the record at `at`, before a name, is right for its kind
-unfoldable pub fixed_at : ℕ → List ℕ → ℕ → ℕ → Bool
-fixed_at sheet s at k = get_or
+unfoldable pub fixedAt : ℕ → List ℕ → ℕ → ℕ → Bool
+fixedAt sheet s at k = get_or
     (true
     ∷ (classFlagsFit sheet (u16 s (at + 4)) && eqb (u8 s (at + 7)) 0)
     ∷ true
-    ∷ (ltb (u16 s (at + 4)) 8 && tyFits (ty_at s (at + 6)))
-    ∷ tyFits (ty_at s (at + 4))
+    ∷ (ltb (u16 s (at + 4)) 8 && tyFits (tyAt s (at + 6)))
+    ∷ tyFits (tyAt s (at + 4))
     ∷ true
     ∷ true
     ∷ ltb (u16 s (at + 4)) 2
@@ -52,20 +52,20 @@ orderNumber sheet kind n k =
     ]
 
 -- the first of two numbers that is not 0
-abbrev pub or_else : ℕ → ℕ → ℕ
-or_else zero m = m
-or_else (suc i) m = suc i
+abbrev pub orElse : ℕ → ℕ → ℕ
+orElse zero m = m
+orElse (suc i) m = suc i
 
 -- the number that refuses kind, length, place or the fixed bytes of the record at `at`, or 0: 3, 4, 6, 5
 unfoldable pub headNumber : ℕ → List ℕ → ℕ → ℕ → ℕ → ℕ → ℕ
-headNumber sheet s at kind n k = or_else (orderNumber sheet kind n k) (elim (fixed_at sheet s at kind) [ true ↦ 0 | false ↦ 5 ])
+headNumber sheet s at kind n k = orElse (orderNumber sheet kind n k) (elim (fixedAt sheet s at kind) [ true ↦ 0 | false ↦ 5 ])
 
 -- ---- a record at its place
 
 -- the number of the first test that is met, or 0
-unfoldable pub number_of : List (ℕ × Bool) → ℕ
-number_of [] = 0
-number_of (t ∷ ts) = elim t.1 [ true ↦ t.0 | false ↦ number_of ts ]
+unfoldable pub numberOf : List (ℕ × Bool) → ℕ
+numberOf [] = 0
+numberOf (t ∷ ts) = elim t.1 [ true ↦ t.0 | false ↦ numberOf ts ]
 
 -- a record of sheet `sheet` at a byte, after n classes, and k records of the open group whose last has kind b
 unfoldable pub place : ℕ → ℕ → ℕ → ℕ → ℕ → List ℕ → Located
@@ -76,13 +76,13 @@ place sheet at n k b r = elim (isClass r) [
 
 -- the number that refuses what begins at a byte, or 0
 unfoldable pub recordNumber : ℕ → List ℕ → ℕ → ℕ → ℕ → ℕ → ℕ
-recordNumber sheet s at n k b = elim (wholeFirst (drop at s)) [ true ↦ number_of (recordTests (place sheet at n k b (recordAt s at))) | false ↦ 2 ]
+recordNumber sheet s at n k b = elim (wholeFirst (drop at s)) [ true ↦ numberOf (recordTests (place sheet at n k b (recordAt s at))) | false ↦ 2 ]
 
 -- ---- the whole pass
 
 -- 2 to 7 and 16 of one sheet, where n classes stand before it
 unfoldable pub passRefusal : ℕ → ℕ → List ℕ → Option Refusal
-passRefusal sheet n s = first_of (recordRefusal sheet n s ∷ tornRefusal sheet s ∷ [])
+passRefusal sheet n s = firstOf (recordRefusal sheet n s ∷ tornRefusal sheet s ∷ [])
 
 -- a refusal k bytes further on
 abbrev pub shifted : ℕ → Option Refusal → Option Refusal

@@ -3,9 +3,9 @@
 #![tactic(auto)]
 
 ghost use Rattle.std.specs.Prelude.{◌≡◌, true, ◌++◌, ◌+◌, ◌-◌, ◌≤◌, ◌<◌, length, take, drop};
-ghost use Rattle.spec.specs.Record.{u16, nameFits, tyFits, ty_at, classFlagsFit};
+ghost use Rattle.spec.specs.Record.{u16, nameFits, tyFits, tyAt, classFlagsFit};
 ghost use Rattle.spec.specs.Sheet.{classCount};
-ghost use Rattle.pass.specs.Pass.{joined, homeFits, nameStart, fixed_at, orderNumber, headNumber, recordNumber, passRefusal, shifted, passOf, Filled};
+ghost use Rattle.pass.specs.Pass.{joined, homeFits, nameStart, fixedAt, orderNumber, headNumber, recordNumber, passRefusal, shifted, passOf, Filled};
 ghost use Rattle.records.specs.Records.{sizeFits};
 
 use records::{
@@ -97,7 +97,7 @@ fn class_flags_fit(sheet: u8, flags: u16) -> bool
 // Whether the type at i is one: its code is known, and a primitive names no class.
 fn type_fits(bytes: &[u8], i: usize) -> bool
     requires { i + 3 < length bytes.now }
-    ensures { result ≡ tyFits (ty_at bytes.now i) }
+    ensures { result ≡ tyFits (tyAt bytes.now i) }
 {
     let code = bytes[i + CODE_AT];
     if code == 0 {
@@ -190,7 +190,7 @@ fn name_fits(bytes: &[u8], from: usize, to: usize) -> bool
 // Whether what stands at fixed places in the record at `at` is right for its kind.
 fn fixed_fits(bytes: &[u8], sheet: u8, at: usize, kind: u16) -> bool
     requires { (sheet < 2) × (at + nameStart kind 0 ≤ length bytes.now) }
-    ensures { result ≡ fixed_at sheet bytes.now at kind }
+    ensures { result ≡ fixedAt sheet bytes.now at kind }
 {
     if kind == CLASS {
         if class_flags_fit(sheet, word_in(bytes, at + FLAGS_AT)) {

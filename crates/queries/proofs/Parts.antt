@@ -12,9 +12,9 @@ use Rattle.spec.specs.Lists.{span}
 use Rattle.spec.specs.Record.{u16}
 use Rattle.spec.specs.Sheet.{classCount, total, group, classRecord, groupStart}
 use Rattle.spec.specs.Refusals.{queryRefusal}
-use Rattle.spec.specs.Promises.{Part, namePart, bytes_at, no_part, afterwards, Places, Names}
+use Rattle.spec.specs.Promises.{Part, namePart, bytesAt, noPart, afterwards, Places, Names}
 use Rattle.theory.specs.Claims.{sheetOf}
-use Rattle.groups.specs.Groups.{Indexed, sheetNumber, start_of}
+use Rattle.groups.specs.Groups.{Indexed, sheetNumber, startOf}
 use Rattle.groups.proofs.Held.{library-sheet, user-sheet, size-read, class-room, class-long, end-small, group-tiled}
 use Rattle.form.specs.declared.Refusal.{Refusal}
 use Rattle.queries.specs.Answers.{placedAnswer}
@@ -26,8 +26,8 @@ use Rattle.queries.proofs.Asking.{asked-sheets, asked-class}
 
 -- the part by the class's sheet and start
 part-is : (library user : List ℕ) (c : ℕ)
-    → namePart library user c ≡ record { sheet = sheetNumber (classCount library) c; start = start_of library user c + 12; size = length (classRecord (group library user c)) - 12 }
-unfolding namePart sheetNumber start_of
+    → namePart library user c ≡ record { sheet = sheetNumber (classCount library) c; start = startOf library user c + 12; size = length (classRecord (group library user c)) - 12 }
+unfolding namePart sheetNumber startOf
 part-is library user c = go (ltb c (classCount library))
   where
     size : ℕ
@@ -48,7 +48,7 @@ part-is library user c = go (ltb c (classCount library))
 
 module _ {library user : List ℕ} {nlib n : ℕ} {row : List ℕ} (x : Indexed library user nlib n row) {c : ℕ} (h : c < n) where
   -- the part by what the code reads
-  pub part-read : {sheet at len : ℕ} → sheet ≡ sheetNumber nlib c → at ≡ start_of library user c → len ≡ u16 (classRecord (group library user c)) 0
+  pub part-read : {sheet at len : ℕ} → sheet ≡ sheetNumber nlib c → at ≡ startOf library user c → len ≡ u16 (classRecord (group library user c)) 0
       → record { sheet = sheet; start = at + 12; size = len - 12 } ≡ namePart library user c
   part-read es ea el = rw (size-read x h el, es, ea, x.nlib-is) (sym (part-is library user c))
 
@@ -64,14 +64,14 @@ module _ {library user : List ℕ} {nlib n : ℕ} {row : List ℕ} (x : Indexed 
 module _ (library user : List ℕ) (used c : ℕ) {p : Placed} (e : Places library user used c (placedAnswer p)) where
   -- the place is refused
   pub no_name : {r : Refusal} → p ≡ Refused r → Names library user used c []
-  unfolding afterwards bytes_at
+  unfolding afterwards bytesAt
   no_name f = record { answered = rw (told-refused (queryRefusal library user used c) _ (ap placedAnswer (sym f) ∙ e.answered)) }
 
   module _ {sheet start size : ℕ} (f : p ≡ At sheet start size) where
     told : (queryRefusal library user used c ≡ none) × (record { sheet = sheet; start = start; size = size } ≡ namePart library (take used user) c)
     told = told-fine (queryRefusal library user used c) (namePart library (take used user) c) (ap placedAnswer (sym f) ∙ e.answered)
 
-    row_of : Indexed library (take used user) (classCount library) (total library (take used user)) (map (start_of library (take used user)) (span 0 256))
+    row_of : Indexed library (take used user) (classCount library) (total library (take used user)) (map (startOf library (take used user)) (span 0 256))
     row_of = some-row library user used (asked-sheets library user used c told.0)
 
     within : start + size ≤ length (sheetOf library (take used user) sheet)
@@ -88,8 +88,8 @@ module _ (library user : List ℕ) (used c : ℕ) {p : Placed} (e : Places libra
 
     -- the bytes between start and start + size
     bytes-are : {s : List ℕ} → s ≡ sheetOf library user sheet
-        → take (start + size - start) (drop start s) ≡ bytes_at library user (afterwards (queryRefusal library user used c) no_part (namePart library (take used user) c))
-    unfolding afterwards bytes_at
+        → take (start + size - start) (drop start s) ≡ bytesAt library user (afterwards (queryRefusal library user used c) noPart (namePart library (take used user) c))
+    unfolding afterwards bytesAt
     bytes-are {s} q =
         let n : start + size - start ≡ size = omega arith in
         rw (told.0, ← told.1, n, q)

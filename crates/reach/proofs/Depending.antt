@@ -26,12 +26,12 @@ use Rattle.laws.proofs.Rows.{length-values, getD-values}
 use Rattle.theory.proofs.Reach.{Steps, here, onward}
 use Rattle.theory.proofs.Complete.{reach-sound, reach-complete}
 use Rattle.groups.specs.Groups.{Indexed}
-use Rattle.named.specs.Named.{firstNamed, secondNamed, named_by}
+use Rattle.named.specs.Named.{firstNamed, secondNamed, namedBy}
 use Rattle.named.proofs.Meaning.{below, named-below}
-use Rattle.lanes.specs.Lanes.{Draws, own, via, entry_at, Other, SeedsFit, Least}
+use Rattle.lanes.specs.Lanes.{Draws, own, via, entryAt, Other, SeedsFit, Least}
 use Rattle.lanes.proofs.Chains.{least-steps}
 use Rattle.lanes.proofs.Filling.{filled-long, filled-new, filled-kept}
-use Rattle.reach.specs.Reach.{named_in, steps_of, outerOf, Emptied, dependentRow}
+use Rattle.reach.specs.Reach.{namedIn, stepsOf, outerOf, Emptied, dependentRow}
 
 -- ---- emptying
 
@@ -65,18 +65,18 @@ module _ {before row : List ℕ} {d : ℕ} (f : Emptied 256 before row) (h : d <
 -- ---- the steps to classes are what the records name
 
 module _ (g : ℕ → Group) (n : ℕ) (few : n ≤ 65535) (builds : Bool) where
-  pub steps-in : (m t : ℕ) → t < n → Memᴰ t (steps_of g builds m) → Memᴰ t (gather (named_by builds) (g m))
-  unfolding named_in below
+  pub steps-in : (m t : ℕ) → t < n → Memᴰ t (stepsOf g builds m) → Memᴰ t (gather (namedBy builds) (g m))
+  unfolding namedIn below
   steps-in m t h e =
       let a = gather-mem (λ r. firstNamed builds r ∷ secondNamed builds r ∷ []) (g m) t e in
       let p : T (ltb t n) = true-t (lt-ltb t n h) in
       let k = subst (Memᴰ t) (sym (named-below n few a.source builds)) (mem-keep (λ x. ltb x n) a.part p) in
-      mem-gather (named_by builds) a.member (keep-mem (λ x. ltb x n) (named_by builds a.source) t k).0
+      mem-gather (namedBy builds) a.member (keep-mem (λ x. ltb x n) (namedBy builds a.source) t k).0
 
-  pub in-steps : (m t : ℕ) → t < n → Memᴰ t (gather (named_by builds) (g m)) → Memᴰ t (steps_of g builds m)
-  unfolding named_in below
+  pub in-steps : (m t : ℕ) → t < n → Memᴰ t (gather (namedBy builds) (g m)) → Memᴰ t (stepsOf g builds m)
+  unfolding namedIn below
   in-steps m t h e =
-      let a = gather-mem (named_by builds) (g m) t e in
+      let a = gather-mem (namedBy builds) (g m) t e in
       let p : T (ltb t n) = true-t (lt-ltb t n h) in
       let k = subst (Memᴰ t) (named-below n few a.source builds) (mem-keep (λ x. ltb x n) a.part p) in
       mem-gather (λ r. firstNamed builds r ∷ secondNamed builds r ∷ []) a.member
@@ -113,10 +113,10 @@ module _ (library user : List ℕ) (ok : formRefusal library user ≡ none) (few
       at-member (λ x. x < total library user) (references s.source) (at-member _ (group library user a) (form-fits library user ok a) s.member).there s.part
 
   module _ {before row s : List ℕ} {d : ℕ} (f : Emptied 256 before row) (h : d < total library user) (long : 256 ≤ length before)
-      (l : Least (steps_of (group library user) false) (outerOf (group library user)) (total library user) 1 (set row d 0) s) where
+      (l : Least (stepsOf (group library user) false) (outerOf (group library user)) (total library user) 1 (set row d 0) s) where
     -- over the references themselves
     least : Least (stepsIn library user) (outerOf (group library user)) (total library user) 1 (set row d 0) s
-    unfolding groupReferences named_by
+    unfolding groupReferences namedBy
     least = least-steps (steps-in (group library user) (total library user) (omega arith) false) (in-steps (group library user) (total library user) (omega arith) false) l
 
     marked : (c : ℕ) → c < total library user → get_or s c 255 ≡ elim (elem d (dependencies (group library user) c)) as (λ (b : Bool). ℕ) [ true ↦ 0 | false ↦ 255 ]
@@ -124,7 +124,7 @@ module _ (library user : List ℕ) (ok : formRefusal library user ≡ none) (few
     marked c hc = go (elem d (reach (stepsIn library user) c)) refl
       where
         seed : ℕ → ℕ
-        seed = entry_at (set row d 0) 0
+        seed = entryAt (set row d 0) 0
 
         only : (k : ℕ) → k < total library user → seed k < 255 → k ≡ d
         only k hk v = (seed-at {d = d} f (omega arith) long k (omega arith)).0 (subst (λ (i : ℕ). get_or (set row d 0) i 255 < 255) (at_zero k) v)
@@ -181,8 +181,8 @@ module _ (library user : List ℕ) (ok : formRefusal library user ≡ none) (few
 
 pub found : {library user : List ℕ} {nlib n : ℕ} {starts : List ℕ} → Indexed library user nlib n starts → formRefusal library user ≡ none → {before row s : List ℕ} {d : ℕ} → Emptied 256 before row
     → d < n → 256 ≤ length before
-    → Least (steps_of (group library user) false) (outerOf (group library user)) n 1 (set row d 0) s → length s ≡ length before → s ≡ dependentRow library user d before
+    → Least (stepsOf (group library user) false) (outerOf (group library user)) n 1 (set row d 0) s → length s ≡ length before → s ≡ dependentRow library user d before
 found {library} {user} {n = n} x ok {before} {row} {s} {d} f h long l e =
     depending library user ok (omega (arith, x.few, x.n-is)) f (omega (arith, x.n-is)) long
-    (subst (λ (k : ℕ). Least (steps_of (group library user) false) (outerOf (group library user)) k 1 (set row d 0) s) x.n-is l)
+    (subst (λ (k : ℕ). Least (stepsOf (group library user) false) (outerOf (group library user)) k 1 (set row d 0) s) x.n-is l)
     e

@@ -16,13 +16,13 @@ use Rattle.records.specs.Records.{recordAt, between, nthByte, AtRecord, Carries}
 use Rattle.records.proofs.Between.{tiled-end}
 use Rattle.records.proofs.Walks.{walk_here, walk-next}
 use Rattle.records.proofs.Nth.{nth-record}
-use Rattle.named.specs.Named.{firstNamed, secondNamed, named_by}
-use Rattle.lanes.specs.Lanes.{Room, Settled, Run, SettledAt, Enclosers, either_of}
+use Rattle.named.specs.Named.{firstNamed, secondNamed, namedBy}
+use Rattle.lanes.specs.Lanes.{Room, Settled, Run, SettledAt, Enclosers, eitherOf}
 use Rattle.lanes.proofs.Rows.{get_d_any}
 use Rattle.lanes.proofs.Runs.{run_none, Offered}
 use Rattle.lanes.proofs.Drawing.{Drawn, offered}
 use Rattle.lanes.proofs.Visiting.{VisitAt, visit-start, visit-next, visit-end}
-use Rattle.reach.specs.Reach.{named_in, steps_of, outerOf, Scanned}
+use Rattle.reach.specs.Reach.{namedIn, stepsOf, outerOf, Scanned}
 use Rattle.reach.proofs.Depending.{steps-in}
 
 -- ---- a class's encloser
@@ -56,24 +56,24 @@ settled-zero step outer n {m = m} s e l z k t hk w ht b f =
 
 -- ---- the records of a group
 
-pub named-cons : (builds : Bool) (r : List ℕ) (rs : Group) → named_in builds (r ∷ rs) ≡ firstNamed builds r ∷ secondNamed builds r ∷ named_in builds rs
-unfolding named_in gather
+pub named-cons : (builds : Bool) (r : List ℕ) (rs : Group) → namedIn builds (r ∷ rs) ≡ firstNamed builds r ∷ secondNamed builds r ∷ namedIn builds rs
+unfolding namedIn gather
 named-cons builds r rs = refl
 
-pub named-nil : (builds : Bool) → named_in builds [] ≡ []
-unfolding named_in gather
+pub named-nil : (builds : Bool) → namedIn builds [] ≡ []
+unfolding namedIn gather
 named-nil builds = refl
 
 -- the steps of m are those that the records name, and the marks are its enclosers
 abbrev Scans : List ℕ → List ℕ → Bool → ℕ → (ℕ → List ℕ) → (ℕ → ℕ) → Type 0
-Scans bytes marks builds m step outer = (step m ≡ named_in builds (between bytes 0 (length bytes))) × Enclosers outer m marks
+Scans bytes marks builds m step outer = (step m ≡ namedIn builds (between bytes 0 (length bytes))) × Enclosers outer m marks
 
 pub record ScanAt (bytes marks : List ℕ) (builds : Bool) (n lanes m : ℕ) (row₀ row : List ℕ) (a at : ℕ) : Type 0 where
   pub place : AtRecord bytes (length bytes) at
   pub room : Room n lanes row₀
   pub there : m < n
   pub long : length row ≡ length row₀
-  pub visit : (step : ℕ → List ℕ) (outer : ℕ → ℕ) → Scans bytes marks builds m step outer → VisitAt step outer n lanes m marks row₀ row (named_in builds (between bytes at (length bytes))) a
+  pub visit : (step : ℕ → List ℕ) (outer : ℕ → ℕ) → Scans bytes marks builds m step outer → VisitAt step outer n lanes m marks row₀ row (namedIn builds (between bytes at (length bytes))) a
 
 pub scan-start : {bytes marks : List ℕ} (builds : Bool) (n lanes m : ℕ) (row : List ℕ) → AtRecord bytes (length bytes) 0
     → Room n lanes row → (length marks ≡ 256) × (m < n) → ScanAt bytes marks builds n lanes m row row 0 0
@@ -81,8 +81,8 @@ scan-start {marks = marks} builds n lanes m row p r z =
     record { place = p; room = r; there = z.1; long = refl; visit = λ step outer h. visit-start step outer n lanes m marks row z.0 h.1 _ (sym h.0) }
 
 module _ {bytes marks : List ℕ} {builds : Bool} {n lanes m : ℕ} {row₀ row : List ℕ} {a at : ℕ} (f : ScanAt bytes marks builds n lanes m row₀ row a at) where
-  pub scan-next : {row₁ row₂ : List ℕ} {t u l b c x y : ℕ} → at < length bytes → t ≡ firstNamed builds (recordAt bytes at) → Drawn marks n lanes m t row row₁ b → x ≡ either_of a b
-      → length row₁ ≡ length row → u ≡ secondNamed builds (recordAt bytes at) → Drawn marks n lanes m u row₁ row₂ c → y ≡ either_of x c → length row₂ ≡ length row₁ → l ≡ u16 bytes at
+  pub scan-next : {row₁ row₂ : List ℕ} {t u l b c x y : ℕ} → at < length bytes → t ≡ firstNamed builds (recordAt bytes at) → Drawn marks n lanes m t row row₁ b → x ≡ eitherOf a b
+      → length row₁ ≡ length row → u ≡ secondNamed builds (recordAt bytes at) → Drawn marks n lanes m u row₁ row₂ c → y ≡ eitherOf x c → length row₂ ≡ length row₁ → l ≡ u16 bytes at
       → ScanAt bytes marks builds n lanes m row₀ row₂ y (at + l)
   unfolding recordAt
   scan-next h et o e q eu o' e' q' el =
@@ -94,7 +94,7 @@ module _ {bytes marks : List ℕ} {builds : Bool} {n lanes m : ℕ} {row₀ row 
         long = q' ∙ q ∙ f.long;
         visit = λ step outer r.
             visit-next
-            (visit-next (f.visit step outer r) (ap (named_in builds) (walk_here f.place h) ∙ named-cons builds (recordAt bytes at) _ ∙ rw (et, eu)) (from row f.long o) e q)
+            (visit-next (f.visit step outer r) (ap (namedIn builds) (walk_here f.place h) ∙ named-cons builds (recordAt bytes at) _ ∙ rw (et, eu)) (from row f.long o) e q)
             refl
             (from _ (q ∙ f.long) o')
             e'
@@ -105,7 +105,7 @@ module _ {bytes marks : List ℕ} {builds : Bool} {n lanes m : ℕ} {row₀ row 
       from s l d = offered f.room.few f.there s (omega (arith, f.room.long, l)) d
 
   pub scan-end : length bytes ≤ at → Scanned bytes marks builds n lanes m row₀ row a
-  scan-end h = record { run = λ step outer e g. visit-end (f.visit step outer (e, g)) (ap (named_in builds) (tiled-end bytes at (length bytes) h) ∙ named-nil builds) }
+  scan-end h = record { run = λ step outer e g. visit-end (f.visit step outer (e, g)) (ap (namedIn builds) (tiled-end bytes at (length bytes) h) ∙ named-nil builds) }
 
   -- m has 0, so the records that are left have nothing for it
   pub scan-zero : lanes ≡ 1 → m < length row → get_or row m 0 ≡ 0 → Scanned bytes marks builds n lanes m row₀ row a
@@ -128,8 +128,8 @@ module _ {bytes marks : List ℕ} {builds : Bool} {n lanes m : ℕ} {row₀ row 
 -- the bytes are those of class m
 pub scanned : (g : ℕ → Group) {builds : Bool} {n lanes m : ℕ} {bytes marks row₀ row : List ℕ} {a : ℕ} → Scanned bytes marks builds n lanes m row₀ row a → Carries bytes (g m)
     → Enclosers (outerOf g) m marks
-    → Run (steps_of g builds) (outerOf g) n lanes (SettledAt (steps_of g builds) (outerOf g) n lanes m) row₀ row a
-scanned g {builds} f w right = f.run (steps_of g builds) (outerOf g) (ap (named_in builds) (sym w.records)) right
+    → Run (stepsOf g builds) (outerOf g) n lanes (SettledAt (stepsOf g builds) (outerOf g) n lanes m) row₀ row a
+scanned g {builds} f w right = f.run (stepsOf g builds) (outerOf g) (ap (namedIn builds) (sym w.records)) right
 
 -- the class has 0 already
 pub visit-marked : {step : ℕ → List ℕ} {outer : ℕ → ℕ} {n lanes m : ℕ} (s : List ℕ) → lanes ≡ 1 → m < length s → get_or s m 0 ≡ 0 → Run step outer n lanes (SettledAt step outer n lanes m) s s 0
@@ -137,13 +137,13 @@ visit-marked {step} {outer} {n} s e l z = run_none s (settled-zero step outer n 
 
 -- a class without BUILDS has no step along it
 module _ (g : ℕ → Group) {n : ℕ} (m : ℕ) (few : n ≤ 65535) (none : length (ofKind BUILDS (g m)) ≡ 0) where
-  no_step : {t : ℕ} → t < n → Memᴰ t (steps_of g true m) → ⊥
-  unfolding named_by ofKind
+  no_step : {t : ℕ} → t < n → Memᴰ t (stepsOf g true m) → ⊥
+  unfolding namedBy ofKind
   no_step {t} h e =
-      let a = gather-mem (named_by true) (g m) t (steps-in g n few true m t h e) in
+      let a = gather-mem (namedBy true) (g m) t (steps-in g n few true m t h e) in
       let o = only-mem (isKind BUILDS a.source) (target a.source ∷ []) a.part in
       empty none (mem-keep (isKind BUILDS) a.member o.0)
 
-  pub visit-none : {outer : ℕ → ℕ} {lanes : ℕ} (s : List ℕ) → Run (steps_of g true) outer n lanes (SettledAt (steps_of g true) outer n lanes m) s s 0
+  pub visit-none : {outer : ℕ → ℕ} {lanes : ℕ} (s : List ℕ) → Run (stepsOf g true) outer n lanes (SettledAt (stepsOf g true) outer n lanes m) s s 0
   unfolding SettledAt Settled
   visit-none s = run_none s (λ k t hk w ht b f. absurd (no_step ht w))

@@ -8,14 +8,14 @@ use Rattle.spec.specs.Sheet.{Group, classRecord}
 use Rattle.spec.specs.Verdicts.{dependsOn}
 use Rattle.records.specs.Records.{between}
 use Rattle.named.specs.Named.{firstNamed, secondNamed}
-use Rattle.lanes.specs.Lanes.{entry_at, Run, SettledAt, Enclosers}
+use Rattle.lanes.specs.Lanes.{entryAt, Run, SettledAt, Enclosers}
 
 -- the classes that a group names, 65535 where a record names fewer than two: along BUILDS or along every record
-unfoldable pub named_in : Bool → Group → List ℕ
-named_in builds g = gather (λ r. firstNamed builds r ∷ secondNamed builds r ∷ []) g
+unfoldable pub namedIn : Bool → Group → List ℕ
+namedIn builds g = gather (λ r. firstNamed builds r ∷ secondNamed builds r ∷ []) g
 
-abbrev pub steps_of : (ℕ → Group) → Bool → ℕ → List ℕ
-steps_of g builds m = named_in builds (g m)
+abbrev pub stepsOf : (ℕ → Group) → Bool → ℕ → List ℕ
+stepsOf g builds m = namedIn builds (g m)
 
 -- the encloser of a class; a number that is not lower is none
 unfoldable pub outerOf : (ℕ → Group) → ℕ → ℕ
@@ -23,12 +23,12 @@ outerOf g m = encloser (classRecord (g m))
 
 -- Class m has drawn along all that the records in these bytes name. Only the bytes and the row of marks were asked, so it holds for all steps and enclosers that they are right for.
 pub record Scanned (bytes marks : List ℕ) (builds : Bool) (n lanes m : ℕ) (s₀ s : List ℕ) (r : ℕ) : Type 0 where
-  pub run : (step : ℕ → List ℕ) (outer : ℕ → ℕ) → step m ≡ named_in builds (between bytes 0 (length bytes)) → Enclosers outer m marks
+  pub run : (step : ℕ → List ℕ) (outer : ℕ → ℕ) → step m ≡ namedIn builds (between bytes 0 (length bytes)) → Enclosers outer m marks
       → Run step outer n lanes (SettledAt step outer n lanes m) s₀ s r
 
 -- told false: none of these classes has in any lane a lower owner than m
 pub record Content (row : List ℕ) (n lanes m : ℕ) (ts : List ℕ) (told : Bool) : Type 0 where
-  pub is : told ≡ false → (t : ℕ) → Memᴰ t ts → t < n → (k : ℕ) → k < lanes → entry_at row k m ≤ entry_at row k t
+  pub is : told ≡ false → (t : ℕ) → Memᴰ t ts → t < n → (k : ℕ) → k < lanes → entryAt row k m ≤ entryAt row k t
 
 -- the first k entries of a row are none, the others are kept
 pub record Emptied (k : ℕ) (before after : List ℕ) : Type 0 where

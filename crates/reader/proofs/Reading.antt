@@ -19,7 +19,7 @@ use Rattle.laws.proofs.Parts.{part_length}
 use Rattle.theory.proofs.Cut.{concat-append, records-stop}
 use Rattle.records.specs.Lengths.{wholeLength}
 use Rattle.records.proofs.Lengths.{Stands, length_some, length-zero, records-here}
-use Rattle.reader.specs.Reading.{foundAt, after_at, movesAt, nthAt}
+use Rattle.reader.specs.Reading.{foundAt, afterAt, movesAt, nthAt}
 use Rattle.reader.specs.declared.Found.TheVariants.{Record, Broken, End}
 
 module _ (s : List ℕ) (at : ℕ) where
@@ -62,11 +62,11 @@ module _ (s : List ℕ) where
   nth-zero = refl
 
   nth-suc : (i : ℕ) → nthAt s i + wholeLength s (nthAt s i) ≡ nthAt s (suc i)
-  unfolding nthAt after_at
+  unfolding nthAt afterAt
   nth-suc i = refl
 
-  pub nth-step : (i : ℕ) → after_at s (nthAt s i) ≡ nthAt s (i + 1)
-  unfolding after_at
+  pub nth-step : (i : ℕ) → afterAt s (nthAt s i) ≡ nthAt s (i + 1)
+  unfolding afterAt
   nth-step i = nth-suc i ∙ ap (nthAt s) (sym (add-one i))
 
   -- where no whole record stands it stays

@@ -9,8 +9,8 @@ use Rattle.reader.specs.declared.Found.TheVariants.{Record, Broken, End}
 unfoldable pub foundAt : List ℕ → ℕ → Found
 foundAt s at = elim (leb (length s) at) [ true ↦ End | false ↦ elim (eqb (wholeLength s at) 0) [ true ↦ Broken at | false ↦ Record at (wholeLength s at) ] ]
 
-unfoldable pub after_at : List ℕ → ℕ → ℕ
-after_at s at = at + wholeLength s at
+unfoldable pub afterAt : List ℕ → ℕ → ℕ
+afterAt s at = at + wholeLength s at
 
 unfoldable pub movesAt : List ℕ → ℕ → ℕ → ℕ → Bool
 movesAt s at i n = ltb i n && not (eqb (wholeLength s at) 0)
@@ -18,4 +18,4 @@ movesAt s at i n = ltb i n && not (eqb (wholeLength s at) 0)
 -- where record n begins; after the last whole record it stays
 unfoldable pub nthAt : List ℕ → ℕ → ℕ
 nthAt s zero = 0
-nthAt s (suc n) = after_at s (nthAt s n)
+nthAt s (suc n) = afterAt s (nthAt s n)

@@ -2,7 +2,7 @@
 #![tactic(auto)]
 
 ghost use Rattle.std.specs.Prelude.{◌≡◌};
-ghost use Rattle.reader.specs.Reading.{foundAt, after_at, movesAt, nthAt};
+ghost use Rattle.reader.specs.Reading.{foundAt, afterAt, movesAt, nthAt};
 
 use records::whole_length;
 
@@ -37,7 +37,7 @@ pub fn found_at(bytes: &[u8], at: usize) -> Found
 
 // The position past the record at a position; where no whole record stands, the position itself.
 pub fn after_at(bytes: &[u8], at: usize) -> usize
-    ensures { result ≡ after_at bytes.now at }
+    ensures { result ≡ afterAt bytes.now at }
 {
     at + whole_length(bytes, at)
 }
@@ -68,7 +68,7 @@ pub fn read<'a>(reader: Reader<'a>) -> Found
 
 // The reader past the record where it is; it stays where no whole record stands.
 pub fn moved<'a>(reader: Reader<'a>) -> Reader<'a>
-    ensures { (result.bytes ≡ reader.entry.bytes) × (result.at ≡ after_at reader.entry.bytes.now reader.entry.at) }
+    ensures { (result.bytes ≡ reader.entry.bytes) × (result.at ≡ afterAt reader.entry.bytes.now reader.entry.at) }
 {
     let at = after_at(reader.bytes, reader.at);
     Reader {

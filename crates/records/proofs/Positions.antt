@@ -8,7 +8,7 @@ use native.Mathlib.Omega.{arith}
 use lib.ListN.{length, get_or}
 use borrow.Author.Tests.{ne_eqb}
 use Rattle.spec.specs.Record.{u8, u16, bit, kind, isKind, CLASS, IMPLEMENTS, FIELD, LOCAL, USES, BUILDS, MEMBER, REFERS}
-use Rattle.spec.specs.Record.{flags, ownMarkers, superclass, encloser, target, index, ty_at, fieldTy, local_ty, isStatic}
+use Rattle.spec.specs.Record.{flags, ownMarkers, superclass, encloser, target, index, tyAt, fieldTy, localTy, isStatic}
 use Rattle.laws.proofs.Bools.{t_true, true-t}
 use Rattle.laws.proofs.Parts.{part-byte, part-word, part_type}
 use Rattle.records.proofs.Sizes.{each, shortest, size-known, at_least, length-fits}
@@ -88,7 +88,7 @@ module _ {s : List ℕ} {at : ℕ} (z : Sized s at) where
   unfolding recordAt
   word_at k i e h = part-word s at (u16 s at) i (omega (arith, long-enough k e))
 
-  type_at : (k i : ℕ) → kind (recordAt s at) ≡ k → i + 3 < get_or shortest k 0 → ty_at (recordAt s at) i ≡ ty_at s (at + i)
+  type_at : (k i : ℕ) → kind (recordAt s at) ≡ k → i + 3 < get_or shortest k 0 → tyAt (recordAt s at) i ≡ tyAt s (at + i)
   unfolding recordAt
   type_at k i e h = part_type s at (u16 s at) i (omega (arith, long-enough k e))
 
@@ -121,10 +121,10 @@ module _ {s : List ℕ} {at : ℕ} (z : Sized s at) where
   unfolding isStatic
   static_at e = ap (bit 2) (flags-at FIELD e (omega arith))
 
-  pub field-type-at : kind (recordAt s at) ≡ FIELD → fieldTy (recordAt s at) ≡ ty_at s (at + 6)
+  pub field-type-at : kind (recordAt s at) ≡ FIELD → fieldTy (recordAt s at) ≡ tyAt s (at + 6)
   unfolding fieldTy
   field-type-at e = type_at FIELD 6 e (omega arith)
 
-  pub local-type-at : kind (recordAt s at) ≡ LOCAL → local_ty (recordAt s at) ≡ ty_at s (at + 4)
-  unfolding local_ty
+  pub local-type-at : kind (recordAt s at) ≡ LOCAL → localTy (recordAt s at) ≡ tyAt s (at + 4)
+  unfolding localTy
   local-type-at e = type_at LOCAL 4 e (omega arith)

@@ -9,7 +9,7 @@ use native.Mathlib.Omega.{arith}
 use lib.Dec.{eqb, leb, eqb→eq, leb→le, le→leb}
 use lib.ListN.{length, get_or, get_or-eq_default}
 use borrow.Author.Tests.{leb-true, leb-false, le-leb, lt-leb}
-use Rattle.spec.specs.Record.{kind, by_kind, withName, lengthFits}
+use Rattle.spec.specs.Record.{kind, byKind, withName, lengthFits}
 use Rattle.laws.proofs.Bools.{t_same, t-and, and_l, and_r, true-t, eq→eqb}
 use Rattle.records.specs.Records.{sizeFits}
 
@@ -33,7 +33,7 @@ abbrev pub longest : List ℕ
 longest = 0 ∷ 112 ∷ 6 ∷ 110 ∷ 108 ∷ 8 ∷ 6 ∷ 106 ∷ 8 ∷ []
 
 pub length-fits : (r : List ℕ) → lengthFits r ≡ sizeFits (kind r) (length r)
-unfolding lengthFits by_kind withName sizeFits
+unfolding lengthFits byKind withName sizeFits
 length-fits r = refl
 
 -- one length alone, and none

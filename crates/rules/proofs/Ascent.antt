@@ -9,7 +9,7 @@ use native.Mathlib.Nat.{le_refl}
 use native.Mathlib.Omega.{arith}
 use lib.Dec.{T, eqb, ltb, ltb→lt, nltb→le}
 use borrow.Author.Tests.{eq-eqb, ne_eqb, lt-ltb, le-ltb, ltb-true}
-use Rattle.spec.specs.Lists.{gather, only_if}
+use Rattle.spec.specs.Lists.{gather, onlyIf}
 use Rattle.spec.specs.Record.{superclass}
 use Rattle.spec.specs.Sheet.{Group, classRecord, isInterface}
 use Rattle.spec.specs.Classes.{superclasses, hasMarker, lineage, root}
@@ -140,7 +140,7 @@ module _ (nlib n : ℕ) (g : ℕ → Group) (f : Falls g) (supers : (c : ℕ) �
     concrete rule e = and_l (not (isInterface (g c))) (hasMarker g (ruleMarker rule) c) (true-t e)
 
     pub begins : (rule : ℕ) → Begins nlib n g rule c (firstClass nlib g n rule c)
-    unfolding order firstClass only_if gather
+    unfolding order firstClass onlyIf gather
     begins rule = let q = at (ltb rule 7) refl (judgedFor g (ruleMarker rule) c) refl in record { all = q.0; spot = q.1; concrete = q.2 }
       where
         Goal : Bool → Bool → Type 0

@@ -13,7 +13,7 @@ use borrow.Author.Tests.{le-ltb}
 use Rattle.spec.specs.Lists.{any, keep, gather, numbered}
 use Rattle.spec.specs.Record.{isClass}
 use Rattle.spec.specs.Sheet.{Group, classRecord}
-use Rattle.spec.specs.Rules.{Fault, faultIf, faultsAt, rule1, rule2, rule3, rule4, rule5, rule6, place_in}
+use Rattle.spec.specs.Rules.{Fault, faultIf, faultsAt, rule1, rule2, rule3, rule4, rule5, rule6, placeIn}
 use Rattle.spec.specs.Relations.{At, here, next}
 use Rattle.spec.specs.Refusals.{oneClass}
 use Rattle.laws.proofs.Bools.{and_l}
@@ -31,7 +31,7 @@ pub record Hit (nlib : ℕ) (g : ℕ → Group) (rule c x : ℕ) : Type 0 where
   pub bytes : List ℕ
   pub at : At (asked nlib g rule class) number bytes
   pub breaks : T (breaksAt nlib g rule c class number bytes)
-  pub place : place_in c (record { class = class; recordNumber = number }) ≡ x
+  pub place : placeIn c (record { class = class; recordNumber = number }) ≡ x
 
 -- ---- the first record
 
@@ -81,7 +81,7 @@ module _ (nlib : ℕ) (g : ℕ → Group) where
             bytes = b.0.1;
             at = subst (λ (n : ℕ). At (asked nlib g rule t) n b.0.1) (sym (zero-add p.number) ∙ sym p.is) p.at;
             breaks = q.1;
-            place = ap (place_in c) b.2 ∙ h.place;
+            place = ap (placeIn c) b.2 ∙ h.place;
           }
 
       back : Hit nlib g rule c x → Stands c (gather (found nlib g rule c) (order nlib g rule c)) x
@@ -104,7 +104,7 @@ module _ (nlib : ℕ) (g : ℕ → Group) where
           h.bytes,
           subst (λ (t : ℕ). At (asked nlib g rule t) h.number h.bytes) e h.at,
           subst (λ (t : ℕ). T (breaksAt nlib g rule c t h.number h.bytes)) e h.breaks,
-          sym (place-own c h.number) ∙ ap (λ (t : ℕ). place_in c (record { class = t; recordNumber = h.number })) (sym e) ∙ h.place,
+          sym (place-own c h.number) ∙ ap (λ (t : ℕ). placeIn c (record { class = t; recordNumber = h.number })) (sym e) ∙ h.place,
         )
 
     hit-own : {k : ℕ} {r : List ℕ} → At (asked nlib g rule c) k r → T (breaksAt nlib g rule c c k r) → Hit nlib g rule c k

@@ -15,7 +15,7 @@ use lib.ListN.{length, take, drop, length-append, take-append-drop}
 use Rattle.spec.specs.Lists.{keep, gather, numbered, concat}
 use Rattle.spec.specs.Record.{u16}
 use Rattle.spec.specs.Sheet.{Group, group, isInterface}
-use Rattle.spec.specs.Rules.{Fault, clean, place_in, verdictOf}
+use Rattle.spec.specs.Rules.{Fault, clean, placeIn, verdictOf}
 use Rattle.spec.specs.Relations.{At, here, next}
 use Rattle.laws.proofs.All.{keep-yes, keep-no}
 use Rattle.laws.proofs.Members.{keep-mem, numbered-at}
@@ -215,7 +215,7 @@ module _ {library user : List ℕ} {nlib n : ℕ} {starts : List ℕ} (x : Index
                 (ap (foundIn nlib g rule c t k) more ∙ found-no nlib g rule c t k (recordAt s at) (between s (at + u16 s at) end) b);
           })
 
-      pub record-hit : {p : ℕ} → t < n → rule ≤ 10 → breaksAt nlib g rule c t k (recordAt s at) ≡ true → p ≡ place_in c (record { class = t; recordNumber = k }) → verdict rule p ≡ verdictOf nlib g c
+      pub record-hit : {p : ℕ} → t < n → rule ≤ 10 → breaksAt nlib g rule c t k (recordAt s at) ≡ true → p ≡ placeIn c (record { class = t; recordNumber = k }) → verdict rule p ≡ verdictOf nlib g c
       record-hit {p} there-t ten b e = go (rule - 1) (omega (arith, f.rules.some))
         where
           later : List Fault
@@ -239,14 +239,14 @@ module _ {library user : List ℕ} {nlib n : ℕ} {starts : List ℕ} (x : Index
               pick (Memᴰ.cases_cons m)
             where
               pk : p ≡ k
-              pk = e ∙ ap (λ (d : ℕ). place_in c (record { class = d; recordNumber = k })) q ∙ place-own c k
+              pk = e ∙ ap (λ (d : ℕ). placeIn c (record { class = d; recordNumber = k })) q ∙ place-own c k
 
               pick : (h.fault ≡ record { class = t; recordNumber = k }) ⊎ Memᴰ h.fault later → p ≤ y
-              pick (inl z) = let a : p ≡ y = e ∙ ap (place_in c) (sym z) ∙ h.place in omega arith
+              pick (inl z) = let a : p ≡ y = e ∙ ap (placeIn c) (sym z) ∙ h.place in omega arith
               pick (inr m) =
                   let l = found-late nlib g rule c t (k + 1) (between s (at + u16 s at) end) h.fault m in
                   let a : h.fault.recordNumber ≡ y =
-                  sym (place-own c h.fault.recordNumber) ∙ ap (λ (d : ℕ). place_in c (record { class = d; recordNumber = h.fault.recordNumber })) (sym (l.0 ∙ q)) ∙ h.place in
+                  sym (place-own c h.fault.recordNumber) ∙ ap (λ (d : ℕ). placeIn c (record { class = d; recordNumber = h.fault.recordNumber })) (sym (l.0 ∙ q)) ∙ h.place in
                   omega (arith, l.1, pk)
 
           low : (y : ℕ) → Stands c (walked nlib g rule c) y → p ≤ y

@@ -24,7 +24,7 @@ use Rattle.theory.proofs.Lines.{lineage-library, root-library}
 use Rattle.theory.proofs.Form.{lineage-up, root-up}
 use Rattle.breaks.specs.Breaking.{lineBreaks, headBreaks, firstRules, breaksAt}
 use Rattle.breaks.proofs.Lines.{line-library, line-up}
-use Rattle.rules.specs.Walk.{onlyFirst, asked, foundIn, found, above, firstClass, classesFrom, walked, kept_at, climbed, Empty, Kept}
+use Rattle.rules.specs.Walk.{onlyFirst, asked, foundIn, found, above, firstClass, classesFrom, walked, keptAt, climbed, Empty, Kept}
 use Rattle.rules.proofs.Ascent.{Spot, higher, itself, past, left, own-from, above_from, from_past, left-self, left_up}
 use Rattle.rules.proofs.Hits.{asked-all, asked-one}
 use Rattle.rules.proofs.Verdicts.{Ground}
@@ -156,22 +156,22 @@ module _ {nlib n : ℕ} {g : ℕ → Group} (w : Ground nlib n g) {c : ℕ} (use
 -- ---- the row
 
 module _ {nlib n : ℕ} {g : ℕ → Group} {row : List ℕ} (p : Kept nlib n g row) where
-  pub kept_more : {rule t : ℕ} → 7 ≤ rule → rule ≤ 10 → t < n → n ≤ 256 → Empty nlib g rule t → {i : ℕ} → i ≡ kept_at rule t → Kept nlib n g (set row i 1)
+  pub kept_more : {rule t : ℕ} → 7 ≤ rule → rule ≤ 10 → t < n → n ≤ 256 → Empty nlib g rule t → {i : ℕ} → i ≡ keptAt rule t → Kept nlib n g (set row i 1)
   kept_more {rule} {t} a b h few e {i} q = record {
     long = length-set row i 1 ∙ p.long;
-    is = λ rule' t' a' b' h' one. go rule' t' a' b' h' one (ℕ_discrete (kept_at rule' t') i);
+    is = λ rule' t' a' b' h' one. go rule' t' a' b' h' one (ℕ_discrete (keptAt rule' t') i);
   }
     where
-      go : (rule' t' : ℕ) → 7 ≤ rule' → rule' ≤ 10 → t' < n → get_or (set row i 1) (kept_at rule' t') 0 ≡ 1 → Dec (kept_at rule' t' ≡ i) → Empty nlib g rule' t'
+      go : (rule' t' : ℕ) → 7 ≤ rule' → rule' ≤ 10 → t' < n → get_or (set row i 1) (keptAt rule' t') 0 ≡ 1 → Dec (keptAt rule' t' ≡ i) → Empty nlib g rule' t'
       go rule' t' a' b' h' one (yes z) =
           let er : rule ≡ rule' = omega arith in
           let et : t ≡ t' = omega arith in
           subst (λ (x : ℕ). Empty nlib g rule' x) et (subst (λ (x : ℕ). Empty nlib g x t) er e)
-      go rule' t' a' b' h' one (no z) = p.is rule' t' a' b' h' (sym (get_or-set_other row i (kept_at rule' t') 1 0 z) ∙ one)
+      go rule' t' a' b' h' one (no z) = p.is rule' t' a' b' h' (sym (get_or-set_other row i (keptAt rule' t') 1 0 z) ∙ one)
 
 -- nothing is kept at first
 pub kept-none : {nlib n : ℕ} {g : ℕ → Group} → n ≤ 256 → Kept nlib n g (replicate 1024 0)
-kept-none few = record { long = refl; is = λ rule t a b h one. absurd (omega (arith, get_or-replicate {A = ℕ} 1024 (kept_at rule t) 0 0 (omega arith))) }
+kept-none few = record { long = refl; is = λ rule t a b h one. absurd (omega (arith, get_or-replicate {A = ℕ} 1024 (keptAt rule t) 0 0 (omega arith))) }
 
 -- ---- the code's steps
 
@@ -179,29 +179,29 @@ module _ {nlib n : ℕ} {g : ℕ → Group} (w : Ground nlib n g) {c : ℕ} (use
   -- where the walk goes to: a class from which on it finds what is left
   pub climb-at : {t r : ℕ} → ClassAt nlib n g c rule t → r ≡ climbed row n rule c t → ClassAt nlib n g c rule r × (left n c r ≤ left n c t)
   unfolding climbed
-  climb-at {t} {r} k e = go (ltb t n && (not (ltb rule 7) && eqb (get_or row (kept_at rule t) 0) 1)) refl e
+  climb-at {t} {r} k e = go (ltb t n && (not (ltb rule 7) && eqb (get_or row (keptAt rule t) 0) 1)) refl e
     where
       Goal : ℕ → Type 0
       Goal x = ClassAt nlib n g c rule x × (left n c x ≤ left n c t)
 
-      go : (b : Bool) → (ltb t n && (not (ltb rule 7) && eqb (get_or row (kept_at rule t) 0) 1)) ≡ b → r ≡ elim b as (λ (x : Bool). ℕ) [ true ↦ c | false ↦ t ] → Goal r
+      go : (b : Bool) → (ltb t n && (not (ltb rule 7) && eqb (get_or row (keptAt rule t) 0) 1)) ≡ b → r ≡ elim b as (λ (x : Bool). ℕ) [ true ↦ c | false ↦ t ] → Goal r
       go false q e = subst Goal (sym e) (k, omega arith)
       go true q e = subst Goal (sym e) (at k.spot)
         where
-          tests : T (ltb t n && (not (ltb rule 7) && eqb (get_or row (kept_at rule t) 0) 1))
+          tests : T (ltb t n && (not (ltb rule 7) && eqb (get_or row (keptAt rule t) 0) 1))
           tests = true-t q
 
-          inner : T (not (ltb rule 7) && eqb (get_or row (kept_at rule t) 0) 1)
-          inner = and_r (ltb t n) (not (ltb rule 7) && eqb (get_or row (kept_at rule t) 0) 1) tests
+          inner : T (not (ltb rule 7) && eqb (get_or row (keptAt rule t) 0) 1)
+          inner = and_r (ltb t n) (not (ltb rule 7) && eqb (get_or row (keptAt rule t) 0) 1) tests
 
           low : t < n
-          low = ltb→lt t n (and_l (ltb t n) (not (ltb rule 7) && eqb (get_or row (kept_at rule t) 0) 1) tests)
+          low = ltb→lt t n (and_l (ltb t n) (not (ltb rule 7) && eqb (get_or row (keptAt rule t) 0) 1) tests)
 
           late : 7 ≤ rule
-          late = nltb→le rule 7 (and_l (not (ltb rule 7)) (eqb (get_or row (kept_at rule t) 0) 1) inner)
+          late = nltb→le rule 7 (and_l (not (ltb rule 7)) (eqb (get_or row (keptAt rule t) 0) 1) inner)
 
-          one : get_or row (kept_at rule t) 0 ≡ 1
-          one = eqb→eq (get_or row (kept_at rule t) 0) 1 (and_r (not (ltb rule 7)) (eqb (get_or row (kept_at rule t) 0) 1) inner)
+          one : get_or row (keptAt rule t) 0 ≡ 1
+          one = eqb→eq (get_or row (keptAt rule t) 0) 1 (and_r (not (ltb rule 7)) (eqb (get_or row (keptAt rule t) 0) 1) inner)
 
           at : Spot n g c t → Goal c
           at (past h) = absurd (omega (arith, low, h))
@@ -243,14 +243,14 @@ module _ (row : List ℕ) (n rule c t : ℕ) where
   unfolding climbed
   climb-early h = rw (lt-ltb rule 7 h, and-false (ltb t n), climbed)
 
-  module _ (h : t < n) (late : 7 ≤ rule) {i : ℕ} (ei : i ≡ kept_at rule t) where
+  module _ (h : t < n) (late : 7 ≤ rule) {i : ℕ} (ei : i ≡ keptAt rule t) where
     pub climb-kept : get_or row i 0 ≡ 1 → c ≡ climbed row n rule c t
     unfolding climbed
-    climb-kept e = rw (lt-ltb t n h, le-ltb rule 7 late, eq-eqb (get_or row (kept_at rule t) 0) 1 (ap (λ (j : ℕ). get_or row j 0) (sym ei) ∙ e), climbed)
+    climb-kept e = rw (lt-ltb t n h, le-ltb rule 7 late, eq-eqb (get_or row (keptAt rule t) 0) 1 (ap (λ (j : ℕ). get_or row j 0) (sym ei) ∙ e), climbed)
 
     pub climb-other : (get_or row i 0 ≡ 1 → ⊥) → t ≡ climbed row n rule c t
     unfolding climbed
-    climb-other e = rw (lt-ltb t n h, le-ltb rule 7 late, ne_eqb (get_or row (kept_at rule t) 0) 1 (λ q. e (ap (λ (j : ℕ). get_or row j 0) ei ∙ q)), climbed)
+    climb-other e = rw (lt-ltb t n h, le-ltb rule 7 late, ne_eqb (get_or row (keptAt rule t) 0) 1 (λ q. e (ap (λ (j : ℕ). get_or row j 0) ei ∙ q)), climbed)
 
 -- ---- keeping upward
 
@@ -261,7 +261,7 @@ pub record Keeping (nlib n : ℕ) (g : ℕ → Group) (rule : ℕ) (row : List �
   pub empty : Empty nlib g rule t
 
 module _ {nlib n : ℕ} {g : ℕ → Group} (w : Ground nlib n g) {rule : ℕ} (a : 7 ≤ rule) (b : rule ≤ 10) (few : n ≤ 256) {row : List ℕ} {t : ℕ} (k : Keeping nlib n g rule row t) where
-  pub keep-next : nlib ≤ t → {i : ℕ} → i ≡ kept_at rule t → {s v : ℕ} → s ≡ v → v ≡ u16 (classRecord (g t)) 8 → Keeping nlib n g rule (set row i 1) s × (s < t)
+  pub keep-next : nlib ≤ t → {i : ℕ} → i ≡ keptAt rule t → {s v : ℕ} → s ≡ v → v ≡ u16 (classRecord (g t)) 8 → Keeping nlib n g rule (set row i 1) s × (s < t)
   unfolding superclass
   keep-next h q {s} es ev =
       let u = w.supers t h k.there k.empty.concrete in

@@ -12,12 +12,12 @@ use native.Mathlib.Omega.{arith}
 use lib.Dec.{T, eqb, eqb→eq}
 use lib.ListN.{take, get_or-eq_default}
 use borrow.Author.Tests.{ne_eqb, lt-ltb, le-ltb}
-use Rattle.spec.specs.Lists.{keep, gather, numbered, only_if}
+use Rattle.spec.specs.Lists.{keep, gather, numbered, onlyIf}
 use Rattle.spec.specs.Record.{kind, isKind, CLASS, FIELD, isStatic, superclass}
 use Rattle.spec.specs.Sheet.{Group, classRecord, isInterface, isInner, isInstanceField}
-use Rattle.spec.specs.Classes.{Slot, fieldSlot, encloserSlot, variableSlot, superclasses, enclosing, hasMarker, local_at, captured, encloserSlots, fieldSlots, capturedSlots, ownSlots, lineage, root}
+use Rattle.spec.specs.Classes.{Slot, fieldSlot, encloserSlot, variableSlot, superclasses, enclosing, hasMarker, localAt, captured, encloserSlots, fieldSlots, capturedSlots, ownSlots, lineage, root}
 use Rattle.spec.specs.Classes.{slots}
-use Rattle.spec.specs.Rules.{Fault, slotFault, judgedFor, slotFaults, place_in}
+use Rattle.spec.specs.Rules.{Fault, slotFault, judgedFor, slotFaults, placeIn}
 use Rattle.spec.specs.Relations.{At, Lineage, self, up}
 use Rattle.spec.specs.Refusals.{oneClass}
 use Rattle.laws.proofs.Bools.{t-and, and_l, and_r, or_cases, or_l, or_r, eq→eqb}
@@ -69,21 +69,21 @@ module _ (nlib n : ℕ) (g : ℕ → Group) (f : Falls g) (supers : (c : ℕ) �
       go (inr k) = at (Memᴰ.append_cases (fieldSlots g t) k)
 
   -- their faults stand at record 0 of every class that has them
-  fixed-place : {c t : ℕ} → t ≤ c → (s : Slot) → Memᴰ s (fixed t) → place_in c (slotFault s) ≡ 0
+  fixed-place : {c t : ℕ} → t ≤ c → (s : Slot) → Memᴰ s (fixed t) → placeIn c (slotFault s) ≡ 0
   unfolding encloserSlots capturedSlots slotFault encloserSlot variableSlot
   fixed-place {c} {t} l s m = go (Memᴰ.append_cases (encloserSlots g t) m)
     where
-      go : Memᴰ s (encloserSlots g t) ⊎ Memᴰ s (capturedSlots g t) → place_in c (slotFault s) ≡ 0
+      go : Memᴰ s (encloserSlots g t) ⊎ Memᴰ s (capturedSlots g t) → placeIn c (slotFault s) ≡ 0
       go (inl k) =
           let o = only-mem (isInner (g t)) (map (encloserSlot t) (enclosing (g t))) k in
           let a = Memᴰ.of_map (encloserSlot t) (enclosing (g t)) o.1 in
-          ap (λ (x : Slot). place_in c (slotFault x)) (sym a.2) ∙ place-zero c t
+          ap (λ (x : Slot). placeIn c (slotFault x)) (sym a.2) ∙ place-zero c t
       go (inr k) =
-          let a = gather-mem (λ v. map (variableSlot v.0) (local_at (g v.0) v.1)) (captured g t) s k in
+          let a = gather-mem (λ v. map (variableSlot v.0) (localAt (g v.0) v.1)) (captured g t) s k in
           let d : ℕ = a.source.0 in
-          let b = Memᴰ.of_map (variableSlot d) (local_at (g d) a.source.1) a.part in
+          let b = Memᴰ.of_map (variableSlot d) (localAt (g d) a.source.1) a.part in
           let w : d < t = owners t d a.source.1 a.member in
-          ap (λ (x : Slot). place_in c (slotFault x)) (sym b.2) ∙ place_other c d b.0.0 (λ e. omega arith)
+          ap (λ (x : Slot). placeIn c (slotFault x)) (sym b.2) ∙ place_other c d b.0.0 (λ e. omega arith)
 
   -- a field with its record
   record Declared (t : ℕ) (s : Slot) : Type 0 where
@@ -122,7 +122,7 @@ module _ (nlib n : ℕ) (g : ℕ → Group) (f : Falls g) (supers : (c : ℕ) �
       unfolding judgedFor
       its-super t = supers c user there (and_l (not (isInterface (g c))) (hasMarker g (ruleMarker rule) c) t)
 
-      order_is : order nlib g rule c ≡ only_if judged (gather (above nlib g c) (superclasses (g c)))
+      order_is : order nlib g rule c ≡ onlyIf judged (gather (above nlib g c) (superclasses (g c)))
       unfolding order
       order_is = rw (le-ltb rule 7 late, order)
 
@@ -204,7 +204,7 @@ module _ (nlib n : ℕ) (g : ℕ → Group) (f : Falls g) (supers : (c : ℕ) �
         abbrev Found : ℕ → Type 0
         Found x = Failing nlib g c Ok x ⊎ (Extra × (x ≡ 0))
 
-        from-slot : {t x : ℕ} (s : Slot) → Memᴰ t (lineage nlib g c) → Memᴰ s (ownSlots g t) → T (not (Ok s)) → place_in c (slotFault s) ≡ x → Found x
+        from-slot : {t x : ℕ} (s : Slot) → Memᴰ t (lineage nlib g c) → Memᴰ s (ownSlots g t) → T (not (Ok s)) → placeIn c (slotFault s) ≡ x → Found x
         unfolding slots
         from-slot s m o b p = inl (record { slot = s; member = mem-gather (ownSlots g) m o; fails = b; place = p })
 
@@ -216,7 +216,7 @@ module _ (nlib n : ℕ) (g : ℕ → Group) (f : Falls g) (supers : (c : ℕ) �
         found-head {t} {x} m l h e (inr b) =
             inr (inr (and_l (eqb rule 9) (eqb t c) (and_l (eqb rule 9 && eqb t c) (baseBreaks g c) b), and_r (eqb rule 9 && eqb t c) (baseBreaks g c) b), e)
 
-        found-user : {t k x : ℕ} {r : List ℕ} → Memᴰ t (lineage nlib g c) → At (asked nlib g rule t) k r → T (breaksAt nlib g rule c t k r) → place_in c (record { class = t; recordNumber = k })
+        found-user : {t k x : ℕ} {r : List ℕ} → Memᴰ t (lineage nlib g c) → At (asked nlib g rule t) k r → T (breaksAt nlib g rule c t k r) → placeIn c (record { class = t; recordNumber = k })
             ≡ x → Found x
         unfolding fieldBreaks slotFault fieldSlot
         found-user {t} {k} {x} {r} m a b p = go (ℕ_discrete k 0)
@@ -233,20 +233,20 @@ module _ (nlib n : ℕ) (g : ℕ → Group) (f : Falls g) (supers : (c : ℕ) �
             go : Dec (k ≡ 0) → Found x
             go (yes e) =
                 let b₀ : T (breaksAt nlib g rule c t 0 r) = subst (λ (i : ℕ). T (breaksAt nlib g rule c t i r)) e b in
-                found-head m usr (low line) (sym p ∙ ap (λ (i : ℕ). place_in c (record { class = t; recordNumber = i })) e ∙ place-zero c t)
+                found-head m usr (low line) (sym p ∙ ap (λ (i : ℕ). placeIn c (record { class = t; recordNumber = i })) e ∙ place-zero c t)
                 (or_cases (fixedBreaks g rule t) (eqb rule 9 && eqb t c && baseBreaks g c) (subst T (at_head t r ∙ head-user t usr) b₀))
             go (no h) =
                 let q = subst T (at_field t k r h) b in
                 from-slot (fieldSlot t (k, r)) m (field_in at (and_l (isInstanceField r) (not (slotFits g rule (fieldSlot t (k, r)))) q))
                 (and_r (isInstanceField r) (not (slotFits g rule (fieldSlot t (k, r)))) q) p
 
-        found-root : {t k x : ℕ} {r : List ℕ} → Memᴰ t (root nlib g c) → At (asked nlib g rule t) k r → T (breaksAt nlib g rule c t k r) → place_in c (record { class = t; recordNumber = k }) ≡ x
+        found-root : {t k x : ℕ} {r : List ℕ} → Memᴰ t (root nlib g c) → At (asked nlib g rule t) k r → T (breaksAt nlib g rule c t k r) → placeIn c (record { class = t; recordNumber = k }) ≡ x
             → Found x
         found-root {t} {k} {x} {r} m a b p =
             let l : t < nlib = ((root_is nlib g f c t user).0 m).library in
             let q = first-at (g t) (subst (λ (rs : Group). At rs k r) (asked-root t l) a) in
             let b₀ : T (breaksAt nlib g rule c t 0 r) = subst (λ (i : ℕ). T (breaksAt nlib g rule c t i r)) q.0 b in
-            inr (inl (t, m, subst T (at_head t r ∙ head-root t l) b₀), sym p ∙ ap (λ (i : ℕ). place_in c (record { class = t; recordNumber = i })) q.0 ∙ place-zero c t)
+            inr (inl (t, m, subst T (at_head t r ∙ head-root t l) b₀), sym p ∙ ap (λ (i : ℕ). placeIn c (record { class = t; recordNumber = i })) q.0 ∙ place-zero c t)
 
         found-hit : {x : ℕ} → Hit nlib g rule c x → T judged × Found x
         found-hit {x} h = let o = asked_of h.member in (o.0, go o.1)
@@ -306,7 +306,7 @@ module _ (nlib n : ℕ) (g : ℕ → Group) (f : Falls g) (supers : (c : ℕ) �
                   breaks = subst T (sym (at_field t d.number d.bytes (field-later (g t) (one t below) d.at d.instance)))
                       (t-and (isInstanceField d.bytes) (not (slotFits g rule (fieldSlot t (d.number, d.bytes)))) d.instance
                       (subst (λ (s : Slot). T (not (slotFits g rule s))) (sym d.is) h.fails));
-                  place = ap (λ (s : Slot). place_in c (slotFault s)) d.is ∙ h.place;
+                  place = ap (λ (s : Slot). placeIn c (slotFault s)) d.is ∙ h.place;
                 }
 
         hit-extra : {x : ℕ} → T judged → Extra → x ≡ 0 → Hit nlib g rule c x
@@ -327,13 +327,13 @@ module _ (nlib n : ℕ) (g : ℕ → Group) (f : Falls g) (supers : (c : ℕ) �
             (or_r (fixedBreaks g rule c) (eqb rule 9 && eqb c c && baseBreaks g c)
             (t-and (eqb rule 9 && eqb c c) (baseBreaks g c) (t-and (eqb rule 9) (eqb c c) w.0 (eq→eqb {m = c} {n = c} refl)) w.1))
 
-        pub slot-hits : (x : ℕ) → Hit nlib g rule c x ↔ Stands c (only_if (judgedFor g (ruleMarker rule) c) (slotFaults nlib g (slotFits g rule) c ++ X)) x
+        pub slot-hits : (x : ℕ) → Hit nlib g rule c x ↔ Stands c (onlyIf (judgedFor g (ruleMarker rule) c) (slotFaults nlib g (slotFits g rule) c ++ X)) x
         slot-hits x = (
           (λ h. let w = found-hit h in o.1 (w.0, a.1 (there-x w.1))),
           (λ s. let w = o.0 s in back w.0 (a.0 w.1)),
         )
           where
-            o : Stands c (only_if judged (slotFaults nlib g Ok c ++ X)) x ↔ (T judged × Stands c (slotFaults nlib g Ok c ++ X) x)
+            o : Stands c (onlyIf judged (slotFaults nlib g Ok c ++ X)) x ↔ (T judged × Stands c (slotFaults nlib g Ok c ++ X) x)
             o = stands-only c judged (slotFaults nlib g Ok c ++ X) x
 
             a : Stands c (slotFaults nlib g Ok c ++ X) x ↔ (Stands c (slotFaults nlib g Ok c) x ⊎ Stands c X x)

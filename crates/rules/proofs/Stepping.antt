@@ -12,7 +12,7 @@ use Rattle.spec.specs.Lists.{concat}
 use Rattle.spec.specs.Record.{u16, bit, flags, superclass}
 use Rattle.spec.specs.Sheet.{Group, classRecord, isInterface}
 use Rattle.spec.specs.Classes.{hasMarker}
-use Rattle.spec.specs.Rules.{judgedFor, place_in}
+use Rattle.spec.specs.Rules.{judgedFor, placeIn}
 use Rattle.laws.proofs.Bools.{t_true, or_l, or_r, eq→eqb}
 use Rattle.theory.proofs.Slots.{place-own, place_other}
 use Rattle.records.specs.Records.{Carries}
@@ -105,8 +105,8 @@ module _ (nlib : ℕ) (g : ℕ → Group) (rule t : ℕ) {bytes : List ℕ} (w :
 
 -- ---- where a fault stands
 
-pub place_here : (c t k : ℕ) → t ≡ c → k ≡ place_in c (record { class = t; recordNumber = k })
-place_here c t k e = sym (ap (λ (d : ℕ). place_in c (record { class = d; recordNumber = k })) e ∙ place-own c k)
+pub place_here : (c t k : ℕ) → t ≡ c → k ≡ placeIn c (record { class = t; recordNumber = k })
+place_here c t k e = sym (ap (λ (d : ℕ). placeIn c (record { class = d; recordNumber = k })) e ∙ place-own c k)
 
-pub place-there : (c t k : ℕ) → (t ≡ c → ⊥) → 0 ≡ place_in c (record { class = t; recordNumber = k })
+pub place-there : (c t k : ℕ) → (t ≡ c → ⊥) → 0 ≡ placeIn c (record { class = t; recordNumber = k })
 place-there c t k h = sym (place_other c t k h)

@@ -16,7 +16,7 @@ use Rattle.spec.specs.Record.{flags}
 use Rattle.spec.specs.Sheet.{Group, group, classRecord, isInterface}
 use Rattle.spec.specs.Markers.{Immutable, Powerless, DeepSelfless}
 use Rattle.spec.specs.Classes.{superclasses, captured, root}
-use Rattle.spec.specs.Rules.{Fault, Verdict, clean, rootFits, rootFaults, baseFits, baseFaults, rule7, rule8, rule9, rule10, rules, place_in, verdictOf}
+use Rattle.spec.specs.Rules.{Fault, Verdict, clean, rootFits, rootFaults, baseFits, baseFaults, rule7, rule8, rule9, rule10, rules, placeIn, verdictOf}
 use Rattle.spec.specs.Refusals.{oneClass, formRefusal}
 use Rattle.laws.proofs.Bools.{decide}
 use Rattle.laws.proofs.Members.{any-mem, mem-any}
@@ -111,9 +111,9 @@ module _ {nlib n : ℕ} {g : ℕ → Group} (w : Ground nlib n g) {c : ℕ} (use
   -- ---- all ten
 
   places : List (List ℕ)
-  places = map (map (place_in c)) (rules nlib g c)
+  places = map (map (placeIn c)) (rules nlib g c)
 
-  rule-is : (rule x : ℕ) (fs : List Fault) → ((x : ℕ) → Hit nlib g rule c x ↔ Stands c fs x) → Stands c (walked nlib g rule c) x ↔ Memᴰ x (map (place_in c) fs)
+  rule-is : (rule x : ℕ) (fs : List Fault) → ((x : ℕ) → Hit nlib g rule c x ↔ Stands c fs x) → Stands c (walked nlib g rule c) x ↔ Memᴰ x (map (placeIn c) fs)
   rule-is rule x fs h = chain (hit-is nlib g rule c x) (chain (h x) (flip (stands-is c fs x)))
 
   stands-rule : (i x : ℕ) → i < 10 → Stands c (walked nlib g (suc i) c) x ↔ Memᴰ x (get_or places i [])

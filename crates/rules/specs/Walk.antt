@@ -1,7 +1,7 @@
 -- The judging of one class as a walk over rules, classes and records: the classes that a rule asks, and the records that it asks of each of them.
 -- Assumes nothing.
 use Rattle.std.specs.Prelude.{◌≡◌, Bool, true, false, not, ◌&&◌, ◌||◌, List, [], ◌∷◌, ◌++◌, map, ℕ, ◌+◌, ◌*◌, ◌-◌, ◌≤◌, ◌<◌, T, eqb, ltb, length, get_or, take}
-use Rattle.spec.specs.Lists.{keep, gather, numbered, only_if}
+use Rattle.spec.specs.Lists.{keep, gather, numbered, onlyIf}
 use Rattle.spec.specs.Record.{superclass}
 use Rattle.spec.specs.Sheet.{Group, classRecord, isInterface}
 use Rattle.spec.specs.Classes.{superclasses, lineage, root}
@@ -37,7 +37,7 @@ module _ (nlib : ℕ) (g : ℕ → Group) where
 
   -- the classes that a rule asks in the judging of c: inherited faults stand at record 0, so its superclasses come first
   unfoldable pub order : ℕ → ℕ → List ℕ
-  order rule c = elim (ltb rule 7) [ true ↦ c ∷ [] | false ↦ only_if (judgedFor g (ruleMarker rule) c) (gather (above c) (superclasses (g c))) ]
+  order rule c = elim (ltb rule 7) [ true ↦ c ∷ [] | false ↦ onlyIf (judgedFor g (ruleMarker rule) c) (gather (above c) (superclasses (g c))) ]
 
   -- what comes after class t
   unfoldable pub afterward : ℕ → ℕ → List ℕ
@@ -69,14 +69,14 @@ pub record Empty (nlib : ℕ) (g : ℕ → Group) (rule t : ℕ) : Type 0 where
   pub concrete : T (not (isInterface (g t)))
 
 -- four lanes, one a rule
-abbrev pub kept_at : ℕ → ℕ → ℕ
-kept_at rule t = (rule - 7) * 256 + t
+abbrev pub keptAt : ℕ → ℕ → ℕ
+keptAt rule t = (rule - 7) * 256 + t
 
 -- the row has 1 only where nothing is found
 pub record Kept (nlib n : ℕ) (g : ℕ → Group) (row : List ℕ) : Type 0 where
   pub long : length row ≡ 1024
-  pub is : (rule t : ℕ) → 7 ≤ rule → rule ≤ 10 → t < n → get_or row (kept_at rule t) 0 ≡ 1 → Empty nlib g rule t
+  pub is : (rule t : ℕ) → 7 ≤ rule → rule ≤ 10 → t < n → get_or row (keptAt rule t) 0 ≡ 1 → Empty nlib g rule t
 
 -- class t, or c where nothing is found from t upward
 unfoldable pub climbed : List ℕ → ℕ → ℕ → ℕ → ℕ → ℕ
-climbed row n rule c t = elim (ltb t n && (not (ltb rule 7) && eqb (get_or row (kept_at rule t) 0) 1)) [ true ↦ c | false ↦ t ]
+climbed row n rule c t = elim (ltb t n && (not (ltb rule 7) && eqb (get_or row (keptAt rule t) 0) 1)) [ true ↦ c | false ↦ t ]

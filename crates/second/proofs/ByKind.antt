@@ -9,13 +9,13 @@ use lib.Dec.{not_T, eqb, leb, ltb, ltb→lt, leb→le, nltb→le, le→leb}
 use lib.ListN.{length}
 use Rattle.spec.specs.Lists.{any, elem}
 use Rattle.spec.specs.Record.{bit, none16, kind, CLASS, IMPLEMENTS, FIELD, LOCAL, USES, BUILDS, MEMBER, REFERS, flags, superclass, encloser, target, index}
-use Rattle.spec.specs.Record.{Ty, fieldTy, local_ty, isStatic, unlessNone, tyReferences, references}
+use Rattle.spec.specs.Record.{Ty, fieldTy, localTy, isStatic, unlessNone, tyReferences, references}
 use Rattle.spec.specs.Sheet.{Group, ofKind, isInterface, isInstanceField}
 use Rattle.spec.specs.Classes.{enclosers}
 use Rattle.spec.specs.Refusals.{noSuchClass, noSuchIndex, superclassFits, encloserFits, implementsFits, usesFits, nameMet, formTests}
 use Rattle.laws.proofs.Bools.{t_same, eq→eqb}
 use Rattle.theory.proofs.References.{references-class, references-implements, references-field, references-local, references-uses, references-builds, references-member, references-refers}
-use Rattle.pass.specs.Pass.{number_of}
+use Rattle.pass.specs.Pass.{numberOf}
 use Rattle.second.specs.Second.{formNumber, nineUnless, eightUnless, thereOrNone, typeThere, classNumber, implementsNumber, fieldNumber, usesNumber, refersNumber}
 
 -- ---- tests and their opposites
@@ -113,12 +113,12 @@ module _ (g : ℕ → Group) (nlib n c : ℕ) (r : List ℕ) where
       ∷ []
 
   -- the first: the classes that the record names are there
-  by_number : (k : ℕ) → kind r ≡ k → {ds : List ℕ} → references r ≡ ds → formNumber g nlib n c r ≡ refusing 9 (any (leb n) ds) (number_of (later k))
-  unfolding formNumber formTests noSuchClass noSuchIndex isInstanceField later number_of
-  by_number k e ed = ap₂ (λ (x : ℕ) (ds : List ℕ). refusing 9 (any (leb n) ds) (number_of (later x))) e ed
+  by_number : (k : ℕ) → kind r ≡ k → {ds : List ℕ} → references r ≡ ds → formNumber g nlib n c r ≡ refusing 9 (any (leb n) ds) (numberOf (later k))
+  unfolding formNumber formTests noSuchClass noSuchIndex isInstanceField later numberOf
+  by_number k e ed = ap₂ (λ (x : ℕ) (ds : List ℕ). refusing 9 (any (leb n) ds) (numberOf (later x))) e ed
 
   pub class-is : kind r ≡ CLASS → formNumber g nlib n c r ≡ classNumber g nlib n c r (refusing 10 (nameMet g c r) 0)
-  unfolding later number_of any classNumber
+  unfolding later numberOf any classNumber
   class-is e =
       by_number CLASS e (references-class r (eq→eqb e) ∙ ap (λ (ds : List ℕ). unlessNone (superclass r) ++ ds) (sym (append-nil (unlessNone (encloser r)))))
       ∙ none-there n (superclass r) (unlessNone (encloser r) ++ []) _
@@ -141,14 +141,14 @@ module _ (g : ℕ → Group) (nlib n c : ℕ) (r : List ℕ) where
   class-named e ek z eb ev = ap (λ (x : Bool). refusing 10 x 0) (sym ev ∙ eb) ∙ sym (class-is e ∙ (class-by _).goes (sym ek ∙ z))
 
   pub implements-is : kind r ≡ IMPLEMENTS → formNumber g nlib n c r ≡ implementsNumber g n c (target r)
-  unfolding later number_of any implementsNumber implementsFits
+  unfolding later numberOf any implementsNumber implementsFits
   implements-is e =
       by_number IMPLEMENTS e (references-implements r (eq→eqb e))
       ∙ class-there n (target r) [] _
       ∙ ap (nineUnless (ltb (target r) n)) (eight (ltb (target r) c && isInterface (g (target r))) 0)
 
   pub field_is : kind r ≡ FIELD → formNumber g nlib n c r ≡ fieldNumber n (isInterface (g c)) (isStatic r) (fieldTy r)
-  unfolding later number_of fieldNumber
+  unfolding later numberOf fieldNumber
   field_is e =
       by_number FIELD e (references-field r (eq→eqb e))
       ∙ type-there n (fieldTy r) _
@@ -158,12 +158,12 @@ module _ (g : ℕ → Group) (nlib n c : ℕ) (r : List ℕ) where
       instance true = unfold eightUnless in refl
       instance false = eight-not (isInterface (g c)) 0
 
-  pub local-is : kind r ≡ LOCAL → formNumber g nlib n c r ≡ nineUnless (typeThere n (local_ty r)) 0
-  unfolding later number_of
-  local-is e = by_number LOCAL e (references-local r (eq→eqb e)) ∙ type-there n (local_ty r) 0
+  pub local-is : kind r ≡ LOCAL → formNumber g nlib n c r ≡ nineUnless (typeThere n (localTy r)) 0
+  unfolding later numberOf
+  local-is e = by_number LOCAL e (references-local r (eq→eqb e)) ∙ type-there n (localTy r) 0
 
   pub uses-is : kind r ≡ USES → formNumber g nlib n c r ≡ usesNumber g n c (target r) (index r)
-  unfolding later number_of any usesNumber usesFits
+  unfolding later numberOf any usesNumber usesFits
   uses-is e =
       by_number USES e (references-uses r (eq→eqb e))
       ∙ class-there n (target r) [] _
@@ -172,15 +172,15 @@ module _ (g : ℕ → Group) (nlib n c : ℕ) (r : List ℕ) where
       ∙ ap (nineUnless (ltb (index r) (length (ofKind LOCAL (g (target r)))))) (eight (elem (target r) (c ∷ enclosers g c)) 0))
 
   pub builds-is : kind r ≡ BUILDS → formNumber g nlib n c r ≡ nineUnless (ltb (target r) n) 0
-  unfolding later number_of any
+  unfolding later numberOf any
   builds-is e = by_number BUILDS e (references-builds r (eq→eqb e)) ∙ class-there n (target r) [] 0
 
   pub member_is : kind r ≡ MEMBER → formNumber g nlib n c r ≡ 0
-  unfolding later number_of any
+  unfolding later numberOf any
   member_is e = by_number MEMBER e (references-member r (eq→eqb e))
 
   pub refers-is : kind r ≡ REFERS → formNumber g nlib n c r ≡ refersNumber g n (target r) (index r)
-  unfolding later number_of any refersNumber
+  unfolding later numberOf any refersNumber
   refers-is e =
       by_number REFERS e (references-refers r (eq→eqb e))
       ∙ class-there n (target r) [] _

@@ -6,7 +6,7 @@ use mathlib.Core.List.{List}
 use Prim.Native.Nat.{ℕ, ◌+◌}
 use native.Mathlib.Omega.{arith}
 use lib.Dec.{leb, ltb}
-use Rattle.spec.specs.Record.{u16, bit, CLASS, IMPLEMENTS, FIELD, LOCAL, USES, BUILDS, MEMBER, REFERS, Ty, ty_at}
+use Rattle.spec.specs.Record.{u16, bit, CLASS, IMPLEMENTS, FIELD, LOCAL, USES, BUILDS, MEMBER, REFERS, Ty, tyAt}
 use Rattle.spec.specs.Sheet.{Group, isInterface}
 use Rattle.records.specs.Records.{Sized, recordAt}
 use Rattle.second.specs.Second.{formNumber, nineUnless, typeThere, implementsNumber, fieldNumber, usesNumber, refersNumber}
@@ -15,17 +15,17 @@ use Rattle.records.proofs.Positions.{kind-is, last-kind, target_at, index_at, st
 
 -- `k` is the kind that stands there
 module _ (g : ℕ → Group) (nlib n c : ℕ) {s : List ℕ} {at : ℕ} (z : Sized s at) {k : ℕ} (ek : k ≡ u16 s (at + 2)) where
-  pub field_at : k ≡ FIELD → {face : Bool} → face ≡ isInterface (g c) → {m : ℕ} → m ≡ fieldNumber n face (bit 2 (u16 s (at + 4))) (ty_at s (at + 6)) → m ≡ formNumber g nlib n c (recordAt s at)
+  pub field_at : k ≡ FIELD → {face : Bool} → face ≡ isInterface (g c) → {m : ℕ} → m ≡ fieldNumber n face (bit 2 (u16 s (at + 4))) (tyAt s (at + 6)) → m ≡ formNumber g nlib n c (recordAt s at)
   field_at e ef em =
       let q = kind-is z ek e in
       em ∙ sym (field_is g nlib n c (recordAt s at) q ∙ rw (← ef, static_at z q, field-type-at z q))
 
   -- whether its type names a class that isn't there
-  pub local_at : k ≡ LOCAL → {absent : Bool} → absent ≡ not (typeThere n (ty_at s (at + 4))) → (b : Bool) → absent ≡ b → refusing 9 b 0 ≡ formNumber g nlib n c (recordAt s at)
+  pub local_at : k ≡ LOCAL → {absent : Bool} → absent ≡ not (typeThere n (tyAt s (at + 4))) → (b : Bool) → absent ≡ b → refusing 9 b 0 ≡ formNumber g nlib n c (recordAt s at)
   local_at e ea b eb =
       let q = kind-is z ek e in
       ap (λ (x : Bool). refusing 9 x 0) (sym eb ∙ ea)
-      ∙ nine (typeThere n (ty_at s (at + 4))) 0
+      ∙ nine (typeThere n (tyAt s (at + 4))) 0
       ∙ sym (local-is g nlib n c (recordAt s at) q ∙ ap (λ (t : Ty). nineUnless (typeThere n t) 0) (local-type-at z q))
 
   pub member-at : k ≡ MEMBER → 0 ≡ formNumber g nlib n c (recordAt s at)

@@ -10,7 +10,7 @@ use Rattle.spec.specs.Record.{u16, bit, flags, superclass, encloser}
 use Rattle.spec.specs.Sheet.{Group}
 use Rattle.spec.specs.Refusals.{superclassFits, encloserFits}
 use Rattle.laws.proofs.Parts.{u16-take}
-use Rattle.pass.specs.Pass.{number_of}
+use Rattle.pass.specs.Pass.{numberOf}
 use Rattle.fingerprints.specs.Fingerprints.{Opens}
 use Rattle.second.specs.Second.{nineUnless, eightUnless, thereOrNone, superclassOk, encloserOk, classNumber}
 use Rattle.records.specs.Records.{recordAt}
@@ -19,19 +19,19 @@ use Rattle.records.specs.Records.{recordAt}
 
 -- the tests that are left decide the number
 pub record Deciding (ts : List (ℕ × Bool)) (m : ℕ) : Type 0 where
-  pub is : number_of ts ≡ m
+  pub is : numberOf ts ≡ m
 
 module _ {k m : ℕ} {t : Bool} {ts : List (ℕ × Bool)} (d : Deciding ((k, t) ∷ ts) m) {b : Bool} (e : b ≡ t) where
   pub refused : b ≡ true → k ≡ m
-  unfolding number_of
+  unfolding numberOf
   refused h = rw (← e, h) at d.is
 
   pub passed : b ≡ false → Deciding ts m
-  unfolding number_of
+  unfolding numberOf
   passed h = record { is = rw (← e, h) at d.is }
 
 pub none_left : {m : ℕ} → Deciding [] m → 0 ≡ m
-unfolding number_of
+unfolding numberOf
 none_left d = d.is
 
 -- ---- the record that comes first
@@ -48,8 +48,8 @@ module _ (g : ℕ → Group) (nlib n c : ℕ) where
       (9, not (thereOrNone n up)) ∷ (9, not (thereOrNone n outer)) ∷ (8, eqb c 0 && bit 0 f) ∷ (8, not (superclassOk g c f up)) ∷ (8, not (encloserOk nlib c f outer)) ∷ []
 
 in_order : (a b z s e : Bool)
-    → number_of ((9, not a) ∷ (9, not b) ∷ (8, z) ∷ (8, not s) ∷ (8, not e) ∷ []) ≡ nineUnless a (nineUnless b (eightUnless (not z) (eightUnless s (eightUnless e 0))))
-unfolding number_of nineUnless eightUnless
+    → numberOf ((9, not a) ∷ (9, not b) ∷ (8, z) ∷ (8, not s) ∷ (8, not e) ∷ []) ≡ nineUnless a (nineUnless b (eightUnless (not z) (eightUnless s (eightUnless e 0))))
+unfolding numberOf nineUnless eightUnless
 in_order false b z s e = refl
 in_order true false z s e = refl
 in_order true true true s e = refl
@@ -59,7 +59,7 @@ in_order true true false true true = refl
 
 -- read in bytes in which the CLASS record comes first: `w` and `v` are the superclass and the encloser as they stand there, `up` and `outer` the same as wide numbers
 module _ (g : ℕ → Group) (nlib n c : ℕ) {bytes : List ℕ} (o : Opens bytes) where
-  of_fields : (r : List ℕ) → number_of (classTests g nlib n c (superclass r) (encloser r) (flags r)) ≡ classNumber g nlib n c r 0
+  of_fields : (r : List ℕ) → numberOf (classTests g nlib n c (superclass r) (encloser r) (flags r)) ≡ classNumber g nlib n c r 0
   unfolding classNumber superclassFits encloserFits superclassOk encloserOk
   of_fields r = in_order _ _ _ _ _
 

@@ -8,7 +8,7 @@ use native.Mathlib.Nat.{div-one}
 use lib.Dec.{eqb, leb}
 use lib.ListN.{get_or}
 use borrow.Author.Tests.{ne_eqb}
-use Rattle.spec.specs.Record.{u8, u16, bit, ty_at}
+use Rattle.spec.specs.Record.{u8, u16, bit, tyAt}
 use Rattle.second.specs.Second.{nineUnless, eightUnless, typeThere, fieldNumber}
 use Rattle.second.proofs.ByKind.{past-last}
 
@@ -19,22 +19,22 @@ odd-bit f = ap (λ (x : ℕ). eqb (x % 2) 1) (sym (div-one f))
 -- ---- the type at i of a sheet, by its code
 
 module _ (s : List ℕ) (n i : ℕ) where
-  pub class-absent : {code word class : ℕ} → code ≡ get_or s (i + 1) 0 → code ≡ 0 → word ≡ u16 s (i + 2) → class ≡ word → leb n class ≡ not (typeThere n (ty_at s i))
-  unfolding typeThere ty_at u8
+  pub class-absent : {code word class : ℕ} → code ≡ get_or s (i + 1) 0 → code ≡ 0 → word ≡ u16 s (i + 2) → class ≡ word → leb n class ≡ not (typeThere n (tyAt s i))
+  unfolding typeThere tyAt u8
   class-absent {word = word} e z ew ec = rw (← e, z, ← ew, ec) (past-last n word)
 
-  pub type-plain : {code : ℕ} → code ≡ get_or s (i + 1) 0 → (code ≡ 0 → ⊥) → false ≡ not (typeThere n (ty_at s i))
-  unfolding typeThere ty_at u8
+  pub type-plain : {code : ℕ} → code ≡ get_or s (i + 1) 0 → (code ≡ 0 → ⊥) → false ≡ not (typeThere n (tyAt s i))
+  unfolding typeThere tyAt u8
   type-plain e z = rw (← e, ne_eqb _ _ z)
 
 -- ---- a FIELD at `at`, by whether its type's class is absent, its class and its flags
 
-module _ (s : List ℕ) (n at : ℕ) (face : Bool) {absent : Bool} (e : absent ≡ not (typeThere n (ty_at s (at + 6)))) where
+module _ (s : List ℕ) (n at : ℕ) (face : Bool) {absent : Bool} (e : absent ≡ not (typeThere n (tyAt s (at + 6)))) where
   abbrev Number : ℕ → Type 0
-  Number m = m ≡ fieldNumber n face (bit 2 (u16 s (at + 4))) (ty_at s (at + 6))
+  Number m = m ≡ fieldNumber n face (bit 2 (u16 s (at + 4))) (tyAt s (at + 6))
 
-  its-type : typeThere n (ty_at s (at + 6)) ≡ not absent
-  its-type = sym (not-not (typeThere n (ty_at s (at + 6)))) ∙ ap not (sym e)
+  its-type : typeThere n (tyAt s (at + 6)) ≡ not absent
+  its-type = sym (not-not (typeThere n (tyAt s (at + 6)))) ∙ ap not (sym e)
 
   pub field-absent : absent ≡ true → Number 9
   unfolding fieldNumber nineUnless

@@ -10,7 +10,7 @@ use lib.Dec.{eqb}
 use lib.ListN.{length, get_or, take, drop, length-drop, drop_of_length-le}
 use lib.Seq.{drop-cons}
 use borrow.Author.Tests.{eq-eqb, ne_eqb}
-use Rattle.spec.specs.Lists.{elem, same_list}
+use Rattle.spec.specs.Lists.{elem, sameList}
 use Rattle.spec.specs.Record.{u16, className}
 use Rattle.spec.specs.Sheet.{Group, group, classRecord}
 use Rattle.spec.specs.Refusals.{nameMet}
@@ -24,8 +24,8 @@ use Rattle.fingerprints.proofs.Telling.{same-list, all_told}
 
 -- ---- two lists
 
-other_length : (xs ys : List ℕ) → (length xs ≡ length ys → ⊥) → false ≡ same_list xs ys
-other_length xs ys n = sym (t-false (same_list xs ys) (not-mono (same_list xs ys) false (λ t. n (ap length (same-list xs ys t))) tt))
+other_length : (xs ys : List ℕ) → (length xs ≡ length ys → ⊥) → false ≡ sameList xs ys
+other_length xs ys n = sym (t-false (sameList xs ys) (not-mono (sameList xs ys) false (λ t. n (ap length (same-list xs ys t))) tt))
 
 -- ---- the names in the records that come first, both of length `len`. The bytes from j on decide
 pub record Comparing (a b : List ℕ) (len j : ℕ) : Type 0 where
@@ -33,11 +33,11 @@ pub record Comparing (a b : List ℕ) (len j : ℕ) : Type 0 where
   pub second-opens : Opens b
   pub first : len ≡ u16 a 0
   pub second : len ≡ u16 b 0
-  pub rest : same_list (drop j (recordAt a 0)) (drop j (recordAt b 0)) ≡ same_list (className (recordAt a 0)) (className (recordAt b 0))
+  pub rest : sameList (drop j (recordAt a 0)) (drop j (recordAt b 0)) ≡ sameList (className (recordAt a 0)) (className (recordAt b 0))
 
 -- `w` and `u` are the lengths that stand there, and `v` and `len` the same as wide numbers
 module _ {a b : List ℕ} (oa : Opens a) (ob : Opens b) {v w : ℕ} (ev : v ≡ w) (ew : w ≡ u16 a 0) {len u : ℕ} (el : len ≡ u) (eu : u ≡ u16 b 0) where
-  pub lengths_differ : (v ≡ len → ⊥) → false ≡ same_list (className (recordAt a 0)) (className (recordAt b 0))
+  pub lengths_differ : (v ≡ len → ⊥) → false ≡ sameList (className (recordAt a 0)) (className (recordAt b 0))
   unfolding className
   lengths_differ n =
       let la : length (drop 12 (recordAt a 0)) ≡ v - 12 = length-drop 12 (recordAt a 0) ∙ ap (λ (i : ℕ). i - 12) (first-length oa ∙ sym (ev ∙ ew)) in
@@ -49,16 +49,16 @@ module _ {a b : List ℕ} (oa : Opens a) (ob : Opens b) {v w : ℕ} (ev : v ≡ 
   compares e = record { first-opens = oa; second-opens = ob; first = sym e ∙ ev ∙ ew; second = el ∙ eu; rest = refl }
 
 module _ {a b : List ℕ} {len j : ℕ} (w : Comparing a b len j) where
-  pub compared : len ≤ j → true ≡ same_list (className (recordAt a 0)) (className (recordAt b 0))
-  unfolding same_list
+  pub compared : len ≤ j → true ≡ sameList (className (recordAt a 0)) (className (recordAt b 0))
+  unfolding sameList
   compared h =
       let la : length (recordAt a 0) ≤ j = omega (arith, first-length w.first-opens, w.first) in
       let lb : length (recordAt b 0) ≤ j = omega (arith, first-length w.second-opens, w.second) in
       rw (drop_of_length-le (recordAt a 0) la, drop_of_length-le (recordAt b 0) lb) at w.rest
 
   module _ (h : j < len) where
-    here : (eqb (get_or a j 0) (get_or b j 0) && same_list (drop (j + 1) (recordAt a 0)) (drop (j + 1) (recordAt b 0))) ≡ same_list (className (recordAt a 0)) (className (recordAt b 0))
-    unfolding same_list
+    here : (eqb (get_or a j 0) (get_or b j 0) && sameList (drop (j + 1) (recordAt a 0)) (drop (j + 1) (recordAt b 0))) ≡ sameList (className (recordAt a 0)) (className (recordAt b 0))
+    unfolding sameList
     here =
         let la : j < length (recordAt a 0) = omega (arith, first-length w.first-opens, w.first) in
         let lb : j < length (recordAt b 0) = omega (arith, first-length w.second-opens, w.second) in
@@ -66,7 +66,7 @@ module _ {a b : List ℕ} {len j : ℕ} (w : Comparing a b len j) where
         let rb : j < u16 b 0 = omega (arith, w.second) in
         rw (← first_byte w.first-opens j ra, ← first_byte w.second-opens j rb, add-one j) (rw (drop-cons (recordAt a 0) j 0 la, drop-cons (recordAt b 0) j 0 lb) at w.rest)
 
-    pub differs : (get_or a j 0 ≡ get_or b j 0 → ⊥) → false ≡ same_list (className (recordAt a 0)) (className (recordAt b 0))
+    pub differs : (get_or a j 0 ≡ get_or b j 0 → ⊥) → false ≡ sameList (className (recordAt a 0)) (className (recordAt b 0))
     differs n = rw (ne_eqb _ _ n) at here
 
     pub compares-on : get_or a j 0 ≡ get_or b j 0 → Comparing a b len (j + 1)
@@ -74,17 +74,17 @@ module _ {a b : List ℕ} {len j : ℕ} (w : Comparing a b len j) where
 
 -- so of the classes whose bytes they are
 module _ {library user : List ℕ} {nlib n : ℕ} {row : List ℕ} (x : Indexed library user nlib n row) {c : ℕ} (h : c < n) {bytes : List ℕ} (k : Carries bytes (group library user c)) where
-  pub first-named : (r : List ℕ) {b : Bool} → b ≡ same_list (className (recordAt bytes 0)) (className r) → b ≡ same_list (className (classRecord (group library user c))) (className r)
-  first-named r e = e ∙ ap (λ (p : List ℕ). same_list (className p) (className r)) (class-first x h k)
+  pub first-named : (r : List ℕ) {b : Bool} → b ≡ sameList (className (recordAt bytes 0)) (className r) → b ≡ sameList (className (classRecord (group library user c))) (className r)
+  first-named r e = e ∙ ap (λ (p : List ℕ). sameList (className p) (className r)) (class-first x h k)
 
-  pub second-named : (r : List ℕ) {b : Bool} → b ≡ same_list (className r) (className (recordAt bytes 0)) → b ≡ same_list (className r) (className (classRecord (group library user c)))
-  second-named r e = e ∙ ap (λ (p : List ℕ). same_list (className r) (className p)) (class-first x h k)
+  pub second-named : (r : List ℕ) {b : Bool} → b ≡ sameList (className r) (className (recordAt bytes 0)) → b ≡ sameList (className r) (className (classRecord (group library user c)))
+  second-named r e = e ∙ ap (λ (p : List ℕ). sameList (className r) (className p)) (class-first x h k)
 
 -- ---- the classes below c
 
 -- whether class d has the name of the record r
 abbrev pub namedAs : (ℕ → Group) → List ℕ → ℕ → Bool
-namedAs g r d = same_list (className (classRecord (g d))) (className r)
+namedAs g r d = sameList (className (classRecord (g d))) (className r)
 
 -- no class below c has the fingerprint of r's name
 pub none-printed : {g : ℕ → Group} {n : ℕ} {row : List ℕ} → Printed g n row → {c : ℕ} → c ≤ n → (r : List ℕ) {print : ℕ} → print ≡ printOf (className r)

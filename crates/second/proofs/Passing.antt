@@ -20,24 +20,24 @@ use Rattle.records.proofs.Whole.{length-here, kind-here}
 use Rattle.pass.specs.declared.Pass.{Pass}
 use Rattle.pass.specs.declared.Pass.TheVariants.{Fine, Refused}
 use Rattle.records.proofs.Between.{tiled-end}
-use Rattle.groups.specs.Groups.{start_of, Indexed}
+use Rattle.groups.specs.Groups.{startOf, Indexed}
 use Rattle.records.proofs.Walks.{walk-on, walk_here, walk-next}
 use Rattle.fingerprints.proofs.Printing.{first-length, class-first, class-opens}
 use Rattle.records.specs.Records.{Sized, recordAt, between, AtRecord, Carries}
-use Rattle.second.specs.Second.{classNumber, formNumber, form_of}
+use Rattle.second.specs.Second.{classNumber, formNumber, formOf}
 use Rattle.records.proofs.Positions.{walk-sized, whole}
 use Rattle.second.proofs.ByKind.{class-refused, class-named}
 
 -- ---- one record more
 
 module _ (g : ℕ → Group) (nlib n c at : ℕ) (r : List ℕ) (rs : Group) where
-  pub form-stop : (formNumber g nlib n c r ≡ 0 → ⊥) → form_of g nlib n c at (r ∷ rs) ≡ Refused (formNumber g nlib n c r) at
-  unfolding form_of
-  form-stop h = rw (ne_eqb (formNumber g nlib n c r) 0 h, form_of)
+  pub form-stop : (formNumber g nlib n c r ≡ 0 → ⊥) → formOf g nlib n c at (r ∷ rs) ≡ Refused (formNumber g nlib n c r) at
+  unfolding formOf
+  form-stop h = rw (ne_eqb (formNumber g nlib n c r) 0 h, formOf)
 
-  pub form-on : formNumber g nlib n c r ≡ 0 → form_of g nlib n c at (r ∷ rs) ≡ form_of g nlib n c (at + length r) rs
-  unfolding form_of
-  form-on h = rw (eq-eqb (formNumber g nlib n c r) 0 h, form_of)
+  pub form-on : formNumber g nlib n c r ≡ 0 → formOf g nlib n c at (r ∷ rs) ≡ formOf g nlib n c (at + length r) rs
+  unfolding formOf
+  form-on h = rw (eq-eqb (formNumber g nlib n c r) 0 h, formOf)
 
 -- ---- records that are no CLASS records
 
@@ -50,7 +50,7 @@ others (r ∷ rs) t = (t-false (isClass r) (not-or-l (isClass r) (any isClass rs
 pub record Going (g : ℕ → Group) (nlib n c start : ℕ) (bytes : List ℕ) (all : Pass) (at : ℕ) : Type 0 where
   pub place : AtRecord bytes (length bytes) at
   pub others : All (λ r. isClass r ≡ false) (between bytes at (length bytes))
-  pub rest : form_of g nlib n c (start + at) (between bytes at (length bytes)) ≡ all
+  pub rest : formOf g nlib n c (start + at) (between bytes at (length bytes)) ≡ all
 
 module _ {g : ℕ → Group} {nlib n c start : ℕ} {bytes : List ℕ} {all : Pass} {at : ℕ} (w : Going g nlib n c start bytes all at) where
   -- the records after the one at hand
@@ -58,8 +58,8 @@ module _ {g : ℕ → Group} {nlib n c start : ℕ} {bytes : List ℕ} {all : Pa
   later = between bytes (at + u16 bytes at) (length bytes)
 
   pub goes_end : length bytes ≤ at → Fine c ≡ all
-  unfolding form_of
-  goes_end h = ap (form_of g nlib n c (start + at)) (sym (tiled-end bytes at (length bytes) h)) ∙ w.rest
+  unfolding formOf
+  goes_end h = ap (formOf g nlib n c (start + at)) (sym (tiled-end bytes at (length bytes) h)) ∙ w.rest
 
   module _ (h : at < length bytes) where
     pub goes-room : (4 ≤ u16 bytes at) × (at + u16 bytes at ≤ length bytes)
@@ -81,7 +81,7 @@ module _ {g : ℕ → Group} {nlib n c start : ℕ} {bytes : List ℕ} {all : Pa
     module _ {number : ℕ} (en : number ≡ formNumber g nlib n c (recordAt bytes at)) where
       pub goes-stop : (number ≡ 0 → ⊥) → {b : ℕ} → b ≡ start → Refused number (b + at) ≡ all
       goes-stop z eb =
-          rw (en, eb) (sym (form-stop g nlib n c (start + at) (recordAt bytes at) later (λ q. z (en ∙ q))) ∙ ap (form_of g nlib n c (start + at)) (sym split) ∙ w.rest)
+          rw (en, eb) (sym (form-stop g nlib n c (start + at) (recordAt bytes at) later (λ q. z (en ∙ q))) ∙ ap (formOf g nlib n c (start + at)) (sym split) ∙ w.rest)
 
       pub goes_on : number ≡ 0 → {l v : ℕ} → l ≡ v → v ≡ u16 bytes at → Going g nlib n c start bytes all (at + l)
       goes_on z {l} el ev =
@@ -89,9 +89,9 @@ module _ {g : ℕ → Group} {nlib n c start : ℕ} {bytes : List ℕ} {all : Pa
           rw (el ∙ ev) (record {
             place = walk-next w.place h;
             others = no-class.1;
-            rest = ap (λ (i : ℕ). form_of g nlib n c i later) (sym m)
+            rest = ap (λ (i : ℕ). formOf g nlib n c i later) (sym m)
                 ∙ sym (form-on g nlib n c (start + at) (recordAt bytes at) later (sym en ∙ z))
-                ∙ ap (form_of g nlib n c (start + at)) (sym split)
+                ∙ ap (formOf g nlib n c (start + at)) (sym split)
                 ∙ w.rest;
           })
 
@@ -102,7 +102,7 @@ module _ {library user : List ℕ} {nlib n : ℕ} {row : List ℕ} (x : Indexed 
   g = group library user
 
   abbrev start : ℕ
-  start = start_of library user c
+  start = startOf library user c
 
   -- those after the CLASS record
   abbrev tail : Group
@@ -126,7 +126,7 @@ module _ {library user : List ℕ} {nlib n : ℕ} {row : List ℕ} (x : Indexed 
   its-kind = eqb→eq (kind (classRecord (g c))) CLASS (and_l (isClass (classRecord (g c))) (not (any isClass tail)) one)
 
   -- `l` is the length of the CLASS record, and `v` the same as it stands there
-  pub goes-start : {l v : ℕ} → l ≡ v → v ≡ u16 bytes 0 → Going g nlib n c start bytes (form_of g nlib n c (start + u16 bytes 0) tail) l
+  pub goes-start : {l v : ℕ} → l ≡ v → v ≡ u16 bytes 0 → Going g nlib n c start bytes (formOf g nlib n c (start + u16 bytes 0) tail) l
   unfolding oneClass
   goes-start el ev = rw (el ∙ ev) (record {
     place = subst (AtRecord bytes (length bytes)) (zero-add (u16 bytes 0)) (walk-next k.place nonempty);
@@ -138,23 +138,23 @@ module _ {library user : List ℕ} {nlib n : ℕ} {row : List ℕ} (x : Indexed 
   first-is = class-first x h k
 
   -- refused by the number
-  stops : {number : ℕ} → number ≡ formNumber g nlib n c (classRecord (g c)) → (number ≡ 0 → ⊥) → {b : ℕ} → b ≡ start → Refused number b ≡ form_of g nlib n c start (g c)
-  stops en z eb = rw (en, eb) (sym (form-stop g nlib n c start (classRecord (g c)) tail (λ q. z (en ∙ q))) ∙ ap (form_of g nlib n c start) (sym parts))
+  stops : {number : ℕ} → number ≡ formNumber g nlib n c (classRecord (g c)) → (number ≡ 0 → ⊥) → {b : ℕ} → b ≡ start → Refused number b ≡ formOf g nlib n c start (g c)
+  stops en z eb = rw (en, eb) (sym (form-stop g nlib n c start (classRecord (g c)) tail (λ q. z (en ∙ q))) ∙ ap (formOf g nlib n c start) (sym parts))
 
   -- `number` is what all but the name say, `met` whether a class below has the name
   module _ {number : ℕ} (en : number ≡ classNumber g nlib n c (recordAt bytes 0) 0) where
     by_form : number ≡ classNumber g nlib n c (classRecord (g c)) 0
     by_form = en ∙ ap (λ (r : List ℕ). classNumber g nlib n c r 0) first-is
 
-    pub form-stops : (number ≡ 0 → ⊥) → {b : ℕ} → b ≡ start → Refused number b ≡ form_of g nlib n c start (g c)
+    pub form-stops : (number ≡ 0 → ⊥) → {b : ℕ} → b ≡ start → Refused number b ≡ formOf g nlib n c start (g c)
     form-stops z eb = stops (class-refused g nlib n c (classRecord (g c)) its-kind by_form z) z eb
 
     module _ (z : number ≡ 0) {met : Bool} (em : met ≡ nameMet g c (classRecord (g c))) where
-      pub name-stops : met ≡ true → {b : ℕ} → b ≡ start → Refused 10 b ≡ form_of g nlib n c start (g c)
+      pub name-stops : met ≡ true → {b : ℕ} → b ≡ start → Refused 10 b ≡ formOf g nlib n c start (g c)
       name-stops t eb = stops (class-named g nlib n c (classRecord (g c)) its-kind by_form z em t) (λ q. omega arith) eb
 
-      pub class-passes : met ≡ false → {p : Pass} → p ≡ form_of g nlib n c (start + u16 bytes 0) tail → p ≡ form_of g nlib n c start (g c)
+      pub class-passes : met ≡ false → {p : Pass} → p ≡ formOf g nlib n c (start + u16 bytes 0) tail → p ≡ formOf g nlib n c start (g c)
       class-passes t ep =
           let m : length (classRecord (g c)) ≡ u16 bytes 0 = ap length (sym first-is) ∙ first-length (class-opens x h k) in
           let none = sym (class-named g nlib n c (classRecord (g c)) its-kind by_form z em t) in
-          ep ∙ ap (λ (i : ℕ). form_of g nlib n c (start + i) tail) (sym m) ∙ sym (form-on g nlib n c start (classRecord (g c)) tail none) ∙ ap (form_of g nlib n c start) (sym parts)
+          ep ∙ ap (λ (i : ℕ). formOf g nlib n c (start + i) tail) (sym m) ∙ sym (form-on g nlib n c start (classRecord (g c)) tail none) ∙ ap (formOf g nlib n c start) (sym parts)

@@ -13,9 +13,9 @@ use lib.Dec.{T, eqb}
 use lib.ListN.{length, get_or, drop, length-append, drop_of_length-le}
 use lib.Seq.{drop-cons}
 use borrow.Author.Tests.{eq-eqb, ne_eqb}
-use Rattle.spec.specs.Lists.{any, all, concat, first_of}
+use Rattle.spec.specs.Lists.{any, all, concat, firstOf}
 use Rattle.spec.specs.Record.{kind, isClass}
-use Rattle.spec.specs.Sheet.{Group, recordsOf, groups_of, classCount, groupStart, total, group, Located, locate, locatedIn}
+use Rattle.spec.specs.Sheet.{Group, recordsOf, groupsOf, classCount, groupStart, total, group, Located, locate, locatedIn}
 use Rattle.spec.specs.Refusals.{Refusal, refuseIf, formTests, oneClass}
 use Rattle.theory.specs.Claims.{sheetOf}
 use Rattle.laws.proofs.Bools.{t_true, and_l, and_r}
@@ -29,15 +29,15 @@ use Rattle.pass.specs.declared.Pass.{Pass}
 use Rattle.pass.specs.declared.Pass.TheVariants.{Fine, Refused}
 use Rattle.pass.proofs.Places.{answer, classPlace, otherPlace, locate-class, locate-other, number-refuses}
 use Rattle.pass.proofs.Joining.{Opens, open-anywhere}
-use Rattle.groups.specs.Groups.{start_of, Indexed}
+use Rattle.groups.specs.Groups.{startOf, Indexed}
 use Rattle.groups.proofs.Held.{in-library, in-user, library-sheet, user-sheet}
-use Rattle.second.specs.Second.{formNumber, form_of, formIn, classesStart, classesEnd}
+use Rattle.second.specs.Second.{formNumber, formOf, formIn, classesStart, classesEnd}
 use Rattle.second.proofs.Passing.{form-stop, form-on, others}
 
 module _ (g : ℕ → Group) (nlib n sheet : ℕ) where
   -- the first refusal along some located records
   along : List Located → Option Refusal
-  along ls = first_of (map (answer (formTests g nlib n)) ls)
+  along ls = firstOf (map (answer (formTests g nlib n)) ls)
 
   -- ---- one record
 
@@ -51,21 +51,21 @@ module _ (g : ℕ → Group) (nlib n sheet : ℕ) where
     fine : {k : ℕ} → p ≡ Fine k → o ≡ rest
 
   module _ (c at : ℕ) (r : List ℕ) (rs : Group) (l : Located) (ec : l.class ≡ c) (er : l.bytes ≡ r) (es : l.sheet ≡ sheet) (eb : l.byte ≡ at) (ls : List Located) (rest : Option Refusal)
-      (ih : Follows (form_of g nlib n c (at + length r) rs) (along ls) rest) where
+      (ih : Follows (formOf g nlib n c (at + length r) rs) (along ls) rest) where
     answers : answer (formTests g nlib n) l ≡ refuseIf (not (eqb (formNumber g nlib n c r) 0)) (formNumber g nlib n c r) sheet at
     answers = answer-is l ∙ rw (ec, er, es, eb)
 
-    follow-cons : Follows (form_of g nlib n c at (r ∷ rs)) (along (l ∷ ls)) rest
+    follow-cons : Follows (formOf g nlib n c at (r ∷ rs)) (along (l ∷ ls)) rest
     unfolding along
     follow-cons = go (ℕ_discrete (formNumber g nlib n c r) 0)
       where
-        go : Dec (formNumber g nlib n c r ≡ 0) → Follows (form_of g nlib n c at (r ∷ rs)) (along (l ∷ ls)) rest
+        go : Dec (formNumber g nlib n c r ≡ 0) → Follows (formOf g nlib n c at (r ∷ rs)) (along (l ∷ ls)) rest
         go (yes z) =
             let o : along (l ∷ ls) ≡ along ls = skip-none _ _ (answers ∙ (unfold refuseIf in rw z)) in
             record { refused = λ q. o ∙ ih.refused (sym (form-on g nlib n c at r rs z) ∙ q); fine = λ q. o ∙ ih.fine (sym (form-on g nlib n c at r rs z) ∙ q) }
         go (no z) =
             let o : along (l ∷ ls) ≡ some (record { number = formNumber g nlib n c r; sheet = sheet; byte = at }) = first_some _ (answers ∙ (unfold refuseIf in rw (ne_eqb _ _ z))) in
-            let p : form_of g nlib n c at (r ∷ rs) ≡ Refused (formNumber g nlib n c r) at = form-stop g nlib n c at r rs z in
+            let p : formOf g nlib n c at (r ∷ rs) ≡ Refused (formNumber g nlib n c r) at = form-stop g nlib n c at r rs z in
             record {
               refused = λ {number} {byte} q.
                   let a : formNumber g nlib n c r ≡ number = cc in
@@ -78,9 +78,9 @@ module _ (g : ℕ → Group) (nlib n sheet : ℕ) where
 
   module _ (c : ℕ) (rest : List (List ℕ)) (free : Opens rest) where
     others-follow : (rs : Group) → All (λ r. isClass r ≡ false) rs → (at k b : ℕ)
-        → Follows (form_of g nlib n c at rs) (along (locate sheet at (suc c) k b (rs ++ rest))) (along (locate sheet (at + length (concat rs)) (suc c) 0 0 rest))
+        → Follows (formOf g nlib n c at rs) (along (locate sheet at (suc c) k b (rs ++ rest))) (along (locate sheet (at + length (concat rs)) (suc c) 0 0 rest))
     others-follow [] h at k b = record {
-      refused = λ q. absurd (let p : form_of g nlib n c at [] ≡ Fine c = (unfold form_of in refl) in let y : ◌≡◌ {A = ℕ} 0 1 = cc in omega arith);
+      refused = λ q. absurd (let p : formOf g nlib n c at [] ≡ Fine c = (unfold formOf in refl) in let y : ◌≡◌ {A = ℕ} 0 1 = cc in omega arith);
       fine = λ q. unfold concat in ap along (open-anywhere sheet at (suc c) k b rest free ∙ ap (λ (i : ℕ). locate sheet i (suc c) 0 0 rest) (sym (add-zero at)));
     }
     others-follow (r ∷ rs) h at k b =
@@ -89,7 +89,7 @@ module _ (g : ℕ → Group) (nlib n sheet : ℕ) where
         rw (locate-other sheet at (suc c) k b r (rs ++ rest) h.0, ← m) (follow-cons c at r rs (otherPlace sheet at (suc c) k b r) (let z : suc c - 1 ≡ c = omega arith in z) refl refl refl _ _ ih)
 
     class-follows : (h : Group) → T (oneClass h) → (at : ℕ)
-        → Follows (form_of g nlib n c at h) (along (locate sheet at c 0 0 (h ++ rest))) (along (locate sheet (at + length (concat h)) (suc c) 0 0 rest))
+        → Follows (formOf g nlib n c at h) (along (locate sheet at c 0 0 (h ++ rest))) (along (locate sheet (at + length (concat h)) (suc c) 0 0 rest))
     unfolding oneClass
     class-follows [] w at = absurd w
     class-follows (r ∷ rs) w at =
@@ -105,8 +105,8 @@ record Among (library user : List ℕ) (nlib n sheet base : ℕ) (s : List ℕ) 
   clear : Clear sheet base s
   end : base + classCount s ≡ classesEnd nlib n sheet
   last : base + classCount s ≤ n
-  its : (i : ℕ) → i < classCount s → group library user (base + i) ≡ get_or (groups_of s) i []
-  start : (i : ℕ) → i < classCount s → start_of library user (base + i) ≡ groupStart s i
+  its : (i : ℕ) → i < classCount s → group library user (base + i) ≡ get_or (groupsOf s) i []
+  start : (i : ℕ) → i < classCount s → startOf library user (base + i) ≡ groupStart s i
 
 among : {library user row : List ℕ} {nlib n : ℕ} → Indexed library user nlib n row → {sheet : ℕ} → sheet < 2 → Among library user nlib n sheet (classesStart nlib sheet) (sheetOf library user sheet)
 unfolding total
@@ -121,7 +121,7 @@ among {library} {user} {row} {nlib} {n} x {sheet} h = go (ℕ_discrete sheet 0)
           end = omega (arith, l, x.nlib-is);
           last = omega (arith, x.nlib-is, x.n-is);
           its = λ i k. ap (group library user) (zero-add i) ∙ (in-library x {c = i} (omega (arith, x.nlib-is))).its;
-          start = λ i k. ap (start_of library user) (zero-add i) ∙ (in-library x {c = i} (omega (arith, x.nlib-is))).start;
+          start = λ i k. ap (startOf library user) (zero-add i) ∙ (in-library x {c = i} (omega (arith, x.nlib-is))).start;
         })
     go (no ne) =
         let one : sheet ≡ 1 = omega arith in
@@ -133,7 +133,7 @@ among {library} {user} {row} {nlib} {n} x {sheet} h = go (ℕ_discrete sheet 0)
           last = omega (arith, x.nlib-is, x.n-is);
           its = λ i k.
               let d : nlib + i - nlib ≡ i = omega arith in
-              (in-user x {c = nlib + i} (omega arith) (omega (arith, x.nlib-is, x.n-is))).its ∙ ap (λ (j : ℕ). get_or (groups_of user) j []) d;
+              (in-user x {c = nlib + i} (omega arith) (omega (arith, x.nlib-is, x.n-is))).its ∙ ap (λ (j : ℕ). get_or (groupsOf user) j []) d;
           start = λ i k.
               let d : nlib + i - nlib ≡ i = omega arith in
               (in-user x {c = nlib + i} (omega arith) (omega (arith, x.nlib-is, x.n-is))).start ∙ ap (groupStart user) d;
@@ -145,7 +145,7 @@ pub record Passing (library user : List ℕ) (nlib n sheet c : ℕ) : Type 0 whe
   place : ℕ  -- its number in the sheet
   is : c ≡ classesStart nlib sheet + place
   within : place ≤ classCount (sheetOf library user sheet)
-  rest : along (group library user) nlib n sheet (locate sheet (groupStart (sheetOf library user sheet) place) c 0 0 (concat (drop place (groups_of (sheetOf library user sheet)))))
+  rest : along (group library user) nlib n sheet (locate sheet (groupStart (sheetOf library user sheet) place) c 0 0 (concat (drop place (groupsOf (sheetOf library user sheet)))))
       ≡ formIn (group library user) nlib n sheet (classesStart nlib sheet) (sheetOf library user sheet)
 
 pub passes-start : {library user row : List ℕ} {nlib n : ℕ} → Indexed library user nlib n row → {sheet : ℕ} → sheet < 2 → {c : ℕ} → c ≡ classesStart nlib sheet → Passing library user nlib n sheet c
@@ -154,7 +154,7 @@ passes-start {library} {user} {nlib = nlib} {n} x {sheet} h ec =
     let s : List ℕ = sheetOf library user sheet in
     let a : Among library user nlib n sheet (classesStart nlib sheet) s = among x h in
     let t = split_parts (recordsOf s) in
-    let e : concat (groups_of s) ≡ recordsOf s = (unfold groups_of in sym (t.joined ∙ rw a.clear.loose)) in
+    let e : concat (groupsOf s) ≡ recordsOf s = (unfold groupsOf in sym (t.joined ∙ rw a.clear.loose)) in
     record {
       among = a;
       place = 0;
@@ -175,11 +175,11 @@ module _ {library user : List ℕ} {nlib n sheet c : ℕ} (w : Passing library u
 
   -- the whole sheet is passed
   pub passes-end : {end : ℕ} → end ≡ classesEnd nlib n sheet → end ≤ c → Fine c ≡ passOf (formIn g nlib n sheet base s) (base + classCount s)
-  unfolding along classCount concat locate first_of
+  unfolding along classCount concat locate firstOf
   passes-end ee h =
-      let k : c ≡ base + length (groups_of s) = omega (arith, w.is, w.within, w.among.end, ee) in
-      let l : length (groups_of s) ≤ w.place = omega (arith, w.is) in
-      let z : along g nlib n sheet (locate sheet (groupStart s w.place) c 0 0 (concat (drop w.place (groups_of s)))) ≡ none = rw (drop_of_length-le (groups_of s) l) in
+      let k : c ≡ base + length (groupsOf s) = omega (arith, w.is, w.within, w.among.end, ee) in
+      let l : length (groupsOf s) ≤ w.place = omega (arith, w.is) in
+      let z : along g nlib n sheet (locate sheet (groupStart s w.place) c 0 0 (concat (drop w.place (groupsOf s)))) ≡ none = rw (drop_of_length-le (groupsOf s) l) in
       rw (sym w.rest ∙ z, ← k)
 
   module _ {end : ℕ} (ee : end ≡ classesEnd nlib n sheet) (h : c < end) where
@@ -190,33 +190,33 @@ module _ {library user : List ℕ} {nlib n sheet c : ℕ} (w : Passing library u
     passes-low = omega (arith, w.is, w.among.last, there)
 
     -- the class at hand and those after it
-    split : concat (drop w.place (groups_of s)) ≡ g c ++ concat (drop (suc w.place) (groups_of s))
+    split : concat (drop w.place (groupsOf s)) ≡ g c ++ concat (drop (suc w.place) (groupsOf s))
     unfolding concat classCount
     split =
-        ap concat (drop-cons (groups_of s) w.place [] there) ∙ ap (λ (h : Group). h ++ concat (drop (suc w.place) (groups_of s))) (sym (ap g w.is ∙ w.among.its w.place there))
+        ap concat (drop-cons (groupsOf s) w.place [] there) ∙ ap (λ (h : Group). h ++ concat (drop (suc w.place) (groupsOf s))) (sym (ap g w.is ∙ w.among.its w.place there))
 
-    groups-one : All (λ h. T (oneClass h)) (groups_of s)
-    unfolding groups_of
+    groups-one : All (λ h. T (oneClass h)) (groupsOf s)
+    unfolding groupsOf
     groups-one = (split_parts (recordsOf s)).one
 
-    start_is : start_of library user c ≡ groupStart s w.place
-    start_is = ap (start_of library user) w.is ∙ w.among.start w.place there
+    start_is : startOf library user c ≡ groupStart s w.place
+    start_is = ap (startOf library user) w.is ∙ w.among.start w.place there
 
-    its-is : get_or (groups_of s) w.place [] ≡ g c
+    its-is : get_or (groupsOf s) w.place [] ≡ g c
     its-is = sym (ap g w.is ∙ w.among.its w.place there)
 
-    follows : Follows g nlib n sheet (form_of g nlib n c (start_of library user c) (g c)) (formIn g nlib n sheet base s)
-        (along g nlib n sheet (locate sheet (groupStart s (w.place + 1)) (suc c) 0 0 (concat (drop (suc w.place) (groups_of s)))))
+    follows : Follows g nlib n sheet (formOf g nlib n c (startOf library user c) (g c)) (formIn g nlib n sheet base s)
+        (along g nlib n sheet (locate sheet (groupStart s (w.place + 1)) (suc c) 0 0 (concat (drop (suc w.place) (groupsOf s)))))
     unfolding classCount
     follows =
-        let rest : List Group = drop (suc w.place) (groups_of s) in
-        let free = (split-join rest (all_drop (λ h. T (oneClass h)) (suc w.place) (groups_of s) groups-one)).0 in
-        let one : T (oneClass (g c)) = subst (λ (h : Group). T (oneClass h)) its-is (all-at (λ h. T (oneClass h)) [] (groups_of s) groups-one w.place there) in
+        let rest : List Group = drop (suc w.place) (groupsOf s) in
+        let free = (split-join rest (all_drop (λ h. T (oneClass h)) (suc w.place) (groupsOf s) groups-one)).0 in
+        let one : T (oneClass (g c)) = subst (λ (h : Group). T (oneClass h)) its-is (all-at (λ h. T (oneClass h)) [] (groupsOf s) groups-one w.place there) in
         let m : groupStart s (w.place + 1) ≡ groupStart s w.place + length (concat (g c)) =
         group-next s w.place there ∙ ap (λ (h : Group). groupStart s w.place + length (concat h)) its-is in
         rw (m, start_is, ← w.rest, split) (class-follows g nlib n sheet c (concat rest) free (g c) one (groupStart s w.place))
 
-    module _ {p : Pass} (ep : p ≡ form_of g nlib n c (start_of library user c) (g c)) where
+    module _ {p : Pass} (ep : p ≡ formOf g nlib n c (startOf library user c) (g c)) where
       pub passes-stop : {number byte : ℕ} → p ≡ Refused number byte → (m : ℕ) → Refused number byte ≡ passOf (formIn g nlib n sheet base s) m
       passes-stop q m = rw (follows.refused (sym ep ∙ q))
 

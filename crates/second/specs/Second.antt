@@ -2,20 +2,20 @@
 -- Assumes nothing.
 use Rattle.std.specs.Prelude.{◌≡◌, Bool, true, false, not, ◌&&◌, ◌||◌, List, [], ◌∷◌, map, ℕ, ◌+◌, ◌*◌, ◌%◌, ◌≤◌, ◌<◌, eqb, leb, ltb, length, get_or}
 use Rattle.std.proofs.Math.Option.{Option}
-use Rattle.spec.specs.Lists.{first_of, elem}
+use Rattle.spec.specs.Lists.{firstOf, elem}
 use Rattle.spec.specs.Record.{bit, none16, flags, superclass, encloser, Ty, LOCAL, MEMBER}
 use Rattle.spec.specs.Sheet.{Group, locatedIn, classRecord, ofKind, isInterface}
 use Rattle.spec.specs.Classes.{enclosers}
 use Rattle.spec.specs.Refusals.{Refusal, refuseRecord, formTests, superclassFits, encloserFits}
 use Rattle.groups.specs.declared.Classes.{Classes}
-use Rattle.pass.specs.Pass.{number_of}
+use Rattle.pass.specs.Pass.{numberOf}
 use Rattle.pass.specs.declared.Pass.{Pass}
 use Rattle.pass.specs.declared.Pass.TheVariants.{Fine, Refused}
 
 -- the number that refuses record r of class c in the second pass, or 0
 unfoldable pub formNumber : (ℕ → Group) → ℕ → ℕ → ℕ → List ℕ → ℕ
 formNumber g nlib n c r =
-    number_of (formTests g nlib n (record { sheet = 0; byte = 0; class = c; recordNumber = 0; before = 0; grouped = true; bytes = r }))
+    numberOf (formTests g nlib n (record { sheet = 0; byte = 0; class = c; recordNumber = 0; before = 0; grouped = true; bytes = r }))
 
 -- ---- by kind: 9 before 8 before 10
 
@@ -93,10 +93,10 @@ pub record Enclosing (g : ℕ → Group) (n c : ℕ) (row : List ℕ) : Type 0 w
 -- ---- the whole
 
 -- the first of some records of class c that is refused, by its number and its byte, where the first begins at `at`
-unfoldable pub form_of : (ℕ → Group) → ℕ → ℕ → ℕ → ℕ → Group → Pass
-form_of g nlib n c at [] = Fine c
-form_of g nlib n c at (r ∷ rs) = elim (eqb (formNumber g nlib n c r) 0) [ true ↦ form_of g nlib n c (at + length r) rs | false ↦ Refused (formNumber g nlib n c r) at ]
+unfoldable pub formOf : (ℕ → Group) → ℕ → ℕ → ℕ → ℕ → Group → Pass
+formOf g nlib n c at [] = Fine c
+formOf g nlib n c at (r ∷ rs) = elim (eqb (formNumber g nlib n c r) 0) [ true ↦ formOf g nlib n c (at + length r) rs | false ↦ Refused (formNumber g nlib n c r) at ]
 
 -- 9, 8, 10 along the records of one sheet, where m classes stand before it
 unfoldable pub formIn : (ℕ → Group) → ℕ → ℕ → ℕ → ℕ → List ℕ → Option Refusal
-formIn g nlib n sheet m s = first_of (map (λ l. refuseRecord l (formTests g nlib n l)) (locatedIn sheet m s))
+formIn g nlib n sheet m s = firstOf (map (λ l. refuseRecord l (formTests g nlib n l)) (locatedIn sheet m s))

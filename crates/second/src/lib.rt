@@ -6,14 +6,14 @@ mod numbers;
 
 ghost use Rattle.std.specs.Prelude.{◌≡◌, ℕ, ◌+◌, ◌≤◌, ◌<◌, length, drop, replicate};
 ghost use Rattle.spec.specs.Record.{u16};
-ghost use Rattle.spec.specs.Sheet.{Group, group as group_of, classCount};
+ghost use Rattle.spec.specs.Sheet.{Group, group as groupOf, classCount};
 ghost use Rattle.theory.specs.Claims.{sheetOf};
 ghost use Rattle.view.specs.View.{spliced, Views};
 ghost use Rattle.pass.specs.Pass.{passOf};
-ghost use Rattle.groups.specs.Groups.{start_of};
+ghost use Rattle.groups.specs.Groups.{startOf};
 ghost use Rattle.fingerprints.specs.Fingerprints.{Printed};
 ghost use Rattle.records.specs.Records.{between, Carries};
-ghost use Rattle.second.specs.Second.{Heads, Enclosing, countedKind, headOf, form_of, formIn, classesStart, classesEnd};
+ghost use Rattle.second.specs.Second.{Heads, Enclosing, countedKind, headOf, formOf, formIn, classesStart, classesEnd};
 
 use naming::name_met;
 use numbers::{class_number, other_number};
@@ -38,7 +38,7 @@ fn head_of<'a>(
     c: usize,
 ) -> u16
     ghost g: { ℕ → Group }
-    requires groups { group_of library.now (spliced user.now group.now view.cut) ≡ g }
+    requires groups { groupOf library.now (spliced user.now group.now view.cut) ≡ g }
     requires views { Views view library.now user.now group.now starts.now }
     requires there { c < view.classes.all }
     ensures { result ≡ headOf view.classes.library g c }
@@ -59,7 +59,7 @@ pub fn heads<'a>(
     row: &mut [u16],
 )
     ghost g: { ℕ → Group }
-    requires groups { group_of library.now (spliced user.now group.now view.cut) ≡ g }
+    requires groups { groupOf library.now (spliced user.now group.now view.cut) ≡ g }
     requires views { Views view library.now user.now group.now starts.now }
     requires long { view.classes.all ≤ length row.old }
     ensures first { Heads g view.classes row.new }
@@ -85,7 +85,7 @@ fn mark_enclosers<'a>(
     row: &mut [u8],
 )
     ghost g: { ℕ → Group }
-    requires groups { group_of library.now (spliced user.now group.now view.cut) ≡ g }
+    requires groups { groupOf library.now (spliced user.now group.now view.cut) ≡ g }
     requires views { Views view library.now user.now group.now starts.now }
     requires there { (c < view.classes.all) × (row.old ≡ replicate 256 0) }
     ensures { Enclosing g view.classes.all c row.new }
@@ -118,13 +118,13 @@ fn others_pass<'a>(
     bytes: &[u8],
 ) -> Pass
     ghost g: { ℕ → Group }
-    requires groups { group_of library.now (spliced user.now group.now view.cut) ≡ g }
+    requires groups { groupOf library.now (spliced user.now group.now view.cut) ≡ g }
     requires views { Views view library.now user.now group.now starts.now }
     requires heads { Heads g view.classes heads.now }
     requires there { c < view.classes.all }
     requires carries { Carries bytes.now (g c) }
-    ensures { result ≡ form_of g view.classes.library view.classes.all c
-        (start_of library.now (spliced user.now group.now view.cut) c + u16 bytes.now 0)
+    ensures { result ≡ formOf g view.classes.library view.classes.all c
+        (startOf library.now (spliced user.now group.now view.cut) c + u16 bytes.now 0)
         (between bytes.now (u16 bytes.now 0) (length bytes.now)) }
 {
     let mut marks = [0u8; CLASS_LIMIT];
@@ -153,13 +153,13 @@ fn class_pass<'a>(
     c: usize,
 ) -> Pass
     ghost g: { ℕ → Group }
-    requires groups { group_of library.now (spliced user.now group.now view.cut) ≡ g }
+    requires groups { groupOf library.now (spliced user.now group.now view.cut) ≡ g }
     requires views { Views view library.now user.now group.now starts.now }
     requires printed { Printed g view.classes.all prints.now }
     requires heads { Heads g view.classes heads.now }
     requires there { c < view.classes.all }
-    ensures { result ≡ form_of g view.classes.library view.classes.all c
-        (start_of library.now (spliced user.now group.now view.cut) c) (g c) }
+    ensures { result ≡ formOf g view.classes.library view.classes.all c
+        (startOf library.now (spliced user.now group.now view.cut) c) (g c) }
 {
     let classes = view.classes;
     let bytes = view_bytes(library, user, group, starts, view, c);
@@ -205,7 +205,7 @@ pub fn second_pass<'a>(
     sheet: u8,
 ) -> Pass
     ghost g: { ℕ → Group }
-    requires groups { group_of library.now (spliced user.now group.now view.cut) ≡ g }
+    requires groups { groupOf library.now (spliced user.now group.now view.cut) ≡ g }
     requires views { Views view library.now user.now group.now starts.now }
     requires printed { Printed g view.classes.all prints.now }
     requires heads { Heads g view.classes heads.now }

@@ -1,6 +1,6 @@
 // The number that refuses a record: what it asks of other classes stands in the row of heads, so no sheet is read.
 ghost use Rattle.std.specs.Prelude.{◌≡◌, not, ◌&&◌, ◌||◌, ℕ, ◌+◌, ◌≤◌, ◌<◌, eqb, length};
-ghost use Rattle.spec.specs.Record.{u16, bit, ty_at, LOCAL, MEMBER};
+ghost use Rattle.spec.specs.Record.{u16, bit, tyAt, LOCAL, MEMBER};
 ghost use Rattle.spec.specs.Sheet.{Group, ofKind};
 ghost use Rattle.groups.specs.declared.Classes.{Classes};
 ghost use Rattle.fingerprints.specs.Fingerprints.{Opens};
@@ -18,7 +18,7 @@ use records::{
 // Whether the type at i names a class that isn't there.
 fn type_absent(bytes: &[u8], n: usize, i: usize) -> bool
     requires { i + 3 < length bytes.now }
-    ensures { result ≡ not (typeThere n (ty_at bytes.now i)) }
+    ensures { result ≡ not (typeThere n (tyAt bytes.now i)) }
 {
     if bytes[i + CODE_AT] == 0 {
         return n <= wide(word_in(bytes, i + TYPE_CLASS_AT));
@@ -135,7 +135,7 @@ fn implements_number(heads: &[u16], classes: Classes, c: usize, t: usize) -> u8
 // The number that refuses the FIELD at `at`, or 0; `face` says whether its class is an interface.
 fn field_number(bytes: &[u8], n: usize, face: bool, at: usize) -> u8
     requires { at + 9 < length bytes.now }
-    ensures { result ≡ fieldNumber n face (bit 2 (u16 bytes.now (at + 4))) (ty_at bytes.now (at + 6)) }
+    ensures { result ≡ fieldNumber n face (bit 2 (u16 bytes.now (at + 4))) (tyAt bytes.now (at + 6)) }
 {
     if type_absent(bytes, n, at + FIELD_TYPE_AT) {
         return 9;

@@ -18,7 +18,7 @@ use Rattle.theory.proofs.Form.{Super}
 use Rattle.records.specs.Records.{Carries}
 use Rattle.records.proofs.Carried.{class-word-in}
 use Rattle.overlay.specs.Types.{Known}
-use Rattle.slots.specs.Slots.{baseBreaks, base_by}
+use Rattle.slots.specs.Slots.{baseBreaks, baseBy}
 use Rattle.slots.proofs.Bits.{two-of-three}
 
 module _ (bytes markers : List ℕ) {s w : ℕ} (es : s ≡ w) (ew : w ≡ u16 bytes 8) {k : ℕ} (ek : k ≡ get_or markers s 0) {y : Bool} (ey : y ≡ eqb (k / 4 % 2) 1) where
@@ -26,22 +26,22 @@ module _ (bytes markers : List ℕ) {s w : ℕ} (es : s ≡ w) (ew : w ≡ u16 b
   unfolding bit
   has = ap (λ (i : ℕ). eqb (get_or markers i 0 / 4 % 2) 1) (sym (es ∙ ew)) ∙ ap (λ (i : ℕ). eqb (i / 4 % 2) 1) (sym ek) ∙ sym ey
 
-  pub base-selfless : y ≡ true → false ≡ base_by bytes markers
-  unfolding base_by
+  pub base-selfless : y ≡ true → false ≡ baseBy bytes markers
+  unfolding baseBy
   base-selfless e = rw (has, e)
 
-  pub base-other : y ≡ false → (s ≡ 0 → ⊥) → true ≡ base_by bytes markers
-  unfolding base_by
+  pub base-other : y ≡ false → (s ≡ 0 → ⊥) → true ≡ baseBy bytes markers
+  unfolding baseBy
   base-other e n = rw (has, e, ne_eqb (u16 bytes 8) 0 (λ q. n (es ∙ ew ∙ q)))
 
-  pub base-zero : y ≡ false → s ≡ 0 → {f : ℕ} → f ≡ u16 bytes 4 → not (eqb (f / 4 % 8) 3) ≡ base_by bytes markers
-  unfolding base_by
+  pub base-zero : y ≡ false → s ≡ 0 → {f : ℕ} → f ≡ u16 bytes 4 → not (eqb (f / 4 % 8) 3) ≡ baseBy bytes markers
+  unfolding baseBy
   base-zero e z {f} ef = rw (has, e, eq-eqb (u16 bytes 8) 0 (sym (es ∙ ew) ∙ z), ← ef) (ap not (two-of-three f))
 
 -- ---- as the definition has it
 
-pub base-is : {g : ℕ → Group} {c : ℕ} → Super g c → {bytes markers : List ℕ} → Carries bytes (g c) → 13 ≤ length (classRecord (g c)) → Known g markers → baseBreaks g c ≡ base_by bytes markers
-unfolding baseBreaks base_by any superclass flags baseFits hasMarker
+pub base-is : {g : ℕ → Group} {c : ℕ} → Super g c → {bytes markers : List ℕ} → Carries bytes (g c) → 13 ≤ length (classRecord (g c)) → Known g markers → baseBreaks g c ≡ baseBy bytes markers
+unfolding baseBreaks baseBy any superclass flags baseFits hasMarker
 base-is {g} {c} u {bytes} {markers} w l k =
     let p : ℕ → Bool = λ d. not (baseFits g (flags (classRecord (g c))) d) in
     ap (any p) u.only ∙ or-false (p (superclass (classRecord (g c))))

@@ -6,7 +6,7 @@ use mathlib.Core.List.{List}
 use Prim.Native.Nat.{ℕ, ◌+◌, ◌/◌, ◌%◌, ◌≤◌, ◌<◌}
 use lib.ListN.{length}
 use Rattle.spec.specs.Lists.{any}
-use Rattle.spec.specs.Record.{u16, bit, ty_at, FIELD}
+use Rattle.spec.specs.Record.{u16, bit, tyAt, FIELD}
 use Rattle.spec.specs.Sheet.{Group}
 use Rattle.records.proofs.Between.{tiled-end}
 use Rattle.records.proofs.Walks.{walk_here, walk-next}
@@ -14,7 +14,7 @@ use Rattle.overlay.specs.Types.{Known, rowMarkers}
 use Rattle.overlay.proofs.Types.{row-markers}
 use Rattle.records.specs.Records.{Sized, recordAt, between, AtRecord}
 use Rattle.records.proofs.Positions.{walk-sized}
-use Rattle.slots.specs.Slots.{ruleMarker, fieldBreaks, Late, Passes, slot_by, FieldSet, FieldsSet}
+use Rattle.slots.specs.Slots.{ruleMarker, fieldBreaks, Late, Passes, slotBy, FieldSet, FieldsSet}
 use Rattle.slots.proofs.Fields.{field-other, field-static, field-own}
 use Rattle.slots.proofs.Sets.{twice, passes-all, passes-as}
 
@@ -27,10 +27,10 @@ module _ {bytes row : List ℕ} {at : ℕ} (z : Sized bytes at) (k : u16 bytes (
       fits : (g : ℕ → Group) (rule : ℕ) → not (fieldBreaks g rule 0 0 (recordAt bytes at)) ≡ true
       fits g rule = ap not (sym (field-static g z refl k ef rule 0 0 h))
 
-  pub instance-set : (f / 4 % 2 ≡ 1 → ⊥) → {m : ℕ} → m ≡ rowMarkers row (ty_at bytes (at + 6)) → {r : ℕ} → Passes (slot_by f m) r → FieldSet row (recordAt bytes at) r
-  unfolding slot_by
+  pub instance-set : (f / 4 % 2 ≡ 1 → ⊥) → {m : ℕ} → m ≡ rowMarkers row (tyAt bytes (at + 6)) → {r : ℕ} → Passes (slotBy f m) r → FieldSet row (recordAt bytes at) r
+  unfolding slotBy
   instance-set h {m} em s = record {
-    is = λ g w. passes-as s (λ rule l. sym (twice (slot_by f m rule)) ∙ ap not (field-own g z refl k ef rule 0 0 h (em ∙ row-markers w (ty_at bytes (at + 6))) refl));
+    is = λ g w. passes-as s (λ rule l. sym (twice (slotBy f m rule)) ∙ ap not (field-own g z refl k ef rule 0 0 h (em ∙ row-markers w (tyAt bytes (at + 6))) refl));
   }
 
 -- ---- all of them

@@ -7,7 +7,7 @@ use Prim.Native.Nat.{ℕ, ◌+◌, ◌/◌, ◌%◌, ◌<◌}
 use native.Mathlib.Omega.{arith}
 use lib.Dec.{eqb}
 use borrow.Author.Tests.{eq-eqb, ne_eqb}
-use Rattle.spec.specs.Record.{u16, bit, kind, isKind, FIELD, flags, ty_at, fieldTy, isFinal, isTransient, isStatic}
+use Rattle.spec.specs.Record.{u16, bit, kind, isKind, FIELD, flags, tyAt, fieldTy, isFinal, isTransient, isStatic}
 use Rattle.spec.specs.Sheet.{Group, isStaticField, isInstanceField}
 use Rattle.spec.specs.Markers.{Powerless}
 use Rattle.spec.specs.Classes.{fieldSlot, satisfies}
@@ -60,10 +60,10 @@ module _ (g : ℕ → Group) {s : List ℕ} {at : ℕ} (z : Sized s at) {k : ℕ
       pub static-changing : f % 2 ≡ 0 → true ≡ staticBreaks g r
       static-changing c = rw (is_static, final-is, c)
 
-      pub static-typed : (f % 2 ≡ 0 → ⊥) → {m : ℕ} → m ≡ typeMarkers g (ty_at s (at + 6)) → {b : Bool} → b ≡ eqb (m / 2 % 2) 1 → not b ≡ staticBreaks g r
+      pub static-typed : (f % 2 ≡ 0 → ⊥) → {m : ℕ} → m ≡ typeMarkers g (tyAt s (at + 6)) → {b : Bool} → b ≡ eqb (m / 2 % 2) 1 → not b ≡ staticBreaks g r
       static-typed c {m} em eb =
           let o : f % 2 ≡ 1 = omega arith in
-          let q : satisfies g Powerless (fieldTy r) ≡ bit 1 m = ap (satisfies g Powerless) (field-type-at z (kind-is z ek e)) ∙ satisfies-bit g 1 (ty_at s (at + 6)) (omega arith)
+          let q : satisfies g Powerless (fieldTy r) ≡ bit 1 m = ap (satisfies g Powerless) (field-type-at z (kind-is z ek e)) ∙ satisfies-bit g 1 (tyAt s (at + 6)) (omega arith)
           ∙ ap (bit 1) (sym em) in
           rw (is_static, final-is, o, q) (unfold bit in ap not eb)
 
@@ -74,10 +74,10 @@ module _ (g : ℕ → Group) {s : List ℕ} {at : ℕ} (z : Sized s at) {k : ℕ
       unfolding fieldBreaks isInstanceField isStatic bit
       field-static h = rw (is_field, flags-is, h)
 
-      pub field-own : (f / 4 % 2 ≡ 1 → ⊥) → {m : ℕ} → m ≡ typeMarkers g (ty_at s (at + 6)) → {b : Bool}
+      pub field-own : (f / 4 % 2 ≡ 1 → ⊥) → {m : ℕ} → m ≡ typeMarkers g (tyAt s (at + 6)) → {b : Bool}
           → b ≡ fromSeven rule (eqb (f % 2) 1 && bit 0 m) (bit 1 m) (eqb (f % 2) 1 && not (eqb (f / 2 % 2) 1)) (bit 7 m) → not b ≡ fieldBreaks g rule t i r
       unfolding fieldBreaks isInstanceField slotFits fieldSlot isStatic isFinal isTransient
       field-own h {m} em eb =
           let ty = field-type-at z (kind-is z ek e) in
-          let sat : (j : ℕ) → j < 8 → satisfies g j (fieldTy r) ≡ bit j m = λ j l. ap (satisfies g j) ty ∙ satisfies-bit g j (ty_at s (at + 6)) l ∙ ap (bit j) (sym em) in
+          let sat : (j : ℕ) → j < 8 → satisfies g j (fieldTy r) ≡ bit j m = λ j l. ap (satisfies g j) ty ∙ satisfies-bit g j (tyAt s (at + 6)) l ∙ ap (bit j) (sym em) in
           rw (is_field, flags-is, not_static f h, bit-zero f, bit-one f, sat 0 (omega arith), sat 1 (omega arith), sat 7 (omega arith), eb)

@@ -7,17 +7,17 @@ use mathlib.Core.Option.{none}
 use Prim.Native.Nat.{ℕ, ◌/◌, ◌%◌, ◌≤◌, ◌<◌}
 use native.Mathlib.Omega.{arith}
 use lib.Dec.{T, eqb, leb, ltb}
-use Rattle.spec.specs.Lists.{any, all, gather, only_if}
+use Rattle.spec.specs.Lists.{any, all, gather, onlyIf}
 use Rattle.spec.specs.Record.{u16, bit, isClass, CLASS, none16, flags, encloser, unlessNone, tyReferences}
 use Rattle.spec.specs.Sheet.{Group, total, group, classCount, classRecord, ofKind, isInner}
-use Rattle.spec.specs.Classes.{Slot, encloserSlot, variableSlot, classTy, enclosing, local_at, captured, hasMarker, satisfies, encloserSlots, capturedSlots}
+use Rattle.spec.specs.Classes.{Slot, encloserSlot, variableSlot, classTy, enclosing, localAt, captured, hasMarker, satisfies, encloserSlots, capturedSlots}
 use Rattle.spec.specs.Refusals.{formRefusal, encloserFits}
 use Rattle.laws.proofs.All.{All, all_append, all-if, all-kept, any-cong}
 use Rattle.theory.proofs.Somewhere.{any_append, any-never}
 use Rattle.theory.proofs.Accept.{RecordFits, form-fits}
 use Rattle.theory.proofs.Form.{one-record, group-one-class}
 use Rattle.groups.specs.Groups.{Indexed}
-use Rattle.lanes.specs.Lanes.{entry_at}
+use Rattle.lanes.specs.Lanes.{entryAt}
 use Rattle.captured.specs.Captured.{laneMarker, lacksCaptured, Shown}
 use Rattle.slots.specs.Slots.{fromSeven, ruleMarker, slotFits, fixedBreaks}
 use Rattle.slots.proofs.Selecting.{at-nine, of-marker, lane-marker}
@@ -38,11 +38,11 @@ gather-still f h [] = tt
 gather-still f h (x ∷ xs) = all_append Still (f x) (gather f xs) (h x) (gather-still f h xs)
 
 all-still : (g : ℕ → Group) (t : ℕ) → All Still (encloserSlots g t ++ capturedSlots g t)
-unfolding encloserSlots capturedSlots only_if encloserSlot variableSlot
+unfolding encloserSlots capturedSlots onlyIf encloserSlot variableSlot
 all-still g t =
     all_append Still (encloserSlots g t) (capturedSlots g t)
     (all-if Still (isInner (g t)) (map (encloserSlot t) (enclosing (g t))) [] (map-still (encloserSlot t) (λ e. record { final = refl; transient = refl }) (enclosing (g t))) tt)
-    (gather-still (λ v. map (variableSlot v.0) (local_at (g v.0) v.1)) (λ v. map-still (variableSlot v.0) (λ n. record { final = refl; transient = refl }) (local_at (g v.0) v.1))
+    (gather-still (λ v. map (variableSlot v.0) (localAt (g v.0) v.1)) (λ v. map-still (variableSlot v.0) (λ n. record { final = refl; transient = refl }) (localAt (g v.0) v.1))
     (captured g t))
 
 -- ---- all of them
@@ -78,7 +78,7 @@ module _ (g : ℕ → Group) {rule : ℕ} (t : ℕ) where
 
     -- ---- a captured variable, from its lane
 
-    module _ {n : ℕ} {row : List ℕ} (w : Shown g n row) (l : t < n) {lane : ℕ} (el : lane ≡ fromSeven rule 0 1 2 2) (low : lane < 3) {b : Bool} (eb : b ≡ ltb (entry_at row lane t) 255) where
+    module _ {n : ℕ} {row : List ℕ} (w : Shown g n row) (l : t < n) {lane : ℕ} (el : lane ≡ fromSeven rule 0 1 2 2) (low : lane < 3) {b : Bool} (eb : b ≡ ltb (entryAt row lane t) 255) where
       lane-is : lacksCaptured g (ruleMarker rule) t ≡ b
       lane-is = ap (λ (k : ℕ). lacksCaptured g k t) (sym (ap laneMarker el ∙ lane-marker h n9)) ∙ sym (w.lane lane t low l) ∙ sym eb
 
@@ -93,14 +93,14 @@ module _ (g : ℕ → Group) {rule : ℕ} (t : ℕ) where
 
         module _ {f : ℕ} (ef : f ≡ u16 (classRecord (g t)) 4) where
           pub not-inner : f / 2 % 2 ≡ 0 → false ≡ fixedBreaks g rule t
-          unfolding encloserSlots isInner flags bit lacks any only_if
-          not-inner o = sym (enclosers-left ∙ rw (← ef, o, only_if))
+          unfolding encloserSlots isInner flags bit lacks any onlyIf
+          not-inner o = sym (enclosers-left ∙ rw (← ef, o, onlyIf))
 
           pub inner-lacks : (f / 2 % 2 ≡ 0 → ⊥) → {x : ℕ} → enclosing (g t) ≡ x ∷ [] → {y : Bool} → y ≡ hasMarker g (ruleMarker rule) x → not y ≡ fixedBreaks g rule t
-          unfolding encloserSlots isInner flags bit lacks any only_if satisfies encloserSlot classTy tyReferences all
+          unfolding encloserSlots isInner flags bit lacks any onlyIf satisfies encloserSlot classTy tyReferences all
           inner-lacks o ex {y} ey =
               let q : f / 2 % 2 ≡ 1 = omega arith in
-              sym (enclosers-left ∙ rw (← ef, q, only_if, ex, ← ey) (one y))
+              sym (enclosers-left ∙ rw (← ef, q, onlyIf, ex, ← ey) (one y))
             where
               one : (y : Bool) → (not (y && true) || false) ≡ not y
               one true = refl

@@ -21,7 +21,7 @@ use Rattle.records.proofs.Carried.{class-word-in}
 use Rattle.groups.specs.Groups.{Indexed}
 use Rattle.groups.proofs.Held.{class-long}
 use Rattle.overlay.specs.Types.{Known}
-use Rattle.lanes.specs.Lanes.{entry_at}
+use Rattle.lanes.specs.Lanes.{entryAt}
 use Rattle.captured.specs.Captured.{Shown}
 use Rattle.slots.specs.Slots.{fromSeven, ruleMarker, fixedBreaks, headSlots, Late, encloserBy, capturedBy, HeadSet}
 use Rattle.slots.proofs.Fixed.{fixed-nine, captured-lacks, not-inner, inner-lacks, inner-encloser}
@@ -42,13 +42,13 @@ module _ {library user : List ℕ} {nlib n : ℕ} {starts : List ℕ} (x : Index
 
   pub fixed-is : (rule : ℕ) → Late rule → (encloserBy bytes markers rule && capturedBy lanes t rule) ≡ not (fixedBreaks g rule t)
   unfolding encloserBy capturedBy hasMarker
-  fixed-is rule l = go (ℕ_discrete rule 9) (ltb (entry_at lanes (fromSeven rule 0 1 2 2) t) 255) refl (ℕ_discrete (u16 bytes 4 / 2 % 2) 0)
+  fixed-is rule l = go (ℕ_discrete rule 9) (ltb (entryAt lanes (fromSeven rule 0 1 2 2) t) 255) refl (ℕ_discrete (u16 bytes 4 / 2 % 2) 0)
     where
       its : Bool
       its = bit (ruleMarker rule) (get_or markers (u16 bytes 10) 0)
 
-      go : Dec (rule ≡ 9) → (b : Bool) → ltb (entry_at lanes (fromSeven rule 0 1 2 2) t) 255 ≡ b → Dec (u16 bytes 4 / 2 % 2 ≡ 0)
-          → ((eqb rule 9 || (eqb (u16 bytes 4 / 2 % 2) 0 || its)) && (eqb rule 9 || not (ltb (entry_at lanes (fromSeven rule 0 1 2 2) t) 255))) ≡ not (fixedBreaks g rule t)
+      go : Dec (rule ≡ 9) → (b : Bool) → ltb (entryAt lanes (fromSeven rule 0 1 2 2) t) 255 ≡ b → Dec (u16 bytes 4 / 2 % 2 ≡ 0)
+          → ((eqb rule 9 || (eqb (u16 bytes 4 / 2 % 2) 0 || its)) && (eqb rule 9 || not (ltb (entryAt lanes (fromSeven rule 0 1 2 2) t) 255))) ≡ not (fixedBreaks g rule t)
       go (yes q) b e d = rw (eq-eqb rule 9 q) (ap not (fixed-nine g t q))
       go (no n9) true e d =
           rw (ne_eqb rule 9 n9, e) (and-false (eqb (u16 bytes 4 / 2 % 2) 0 || its) ∙ ap not (captured-lacks g t l.0 n9 shown there refl (lane_low rule l) refl e))

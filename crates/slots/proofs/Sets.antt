@@ -16,8 +16,8 @@ use Rattle.spec.specs.Classes.{overlay, hasMarker}
 use Rattle.spec.specs.Rules.{rootFits}
 use Rattle.theory.proofs.Closure.{bit-union}
 use Rattle.overlay.specs.Types.{Known}
-use Rattle.lanes.specs.Lanes.{entry_at}
-use Rattle.slots.specs.Slots.{fromSeven, ruleMarker, rootBreaks, Late, Passes, slot_by, RootSet, encloserBy, capturedBy}
+use Rattle.lanes.specs.Lanes.{entryAt}
+use Rattle.slots.specs.Slots.{fromSeven, ruleMarker, rootBreaks, Late, Passes, slotBy, RootSet, encloserBy, capturedBy}
 
 pub twice : (b : Bool) → not (not b) ≡ b
 twice true = refl
@@ -61,24 +61,24 @@ module _ (m : ℕ) {r : ℕ} (e : r ≡ union m 4) where
 -- ---- a slot
 
 module _ (f m r : ℕ) where
-  pub slot-changing : ((k : ℕ) → bit k r ≡ (bit k m && bit k 130)) → f % 2 ≡ 0 → Passes (slot_by f m) r
-  unfolding slot_by fromSeven bit
+  pub slot-changing : ((k : ℕ) → bit k r ≡ (bit k m && bit k 130)) → f % 2 ≡ 0 → Passes (slotBy f m) r
+  unfolding slotBy fromSeven bit
   slot-changing e h =
-      passes_of {P = slot_by f m} (e 0 ∙ and-false (bit 0 m) ∙ rw h) (e 1 ∙ and-true (bit 1 m)) (e 2 ∙ and-false (bit 2 m) ∙ rw h) (e 7 ∙ and-true (bit 7 m))
+      passes_of {P = slotBy f m} (e 0 ∙ and-false (bit 0 m) ∙ rw h) (e 1 ∙ and-true (bit 1 m)) (e 2 ∙ and-false (bit 2 m) ∙ rw h) (e 7 ∙ and-true (bit 7 m))
 
   module _ (h : f % 2 ≡ 0 → ⊥) where
     final : eqb (f % 2) 1 ≡ true
     final = eq-eqb (f % 2) 1 (omega arith)
 
-    pub slot-transient : ((k : ℕ) → bit k r ≡ (bit k m && bit k 251)) → f / 2 % 2 ≡ 1 → Passes (slot_by f m) r
-    unfolding slot_by fromSeven bit
+    pub slot-transient : ((k : ℕ) → bit k r ≡ (bit k m && bit k 251)) → f / 2 % 2 ≡ 1 → Passes (slotBy f m) r
+    unfolding slotBy fromSeven bit
     slot-transient e o =
-        passes_of {P = slot_by f m} (e 0 ∙ and-true (bit 0 m) ∙ rw final) (e 1 ∙ and-true (bit 1 m)) (e 2 ∙ and-false (bit 2 m) ∙ rw (final, o)) (e 7 ∙ and-true (bit 7 m))
+        passes_of {P = slotBy f m} (e 0 ∙ and-true (bit 0 m) ∙ rw final) (e 1 ∙ and-true (bit 1 m)) (e 2 ∙ and-false (bit 2 m) ∙ rw (final, o)) (e 7 ∙ and-true (bit 7 m))
 
-    pub slot-final : r ≡ union m 4 → (f / 2 % 2 ≡ 1 → ⊥) → Passes (slot_by f m) r
-    unfolding slot_by fromSeven bit
+    pub slot-final : r ≡ union m 4 → (f / 2 % 2 ≡ 1 → ⊥) → Passes (slotBy f m) r
+    unfolding slotBy fromSeven bit
     slot-final e o =
-        passes_of {P = slot_by f m} (joined m e 0 refl ∙ rw final) (joined m e 1 refl) (joined-nine m e ∙ rw (final, ne_eqb (f / 2 % 2) 1 o)) (joined m e 7 refl)
+        passes_of {P = slotBy f m} (joined m e 0 refl ∙ rw final) (joined m e 1 refl) (joined-nine m e ∙ rw (final, ne_eqb (f / 2 % 2) 1 o)) (joined m e 7 refl)
 
 -- ---- a root
 
@@ -119,7 +119,7 @@ masked k mask e true f = ap (bit k) (f.0 refl)
 masked k mask e false f = ap (bit k) (f.1 refl) ∙ e
 
 module _ (row : List ℕ) (t : ℕ) where
-  pub lanes-pass : {x y z : Bool} → x ≡ ltb (entry_at row 0 t) 255 → y ≡ ltb (entry_at row 1 t) 255 → z ≡ ltb (entry_at row 2 t) 255
+  pub lanes-pass : {x y z : Bool} → x ≡ ltb (entryAt row 0 t) 255 → y ≡ ltb (entryAt row 1 t) 255 → z ≡ ltb (entryAt row 2 t) 255
       → (a b c s : ℕ) {r : ℕ} → (x ≡ true → a ≡ 254) × (x ≡ false → a ≡ 255) → (y ≡ true → b ≡ 253) × (y ≡ false → b ≡ 255) → (z ≡ true → c ≡ 127) × (z ≡ false → c ≡ 255)
       → ((k : ℕ) → bit k s ≡ (bit k a && bit k b)) → ((k : ℕ) → bit k r ≡ (bit k s && bit k c)) → Passes (capturedBy row t) r
   unfolding capturedBy fromSeven bit

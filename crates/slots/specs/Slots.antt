@@ -8,7 +8,7 @@ use Rattle.spec.specs.Markers.{Immutable, Powerless, Selfless, DeepSelfless}
 use Rattle.spec.specs.Classes.{Slot, fieldSlot, superclasses, satisfies, encloserSlots, capturedSlots}
 use Rattle.spec.specs.Rules.{rootFits, baseFits}
 use Rattle.overlay.specs.Types.{Known}
-use Rattle.lanes.specs.Lanes.{entry_at}
+use Rattle.lanes.specs.Lanes.{entryAt}
 
 -- what rules 7, 8, 9 and 10 have, each its own
 unfoldable pub fromSeven : {A : Type 0} → ℕ → A → A → A → A → A
@@ -63,8 +63,8 @@ pub record Passes (P : ℕ → Bool) (set : ℕ) : Type 0 where
   pub is : (rule : ℕ) → Late rule → bit (ruleMarker rule) set ≡ P rule
 
 -- a slot passes the rule, by the flags of its field and the markers of its type
-unfoldable pub slot_by : ℕ → ℕ → ℕ → Bool
-slot_by f m rule = fromSeven rule (eqb (f % 2) 1 && bit 0 m) (bit 1 m) (eqb (f % 2) 1 && not (eqb (f / 2 % 2) 1)) (bit 7 m)
+unfoldable pub slotBy : ℕ → ℕ → ℕ → Bool
+slotBy f m rule = fromSeven rule (eqb (f % 2) 1 && bit 0 m) (bit 1 m) (eqb (f % 2) 1 && not (eqb (f / 2 % 2) 1)) (bit 7 m)
 
 -- the field that a record may be, and all those of some records, by a row of overlay markers
 pub record FieldSet (row r : List ℕ) (set : ℕ) : Type 0 where
@@ -83,11 +83,11 @@ encloserBy bytes row rule = eqb rule 9 || (eqb (u16 bytes 4 / 2 % 2) 0 || bit (r
 
 -- the variables that class t captures
 unfoldable pub capturedBy : List ℕ → ℕ → ℕ → Bool
-capturedBy row t rule = eqb rule 9 || not (ltb (entry_at row (fromSeven rule 0 1 2 2) t) 255)
+capturedBy row t rule = eqb rule 9 || not (ltb (entryAt row (fromSeven rule 0 1 2 2) t) 255)
 
 -- rule 9's second part, by the bytes of a class
-unfoldable pub base_by : List ℕ → List ℕ → Bool
-base_by bytes markers = not (bit Selfless (get_or markers (u16 bytes 8) 0) || (eqb (u16 bytes 8) 0 && bit 2 (u16 bytes 4) && bit 3 (u16 bytes 4) && not (bit 4 (u16 bytes 4))))
+unfoldable pub baseBy : List ℕ → List ℕ → Bool
+baseBy bytes markers = not (bit Selfless (get_or markers (u16 bytes 8) 0) || (eqb (u16 bytes 8) 0 && bit 2 (u16 bytes 4) && bit 3 (u16 bytes 4) && not (bit 4 (u16 bytes 4))))
 
 -- record 0 of class t: as a root, or by its encloser and its captured variables
 pub record HeadSet (markers lanes bytes : List ℕ) (nlib t set : ℕ) : Type 0 where

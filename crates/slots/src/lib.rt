@@ -5,7 +5,7 @@
 ghost use Rattle.std.specs.Prelude.{◌≡◌, true, false, ◌+◌, ◌^◌, ◌≤◌, ◌<◌, length};
 ghost use Rattle.spec.specs.Record.{u16};
 ghost use Rattle.records.specs.Records.{Sized, recordAt, between, AtRecord};
-ghost use Rattle.slots.specs.Slots.{ruleMarker, Passes, slot_by, FieldSet, FieldsSet, RootSet, encloserBy, capturedBy, HeadSet, base_by};
+ghost use Rattle.slots.specs.Slots.{ruleMarker, Passes, slotBy, FieldSet, FieldsSet, RootSet, encloserBy, capturedBy, HeadSet, baseBy};
 
 use captured::lacking;
 use markers::{ALL, DEEP_SELFLESS, IMMUTABLE, POWERLESS, SELFLESS, common, has, union};
@@ -45,7 +45,7 @@ pub fn rule_set(rule: u8) -> u8
 
 // By the flags of a field and the markers of its type. One that is not final passes neither rule 7 nor rule 9, a transient one not rule 9.
 fn slot_set(flags: u16, m: u8) -> u8
-    ensures { Passes (slot_by flags m) result }
+    ensures { Passes (slotBy flags m) result }
 {
     if flags % 2 == 0 {
         return common(m, CHANGING);
@@ -138,7 +138,7 @@ pub fn head_set(bytes: &[u8], markers: &[u8], lanes: &[u8], nlib: usize, t: usiz
 // Rule 9's second part: the superclass is not Selfless, nor class 0 with two flags.
 pub fn base_breaks(bytes: &[u8], markers: &[u8]) -> bool
     requires { 13 ≤ length bytes.now }
-    ensures { result ≡ base_by bytes.now markers.now }
+    ensures { result ≡ baseBy bytes.now markers.now }
 {
     let s = wide(word_in(bytes, SUPERCLASS_AT));
     if has(known(markers, s), SELFLESS) {

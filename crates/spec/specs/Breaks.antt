@@ -2,7 +2,7 @@
 -- Assumes nothing.
 use Rattle.std.specs.Prelude.{◌≡◌, ◌⊎◌, ◌≢◌, ℕ, ◌<◌, T}
 use mathlib.Core.List.{List, Memᴰ}
-use Rattle.spec.specs.Record.{bit, isKind, FIELD, LOCAL, MEMBER, REFERS, flags, ownMarkers, target, index, Ty, fieldTy, local_ty, isFinal, isTransient, isStatic, references}
+use Rattle.spec.specs.Record.{bit, isKind, FIELD, LOCAL, MEMBER, REFERS, flags, ownMarkers, target, index, Ty, fieldTy, localTy, isFinal, isTransient, isStatic, references}
 use Rattle.spec.specs.Sheet.{Group}
 use Rattle.spec.specs.Markers.{Immutable, Powerless, Selfless, Equatable, Token, Throwable, Enum, DeepSelfless}
 use Rattle.spec.specs.Relations.{At, Superclass, Encloser, Nth, Marked, Lineage, Root, Captures}
@@ -35,9 +35,9 @@ pub data SlotShape : Type 0 where
   field : List ℕ → SlotShape
   fixed : Ty → SlotShape
 
-abbrev pub type_of : SlotShape → Ty
-type_of (field r) = fieldTy r
-type_of (fixed t) = t
+abbrev pub typeOf : SlotShape → Ty
+typeOf (field r) = fieldTy r
+typeOf (fixed t) = t
 
 abbrev pub Final : SlotShape → Type 0
 Final (field r) = T (isFinal r)
@@ -51,7 +51,7 @@ Transient (fixed t) = ⊥
 pub data OwnSlot (group : ℕ → Group) (c : ℕ) : ℕ → SlotShape → Type 0 where
   instance : {k : ℕ} {r : List ℕ} → At (group c) k r → T (isKind FIELD r) → Not (T (isStatic r)) → OwnSlot group c k (field r)
   outer : {e : ℕ} → Flag 1 (group c) → Encloser (group c) e → OwnSlot group c 0 (fixed (record { dims = 0; code = 0; class = e }))
-  captured : {d i k : ℕ} {r : List ℕ} → Captures group c d i → Nth LOCAL (group d) i k r → OwnSlot group c 0 (fixed (local_ty r))
+  captured : {d i k : ℕ} {r : List ℕ} → Captures group c d i → Nth LOCAL (group d) i k r → OwnSlot group c 0 (fixed (localTy r))
 
 -- "and those of each user superclass upward": "inherited .. faults, stand at record 0"
 pub data HasSlot (nlib : ℕ) (group : ℕ → Group) (c : ℕ) : ℕ → SlotShape → Type 0 where
@@ -63,7 +63,7 @@ pub data HasSlot (nlib : ℕ) (group : ℕ → Group) (c : ℕ) : ℕ → SlotSh
 module _ (nlib : ℕ) (group : ℕ → Group) where
   -- "every slot's type is", "the root is class 0 or": at record k this part of rules 7, 8 and 10 is broken for marker m
   pub data Lacks (m c : ℕ) : ℕ → Type 0 where
-    slot : {k : ℕ} {s : SlotShape} → HasSlot nlib group c k s → Not (Satisfies group m (type_of s)) → Lacks m c k
+    slot : {k : ℕ} {s : SlotShape} → HasSlot nlib group c k s → Not (Satisfies group m (typeOf s)) → Lacks m c k
     root : {d : ℕ} → Root nlib group c d → d ≢ 0 → Not (Marked group d m) → Lacks m c 0
 
   -- "every field slot is final", broken

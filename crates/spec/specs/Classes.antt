@@ -2,8 +2,8 @@
 -- (document 01, "Marks" and "Captured locals and slots"). Over the groups by class number and, for superclasses, the number of library classes.
 -- Assumes nothing.
 use Rattle.std.specs.Prelude.{Bool, true, false, ◌&&◌, List, [], ◌∷◌, ◌++◌, map, ℕ, zero, suc, eqb, ltb, length, take, drop}
-use Rattle.spec.specs.Lists.{all, keep, gather, numbered, only_if, elem, ascending, reach}
-use Rattle.spec.specs.Record.{bit, isKind, CLASS, IMPLEMENTS, LOCAL, USES, BUILDS, ownMarkers, superclass, encloser, target, index, Ty, fieldTy, local_ty, isFinal, isTransient, unlessNone}
+use Rattle.spec.specs.Lists.{all, keep, gather, numbered, onlyIf, elem, ascending, reach}
+use Rattle.spec.specs.Record.{bit, isKind, CLASS, IMPLEMENTS, LOCAL, USES, BUILDS, ownMarkers, superclass, encloser, target, index, Ty, fieldTy, localTy, isFinal, isTransient, unlessNone}
 use Rattle.spec.specs.Record.{tyReferences}
 use Rattle.spec.specs.Sheet.{Group, classRecord, ofKind, isInner, isInstanceField}
 use Rattle.spec.specs.Markers.{closure, union, unionAll}
@@ -30,8 +30,8 @@ unfoldable pub locals : Group → List (ℕ × List ℕ)
 locals g = keep (λ n. isKind LOCAL n.1) (numbered 0 g)
 
 -- the LOCAL of that index: "Indexes count from 0 in record order"
-unfoldable pub local_at : Group → ℕ → List (ℕ × List ℕ)
-local_at g i = take 1 (drop i (locals g))
+unfoldable pub localAt : Group → ℕ → List (ℕ × List ℕ)
+localAt g i = take 1 (drop i (locals g))
 
 -- the indexes of d's LOCALs that the group USES
 unfoldable pub usedIndexes : ℕ → Group → List ℕ
@@ -56,7 +56,7 @@ unfoldable pub encloserSlot : ℕ → ℕ → Slot
 encloserSlot c e = record { holder = c; recordNumber = 0; final = true; transient = false; type = classTy e }
 
 unfoldable pub variableSlot : ℕ → ℕ × List ℕ → Slot
-variableSlot d n = record { holder = d; recordNumber = n.0; final = true; transient = false; type = local_ty n.1 }
+variableSlot d n = record { holder = d; recordNumber = n.0; final = true; transient = false; type = localTy n.1 }
 
 module _ (group : ℕ → Group) where
   -- ---- markers
@@ -108,13 +108,13 @@ module _ (group : ℕ → Group) where
   -- ---- slots
 
   unfoldable pub encloserSlots : ℕ → List Slot
-  encloserSlots c = only_if (isInner (group c)) (map (encloserSlot c) (enclosing (group c)))
+  encloserSlots c = onlyIf (isInner (group c)) (map (encloserSlot c) (enclosing (group c)))
 
   unfoldable pub fieldSlots : ℕ → List Slot
   fieldSlots c = map (fieldSlot c) (keep (λ n. isInstanceField n.1) (numbered 0 (group c)))
 
   unfoldable pub capturedSlots : ℕ → List Slot
-  capturedSlots c = gather (λ v. map (variableSlot v.0) (local_at (group v.0) v.1)) (captured c)
+  capturedSlots c = gather (λ v. map (variableSlot v.0) (localAt (group v.0) v.1)) (captured c)
 
   unfoldable pub ownSlots : ℕ → List Slot
   ownSlots c = encloserSlots c ++ (fieldSlots c ++ capturedSlots c)

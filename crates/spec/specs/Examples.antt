@@ -4,7 +4,7 @@ use Rattle.std.specs.Prelude.{◌≡◌, List, [], ◌∷◌, ◌++◌, ℕ, ◌
 use Rattle.spec.specs.Markers.{closure}
 use Rattle.spec.specs.Refusals.{Refusal, scratchLength, replacedSheet, judgeRefusal}
 use Rattle.spec.specs.Verdicts.{verdictBytes, flat}
-use Rattle.spec.specs.Promises.{Answer, refused, accepted, answer_of, afterwards, Counts, countsOf, judgedRow, State, Edit, edited, replacement, withdrawal}
+use Rattle.spec.specs.Promises.{Answer, refused, accepted, answerOf, afterwards, Counts, countsOf, judgedRow, State, Edit, edited, replacement, withdrawal}
 
 -- ---- Judge over a library, with scratch enough
 
@@ -21,7 +21,7 @@ rowFor n = replicate (verdictBytes * n) 99 ++ past
 
 module _ (library user row : List ℕ) where
   unfoldable pub answerOver : Answer Counts
-  answerOver = answer_of (judgeRefusal library user (length user) (flat.lines row) scratchLength) (countsOf library user)
+  answerOver = answerOf (judgeRefusal library user (length user) (flat.lines row) scratchLength) (countsOf library user)
 
   unfoldable pub rowOver : List ℕ
   rowOver = afterwards (judgeRefusal library user (length user) (flat.lines row) scratchLength) row (judgedRow flat library user (length user) row [])
@@ -30,7 +30,7 @@ module _ (library user row : List ℕ) where
 
 -- what an edit answers, and what it leaves
 unfoldable pub answerTo : Edit → Answer ℕ
-answerTo e = answer_of e.refusal e.answer
+answerTo e = answerOf e.refusal e.answer
 
 unfoldable pub stateTo : Edit → State flat → State flat
 stateTo e s = afterwards e.refusal s (edited flat e s)

@@ -15,8 +15,8 @@ pub data Answer (A : Type 0) : Type 0 where
   refused : Refusal → Answer A
   accepted : A → Answer A
 
-unfoldable pub answer_of : {A : Type 0} → Option Refusal → A → Answer A
-answer_of o a = elim o [ some r ↦ refused r | none ↦ accepted a ]
+unfoldable pub answerOf : {A : Type 0} → Option Refusal → A → Answer A
+answerOf o a = elim o [ some r ↦ refused r | none ↦ accepted a ]
 
 -- what a buffer holds afterwards: as it was if the call is refused, else anew
 unfoldable pub afterwards : {A : Type 0} → Option Refusal → A → A → A
@@ -41,7 +41,7 @@ module _ (row : VerdictRow) (library user : List ℕ) (used : ℕ) (verdicts : r
   judgedRow = let sheet = take used user in row.rewritten (λ i. ltb i (classCount sheet)) (userVerdict library sheet) verdicts
 
   pub record Judges (answer : Answer Counts) (verdictsAfter : row.Row) (scratchAfter : List ℕ) : Type 0 where
-    pub answered : answer ≡ answer_of (judgeRefusal library user used (row.lines verdicts) (length scratch)) (countsOf library (take used user))
+    pub answered : answer ≡ answerOf (judgeRefusal library user used (row.lines verdicts) (length scratch)) (countsOf library (take used user))
     pub verdicts-are : verdictsAfter ≡ afterwards (judgeRefusal library user used (row.lines verdicts) (length scratch)) verdicts judgedRow
     pub scratch-is : scratchAfter ≡ afterwards (judgeRefusal library user used (row.lines verdicts) (length scratch)) scratch (cleared scratch)
 
@@ -75,7 +75,7 @@ module _ (row : VerdictRow) where
 
   -- what it makes of the answer and of what the program holds
   pub record Changes (e : Edit) (before : State row) (answer : Answer ℕ) (after : State row) : Type 0 where
-    pub answered : answer ≡ answer_of e.refusal e.answer
+    pub answered : answer ≡ answerOf e.refusal e.answer
     pub user-is : after.user ≡ afterwards e.refusal before.user (edited e before).user
     pub used-is : after.used ≡ afterwards e.refusal before.used (edited e before).used
     pub verdicts-are : after.verdicts ≡ afterwards e.refusal before.verdicts (edited e before).verdicts
@@ -135,7 +135,7 @@ module _ (row : VerdictRow) (library : List ℕ) where
 
 module _ (library user : List ℕ) (used : ℕ) (c : ℕ) where
   pub record Marks (answer : Answer ℕ) : Type 0 where
-    pub answered : answer ≡ answer_of (queryRefusal library user used c) (overlay (group library (take used user)) c)
+    pub answered : answer ≡ answerOf (queryRefusal library user used c) (overlay (group library (take used user)) c)
 
 -- ---- Name: "the name is handed back as the part of whichever sheet holds it"
 
@@ -145,8 +145,8 @@ pub record Part : Type 0 where
   pub start : ℕ
   pub size : ℕ
 
-unfoldable pub bytes_at : List ℕ → List ℕ → Part → List ℕ
-bytes_at library user p = take p.size (drop p.start (elim (eqb p.sheet 0) [ true ↦ library | false ↦ user ]))
+unfoldable pub bytesAt : List ℕ → List ℕ → Part → List ℕ
+bytesAt library user p = take p.size (drop p.start (elim (eqb p.sheet 0) [ true ↦ library | false ↦ user ]))
 
 -- where the name of class c stands in its sheet
 unfoldable pub namePart : List ℕ → List ℕ → ℕ → Part
@@ -158,14 +158,14 @@ namePart library user c =
     ]
 
 -- "A refused Name hands back an empty part of the library sheet": the one at its start
-abbrev pub no_part : Part
-no_part = record { sheet = 0; start = 0; size = 0 }
+abbrev pub noPart : Part
+noPart = record { sheet = 0; start = 0; size = 0 }
 
 module _ (library user : List ℕ) (used : ℕ) (c : ℕ) where
   -- the place of the name, or the refusal
   pub record Places (answer : Answer Part) : Type 0 where
-    pub answered : answer ≡ answer_of (queryRefusal library user used c) (namePart library (take used user) c)
+    pub answered : answer ≡ answerOf (queryRefusal library user used c) (namePart library (take used user) c)
 
   -- the name's bytes
   pub record Names (bytes : List ℕ) : Type 0 where
-    pub answered : bytes ≡ bytes_at library user (afterwards (queryRefusal library user used c) no_part (namePart library (take used user) c))
+    pub answered : bytes ≡ bytesAt library user (afterwards (queryRefusal library user used c) noPart (namePart library (take used user) c))

@@ -60,8 +60,8 @@ abbrev pub isClass : List ℕ → Bool
 isClass r = isKind CLASS r
 
 -- what the eight kinds give, in the order of their numbers; `d` for an unknown kind
-unfoldable pub by_kind : {A : Type 0} → List ℕ → A → List A → A
-by_kind r d choices = get_or (d ∷ choices) (kind r) d
+unfoldable pub byKind : {A : Type 0} → List ℕ → A → List A → A
+byKind r d choices = get_or (d ∷ choices) (kind r) d
 
 -- CLASS: "flags u16, own marks u8, zero u8, superclass u16, encloser u16, name". FIELD and MEMBER have their flags there too.
 unfoldable pub flags : List ℕ → ℕ
@@ -99,14 +99,14 @@ pub record Ty : Type 0 where
   pub code : ℕ
   pub class : ℕ
 
-unfoldable pub ty_at : List ℕ → ℕ → Ty
-ty_at r i = record { dims = u8 r i; code = u8 r (i + 1); class = u16 r (i + 2) }
+unfoldable pub tyAt : List ℕ → ℕ → Ty
+tyAt r i = record { dims = u8 r i; code = u8 r (i + 1); class = u16 r (i + 2) }
 
 unfoldable pub fieldTy : List ℕ → Ty
-fieldTy r = ty_at r 6
+fieldTy r = tyAt r 6
 
-unfoldable pub local_ty : List ℕ → Ty
-local_ty r = ty_at r 4
+unfoldable pub localTy : List ℕ → Ty
+localTy r = tyAt r 4
 
 -- FIELD flags: "bit 0 final, 1 transient, 2 static"
 unfoldable pub isFinal : List ℕ → Bool
@@ -129,11 +129,11 @@ tyReferences t = elim (eqb t.code 0) [ true ↦ t.class ∷ [] | false ↦ [] ]
 
 -- the classes that a record names
 unfoldable pub references : List ℕ → List ℕ
-references r = by_kind r []
+references r = byKind r []
     ((unlessNone (superclass r) ++ unlessNone (encloser r))
     ∷ (target r ∷ [])
     ∷ tyReferences (fieldTy r)
-    ∷ tyReferences (local_ty r)
+    ∷ tyReferences (localTy r)
     ∷ (target r ∷ [])
     ∷ (target r ∷ [])
     ∷ []
@@ -144,7 +144,7 @@ references r = by_kind r []
 
 -- the column "Sheet" of the table
 unfoldable pub kindFits : ℕ → List ℕ → Bool
-kindFits sheet r = by_kind r false
+kindFits sheet r = byKind r false
     (true
     ∷ true
     ∷ eqb sheet 1
@@ -161,7 +161,7 @@ withName n r = leb (n + 1) (length r) && leb (length r) (n + 100)
 
 -- the column "Body" of the table, as lengths
 unfoldable pub lengthFits : List ℕ → Bool
-lengthFits r = by_kind r false
+lengthFits r = byKind r false
     (withName nameStart r
     ∷ eqb (length r) 6
     ∷ withName 10 r
@@ -185,11 +185,11 @@ unfoldable pub classFlagsFit : ℕ → ℕ → Bool
 classFlagsFit sheet f = elim (eqb sheet 0) [ true ↦ eqb f 0 || eqb f 1 || eqb f 256 || eqb f 257 | false ↦ ltb f 256 ]
 
 unfoldable pub bodyFits : ℕ → List ℕ → Bool
-bodyFits sheet r = by_kind r false
+bodyFits sheet r = byKind r false
     ((classFlagsFit sheet (flags r) && eqb (zeroByte r) 0 && nameFits (className r))
     ∷ true
     ∷ (ltb (flags r) 8 && tyFits (fieldTy r) && nameFits (drop 10 r))
-    ∷ (tyFits (local_ty r) && nameFits (drop 8 r))
+    ∷ (tyFits (localTy r) && nameFits (drop 8 r))
     ∷ true
     ∷ true
     ∷ (ltb (flags r) 2 && nameFits (drop 6 r))

@@ -2,10 +2,10 @@
 -- Assumes nothing.
 use Rattle.std.specs.Prelude.{◌≡◌, Bool, true, false, not, ◌&&◌, ◌||◌, List, [], ◌∷◌, ◌++◌, map, ℕ, ◌-◌, eqb, leb, ltb, length, take, set}
 use Rattle.std.proofs.Math.Option.{Option, none, some}
-use Rattle.spec.specs.Lists.{any, concat, first_of, elem, same_list, span}
+use Rattle.spec.specs.Lists.{any, concat, firstOf, elem, sameList, span}
 use Rattle.spec.specs.Record.{Bytes, bit, none16, kind, isKind, isClass, IMPLEMENTS, LOCAL, USES, MEMBER, REFERS, flags, superclass, encloser, className, target, index, references, kindFits}
 use Rattle.spec.specs.Record.{lengthFits, bodyFits}
-use Rattle.spec.specs.Sheet.{Group, recordsOf, wholeEnd, groups_of, classCount, total, group, classRecord, groupReferences, ofKind, isInterface, isInstanceField, Located, locatedIn, located}
+use Rattle.spec.specs.Sheet.{Group, recordsOf, wholeEnd, groupsOf, classCount, total, group, classRecord, groupReferences, ofKind, isInterface, isInstanceField, Located, locatedIn, located}
 use Rattle.spec.specs.Markers.{clash}
 use Rattle.spec.specs.Classes.{overlay, enclosers}
 
@@ -24,7 +24,7 @@ refusePlain b n = refuseIf b n 0 0
 
 -- a record is refused by the first of some numbered tests that it meets
 unfoldable pub refuseRecord : Located → List (ℕ × Bool) → Option Refusal
-refuseRecord l tests = first_of (map (λ t. refuseIf t.1 t.0 l.sheet l.byte) tests)
+refuseRecord l tests = firstOf (map (λ t. refuseIf t.1 t.0 l.sheet l.byte) tests)
 
 -- ---- 1: "a sheet over 32,768 bytes, or the user sheet's used length beyond its buffer; library first"
 
@@ -32,7 +32,7 @@ abbrev pub sheetLimit : ℕ
 sheetLimit = 32768
 
 unfoldable pub sizeRefusal : List ℕ → List ℕ → ℕ → Option Refusal
-sizeRefusal library user used = first_of
+sizeRefusal library user used = firstOf
     (refuseIf (ltb sheetLimit (length library)) 1 0 0
     ∷ refuseIf (ltb sheetLimit used || ltb (length user) used) 1 1 0
     ∷ [])
@@ -61,7 +61,7 @@ recordTests l =
 
 -- 3 to 7 and 16 along the records of one sheet, where `n` classes stand before it
 unfoldable pub recordRefusal : ℕ → ℕ → List ℕ → Option Refusal
-recordRefusal sheet n s = first_of (map (λ l. refuseRecord l (recordTests l)) (locatedIn sheet n s))
+recordRefusal sheet n s = firstOf (map (λ l. refuseRecord l (recordTests l)) (locatedIn sheet n s))
 
 -- 7: "also a library without classes, at its end"
 unfoldable pub noClassRefusal : List ℕ → Option Refusal
@@ -102,7 +102,7 @@ module _ (group : ℕ → Group) where
 
   -- 10: "a class name met before in either sheet"
   unfoldable pub nameMet : ℕ → List ℕ → Bool
-  nameMet c r = any (λ d. same_list (className (classRecord (group d))) (className r)) (span 0 c)
+  nameMet c r = any (λ d. sameList (className (classRecord (group d))) (className r)) (span 0 c)
 
   -- over the number of library classes, of all classes, and a record
   unfoldable pub formTests : ℕ → ℕ → Located → List (ℕ × Bool)
@@ -130,14 +130,14 @@ module _ (group : ℕ → Group) where
 
 module _ (library user : List ℕ) where
   unfoldable pub formRefusal : Option Refusal
-  formRefusal = first_of (map (λ l. refuseRecord l (formTests (group library user) (classCount library) (total library user) l)) (located library user))
+  formRefusal = firstOf (map (λ l. refuseRecord l (formTests (group library user) (classCount library) (total library user) l)) (located library user))
 
   unfoldable pub deemedRefusal : Option Refusal
-  deemedRefusal = first_of (map (λ l. refuseRecord l (deemedTests (group library user) (classCount library) l)) (located library user))
+  deemedRefusal = firstOf (map (λ l. refuseRecord l (deemedTests (group library user) (classCount library) l)) (located library user))
 
   -- 2 to 11 and 16 of two sheets: "library before user"
   unfoldable pub sheetRefusal : Option Refusal
-  sheetRefusal = first_of
+  sheetRefusal = firstOf
       (recordRefusal 0 0 library
       ∷ tornRefusal 0 library
       ∷ noClassRefusal library
@@ -149,12 +149,12 @@ module _ (library user : List ℕ) where
 
   -- "the new sheet by 3 to 11, byte in it", and 16: the user sheet that an Add or a Replace would make, beside a library that was accepted
   unfoldable pub newRefusal : Option Refusal
-  newRefusal = first_of (recordRefusal 1 (classCount library) user ∷ formRefusal ∷ deemedRefusal ∷ [])
+  newRefusal = firstOf (recordRefusal 1 (classCount library) user ∷ formRefusal ∷ deemedRefusal ∷ [])
 
 -- 1 to 11 and 16 of the library sheet, the user buffer and its used length. Where an operation's sentence says "1 to 11" or "3 to 11", 16 is among them
 -- (document 02, C-13: "wherever a sheet meets 1 to 11 or 3 to 11: in adding, replacing, withdrawing, Name and Marks too").
 unfoldable pub presentRefusal : List ℕ → List ℕ → ℕ → Option Refusal
-presentRefusal library user used = first_of (sizeRefusal library user used ∷ sheetRefusal library (take used user) ∷ [])
+presentRefusal library user used = firstOf (sizeRefusal library user used ∷ sheetRefusal library (take used user) ∷ [])
 
 -- the two sheets are bytes and meet none of 1 to 11 and 16
 pub record Accepted (library user : List ℕ) (used : ℕ) : Type 0 where
@@ -221,16 +221,16 @@ unfoldable pub addedSheet : List ℕ → List ℕ → List ℕ
 addedSheet user g = user ++ g
 
 unfoldable pub replacedSheet : List ℕ → List ℕ → ℕ → List ℕ → List ℕ
-replacedSheet library user c g = concat (set (map concat (groups_of user)) (c - classCount library) g)
+replacedSheet library user c g = concat (set (map concat (groupsOf user)) (c - classCount library) g)
 
 -- the user sheet that a withdrawal leaves: without its last group
 unfoldable pub withdrawnSheet : List ℕ → List ℕ
-withdrawnSheet user = concat (map concat (take (classCount user - 1) (groups_of user)))
+withdrawnSheet user = concat (map concat (take (classCount user - 1) (groupsOf user)))
 
 module _ (library user : List ℕ) (used : ℕ) where
   -- Judge: "Last 12". `lines` and `scratch` are how many verdicts the row takes and how long the scratch is.
   unfoldable pub judgeRefusal : ℕ → ℕ → Option Refusal
-  judgeRefusal lines scratch = first_of
+  judgeRefusal lines scratch = firstOf
       (presentRefusal library user used
       ∷ shortRefusal (classCount (take used user)) lines scratch
       ∷ [])
@@ -239,7 +239,7 @@ module _ (library user : List ℕ) (used : ℕ) where
   unfoldable pub addRefusal : List ℕ → ℕ → ℕ → Option Refusal
   addRefusal g lines scratch =
       let new = addedSheet (take used user) g in
-      first_of
+      firstOf
       (presentRefusal library user used
       ∷ groupRefusal g
       ∷ roomRefusal user new
@@ -251,7 +251,7 @@ module _ (library user : List ℕ) (used : ℕ) where
   unfoldable pub replaceRefusal : ℕ → List ℕ → ℕ → ℕ → Option Refusal
   replaceRefusal c g lines scratch =
       let new = replacedSheet library (take used user) c g in
-      first_of
+      firstOf
       (presentRefusal library user used
       ∷ noUserRefusal library (take used user) c
       ∷ groupRefusal g
@@ -264,7 +264,7 @@ module _ (library user : List ℕ) (used : ℕ) where
   unfoldable pub withdrawRefusal : ℕ → Option Refusal
   withdrawRefusal lines =
       let sheet = take used user in
-      first_of
+      firstOf
       (presentRefusal library user used
       ∷ emptyRefusal sheet
       ∷ namedRefusal library sheet
@@ -273,7 +273,7 @@ module _ (library user : List ℕ) (used : ℕ) where
 
   -- Name, Marks: "1 to 11, then 13 for a number not in use"
   unfoldable pub queryRefusal : ℕ → Option Refusal
-  queryRefusal c = first_of (presentRefusal library user used ∷ unusedRefusal library (take used user) c ∷ [])
+  queryRefusal c = firstOf (presentRefusal library user used ∷ unusedRefusal library (take used user) c ∷ [])
 
 -- ---- which numbers each operation can give: "Each occurs only as said"; document 02, C-12: "new numbers join the fifteen"
 

@@ -3,7 +3,7 @@
 -- Assumes nothing.
 use Rattle.std.specs.Prelude.{Bool, true, false, not, ◌&&◌, ◌||◌, List, [], ◌∷◌, ◌++◌, map, ℕ, suc, eqb, ltb, get_or}
 use Rattle.std.proofs.Math.Option.{none, some}
-use Rattle.spec.specs.Lists.{any, keep, gather, numbered, only_if, lowest, reach}
+use Rattle.spec.specs.Lists.{any, keep, gather, numbered, onlyIf, lowest, reach}
 use Rattle.spec.specs.Record.{bit, isKind, MEMBER, REFERS, flags, ownMarkers, target, index, fieldTy, isFinal, references}
 use Rattle.spec.specs.Sheet.{Group, classRecord, groupReferences, ofKind, isInterface, isAllowed, isStaticField}
 use Rattle.spec.specs.Markers.{Immutable, Powerless, Selfless, Token, Throwable, Enum, DeepSelfless, clash}
@@ -28,7 +28,7 @@ slotFault s = record { class = s.holder; recordNumber = s.recordNumber }
 
 -- a fault that stands at record 0
 unfoldable pub faultIf : Bool → ℕ → List Fault
-faultIf bad c = only_if bad (record { class = c; recordNumber = 0 } ∷ [])
+faultIf bad c = onlyIf bad (record { class = c; recordNumber = 0 } ∷ [])
 
 module _ (group : ℕ → Group) where
   -- the records of the class's own group that pass a test
@@ -96,26 +96,26 @@ module _ (nlib : ℕ) (group : ℕ → Group) where
 
   -- 7. "If Immutable: every field slot is final, every slot's type is Immutable, the root is class 0 or Immutable"
   unfoldable pub rule7 : ℕ → List Fault
-  rule7 c = only_if (judgedFor group Immutable c) (slotFaults (λ s. s.final && satisfies group Immutable s.type) c ++ rootFaults Immutable c)
+  rule7 c = onlyIf (judgedFor group Immutable c) (slotFaults (λ s. s.final && satisfies group Immutable s.type) c ++ rootFaults Immutable c)
 
   -- 8. "If Powerless: every slot's type is Powerless, the root is class 0 or Powerless"
   unfoldable pub rule8 : ℕ → List Fault
-  rule8 c = only_if (judgedFor group Powerless c) (slotFaults (λ s. satisfies group Powerless s.type) c ++ rootFaults Powerless c)
+  rule8 c = onlyIf (judgedFor group Powerless c) (slotFaults (λ s. satisfies group Powerless s.type) c ++ rootFaults Powerless c)
 
   -- 9. "If Selfless: every field slot is final and not transient; and either the superclass is Selfless, or it is class 0 with flags 2 and 3 set and 4 clear"
   unfoldable pub rule9 : ℕ → List Fault
-  rule9 c = only_if (judgedFor group Selfless c) (slotFaults (λ s. s.final && not s.transient) c ++ baseFaults group c)
+  rule9 c = onlyIf (judgedFor group Selfless c) (slotFaults (λ s. s.final && not s.transient) c ++ baseFaults group c)
 
   -- 10. "If DeepSelfless: every slot's type is DeepSelfless, the root is class 0 or DeepSelfless"
   unfoldable pub rule10 : ℕ → List Fault
-  rule10 c = only_if (judgedFor group DeepSelfless c) (slotFaults (λ s. satisfies group DeepSelfless s.type) c ++ rootFaults DeepSelfless c)
+  rule10 c = onlyIf (judgedFor group DeepSelfless c) (slotFaults (λ s. satisfies group DeepSelfless s.type) c ++ rootFaults DeepSelfless c)
 
   unfoldable pub rules : ℕ → List (List Fault)
   rules c = rule1 c ∷ rule2 c ∷ rule3 c ∷ rule4 c ∷ rule5 c ∷ rule6 c ∷ rule7 c ∷ rule8 c ∷ rule9 c ∷ rule10 c ∷ []
 
 -- "Place is the lowest record of the class's own group that breaks the rule"; encloser, captured, inherited and root faults "stand at record 0"
-unfoldable pub place_in : ℕ → Fault → ℕ
-place_in c f = elim (eqb f.class c) [ true ↦ f.recordNumber | false ↦ 0 ]
+unfoldable pub placeIn : ℕ → Fault → ℕ
+placeIn c f = elim (eqb f.class c) [ true ↦ f.recordNumber | false ↦ 0 ]
 
 -- the first broken rule, counted from n, and the lowest record that breaks it
 unfoldable pub firstBroken : ℕ → List (List ℕ) → Verdict
@@ -124,7 +124,7 @@ firstBroken n (ks ∷ rest) = elim (lowest ks) [ none ↦ firstBroken (suc n) re
 
 module _ (nlib : ℕ) (group : ℕ → Group) where
   unfoldable pub verdictOf : ℕ → Verdict
-  verdictOf c = firstBroken 1 (map (map (place_in c)) (rules nlib group c))
+  verdictOf c = firstBroken 1 (map (map (placeIn c)) (rules nlib group c))
 
 -- ---- "C stands on D if D is C, or a chain of namings (any record) leads from C to D"; here: c depends on d
 unfoldable pub dependencies : (ℕ → Group) → ℕ → List ℕ

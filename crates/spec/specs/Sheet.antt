@@ -38,15 +38,15 @@ splitGroups (r ∷ rs) =
     let t = splitGroups rs in
     elim (isClass r) [ true ↦ record { loose = []; groups = (r ∷ t.loose) ∷ t.groups } | false ↦ record { loose = r ∷ t.loose; groups = t.groups } ]
 
-unfoldable pub groups_of : List ℕ → List Group
-groups_of s = (splitGroups (recordsOf s)).groups
+unfoldable pub groupsOf : List ℕ → List Group
+groupsOf s = (splitGroups (recordsOf s)).groups
 
 unfoldable pub classCount : List ℕ → ℕ
-classCount s = length (groups_of s)
+classCount s = length (groupsOf s)
 
 -- the byte where the group of the i-th class of a sheet begins
 unfoldable pub groupStart : List ℕ → ℕ → ℕ
-groupStart s i = length (concat (concat (take i (groups_of s))))
+groupStart s i = length (concat (concat (take i (groupsOf s))))
 
 -- "Classes are numbered from 0 through the library sheet .. and on through the user sheet"
 module _ (library user : List ℕ) where
@@ -55,7 +55,7 @@ module _ (library user : List ℕ) where
 
   -- the group of each class; past the last one none
   unfoldable pub group : ℕ → Group
-  group c = get_or (groups_of library ++ groups_of user) c []
+  group c = get_or (groupsOf library ++ groupsOf user) c []
 
 -- ---- one group by itself
 

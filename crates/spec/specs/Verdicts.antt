@@ -46,11 +46,11 @@ verdictBytes = 2
 unfoldable pub flatLines : List ℕ → ℕ
 flatLines row = length row / verdictBytes
 
-unfoldable pub flat_at : List ℕ → ℕ → Verdict
-flat_at row i = record { rule = get_or row (verdictBytes * i) 0; recordNumber = get_or row (verdictBytes * i + 1) 0 }
+unfoldable pub flatAt : List ℕ → ℕ → Verdict
+flatAt row i = record { rule = get_or row (verdictBytes * i) 0; recordNumber = get_or row (verdictBytes * i + 1) 0 }
 
-unfoldable pub bytes_of : Verdict → List ℕ
-bytes_of v = v.rule ∷ v.recordNumber ∷ []
+unfoldable pub bytesOf : Verdict → List ℕ
+bytesOf v = v.rule ∷ v.recordNumber ∷ []
 
 -- a list whose element at place j is `f j` of what stood there, counted from i
 unfoldable pub mapFrom : (ℕ → ℕ → ℕ) → ℕ → List ℕ → List ℕ
@@ -61,10 +61,10 @@ mapFrom f i (x ∷ xs) = f i x ∷ mapFrom f (suc i) xs
 unfoldable pub flatByte : (ℕ → Bool) → (ℕ → Verdict) → ℕ → ℕ → ℕ → ℕ
 flatByte changed v n j x =
     let i = j / verdictBytes in
-    elim (ltb i n && changed i) [ true ↦ get_or (bytes_of (v i)) (j % verdictBytes) 0 | false ↦ x ]
+    elim (ltb i n && changed i) [ true ↦ get_or (bytesOf (v i)) (j % verdictBytes) 0 | false ↦ x ]
 
 unfoldable pub flatRewritten : (ℕ → Bool) → (ℕ → Verdict) → List ℕ → List ℕ
 flatRewritten changed v row = mapFrom (flatByte changed v (flatLines row)) 0 row
 
 abbrev pub flat : VerdictRow
-flat = record { Row = List ℕ; lines = flatLines; at = flat_at; rewritten = flatRewritten }
+flat = record { Row = List ℕ; lines = flatLines; at = flatAt; rewritten = flatRewritten }

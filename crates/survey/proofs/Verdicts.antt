@@ -8,13 +8,13 @@ use Prim.Native.Nat.{ℕ, suc, min}
 use native.Mathlib.Omega.{arith}
 use lib.Dec.{eqb, eqb→eq}
 use borrow.Author.Tests.{ne_eqb}
-use Rattle.spec.specs.Lists.{any, keep, gather, numbered, only_if, lowest}
+use Rattle.spec.specs.Lists.{any, keep, gather, numbered, onlyIf, lowest}
 use Rattle.spec.specs.Record.{bit, isKind, REFERS, flags, target, index, references}
 use Rattle.spec.specs.Sheet.{Group, classRecord, isInstanceField, isInterface}
 use Rattle.spec.specs.Markers.{Immutable, Powerless, Selfless, DeepSelfless}
 use Rattle.spec.specs.Classes.{Slot, fieldSlot, encloserSlots, fieldSlots, capturedSlots, ownSlots, superclasses, overlay, hasMarker, lineage, root, slots}
 use Rattle.spec.specs.Rules.{Fault, Verdict, clean, staticBreaks, slotFault, faultIf, faultsAt, memberAllowed, judgedFor, rootFits, baseFits, baseFaults, forbidden, slotFaults, rootFaults, rule1}
-use Rattle.spec.specs.Rules.{rule2, rule3, rule4, rule5, rule6, rule7, rule8, rule9, rule10, rules, place_in, firstBroken, verdictOf}
+use Rattle.spec.specs.Rules.{rule2, rule3, rule4, rule5, rule6, rule7, rule8, rule9, rule10, rules, placeIn, firstBroken, verdictOf}
 use Rattle.laws.proofs.Bools.{true-t, and_l, and_r}
 use Rattle.theory.proofs.Somewhere.{any_append, any-map, any-gather, any-keep, any-numbered, any_same, any-either, any-never, some, some-append, some-map, some-only, some-keep, some-gather}
 use Rattle.breaks.specs.Breaking.{lineBreaks}
@@ -99,7 +99,7 @@ module _ (nlib : ℕ) (g : ℕ → Group) (c : ℕ) where
 
     -- rules 7, 8 and 10 ask the root
     some-late : (k : ℕ) (extra : List Fault) → some extra ≡ any (rootBreaks g rule) (root nlib g c)
-        → some (only_if (judgedFor g k c) (slotFaults nlib g (slotFits g rule) c ++ extra)) ≡ (judgedFor g k c && lineBreaks nlib g rule c)
+        → some (onlyIf (judgedFor g k c) (slotFaults nlib g (slotFits g rule) c ++ extra)) ≡ (judgedFor g k c && lineBreaks nlib g rule c)
     unfolding lineBreaks
     some-late k extra e =
         some-only (judgedFor g k c) (slotFaults nlib g (slotFits g rule) c ++ extra)
@@ -187,5 +187,5 @@ module _ (nlib : ℕ) (g : ℕ → Group) (c : ℕ) where
   pub clean_is : isClean (verdictOf nlib g c) ≡ not (classBreaks nlib g c)
   unfolding verdictOf
   clean_is =
-      first-clean 0 (map (map (place_in c)) (rules nlib g c))
-      ∙ ap not (any-map some (map (place_in c)) (rules nlib g c) ∙ any_same (λ fs. some (map (place_in c) fs)) some (some-map (place_in c)) (rules nlib g c) ∙ sym breaks-is)
+      first-clean 0 (map (map (placeIn c)) (rules nlib g c))
+      ∙ ap not (any-map some (map (placeIn c)) (rules nlib g c) ∙ any_same (λ fs. some (map (placeIn c) fs)) some (some-map (placeIn c)) (rules nlib g c) ∙ sym breaks-is)

@@ -23,7 +23,7 @@ use Rattle.overlay.specs.Types.{Known}
 use Rattle.breaks.specs.Breaking.{lineBreaks}
 use Rattle.survey.specs.Survey.{isClean, headFails, anyLate, recordBreaks, lateBreaks, classBreaks, ClassSet}
 use Rattle.survey.proofs.Verdicts.{clean_is}
-use Rattle.slots.specs.Slots.{ruleMarker, Late, base_by}
+use Rattle.slots.specs.Slots.{ruleMarker, Late, baseBy}
 use Rattle.slots.proofs.Sets.{twice}
 use Rattle.survey.proofs.Lines.{interface-is, concrete, supers}
 use Rattle.records.proofs.Carried.{class-word-in, class-byte-in}
@@ -77,7 +77,7 @@ module _ {library user : List ℕ} {nlib n : ℕ} {starts : List ℕ} (x : Index
       pub interface-clean : f % 2 ≡ 1 → true ≡ isClean (verdictOf nlib g c)
       interface-clean o = says (left ∙ rw (interface-is x ok user-class there w ef, eq-eqb (f % 2) 1 o))
 
-      module _ (o : f % 2 ≡ 1 → ⊥) {y : Bool} (ey : y ≡ (eqb (m / 4 % 2) 1 && base_by bytes markers)) where
+      module _ (o : f % 2 ≡ 1 → ⊥) {y : Bool} (ey : y ≡ (eqb (m / 4 % 2) 1 && baseBy bytes markers)) where
         late-left : classBreaks nlib g c ≡ (y || anyLate (overlay g c) (λ rule. lineBreaks nlib g rule c))
         unfolding lateBreaks bit
         late-left =

@@ -4,13 +4,13 @@
 ghost use Rattle.std.specs.Prelude.{◌≡◌, true, false, not, ◌&&◌, ℕ, ◌+◌, ◌/◌, ◌%◌, ◌≤◌, ◌<◌, eqb, length};
 ghost use Rattle.spec.specs.Lists.{any};
 ghost use Rattle.spec.specs.Record.{u16, bit};
-ghost use Rattle.spec.specs.Sheet.{Group, group as group_of};
+ghost use Rattle.spec.specs.Sheet.{Group, group as groupOf};
 ghost use Rattle.spec.specs.Rules.{verdictOf};
 ghost use Rattle.laws.proofs.All.{All};
 ghost use Rattle.groups.specs.Groups.{Indexed};
 ghost use Rattle.overlay.specs.Types.{Known};
 ghost use Rattle.records.specs.Records.{between, AtRecord};
-ghost use Rattle.slots.specs.Slots.{ruleMarker, base_by};
+ghost use Rattle.slots.specs.Slots.{ruleMarker, baseBy};
 ghost use Rattle.breaks.specs.Breaking.{Bans, Refers, Judging};
 ghost use Rattle.survey.specs.Survey.{isClean, headFails, anyLate, recordBreaks, ClassSet, Passing, setsIn, KeepsFacts, Surveyed};
 
@@ -35,7 +35,7 @@ fn class_set<'a>(
     t: usize,
 ) -> u8
     ghost g: { ℕ → Group }
-    requires groups { group_of library.now user.now ≡ g }
+    requires groups { groupOf library.now user.now ≡ g }
     requires judging { Judging library.now user.now starts.now classes facts.now lanes.now }
     requires there { (t < classes.all) × Passing classes.library t g (setsIn facts.now) }
     ensures { ClassSet classes.library g t result }
@@ -65,7 +65,7 @@ pub fn passes<'a>(
     lanes: &[u8],
 )
     ghost g: { ℕ → Group }
-    requires groups { group_of library.now user.now ≡ g }
+    requires groups { groupOf library.now user.now ≡ g }
     requires judging { Judging library.now user.now starts.now classes facts.old lanes.now }
     ensures sets { Passing classes.library classes.all g (setsIn facts.new) }
     ensures rest { KeepsFacts classes.all facts.old facts.new }
@@ -108,7 +108,7 @@ fn covers(m: u8, set: u8) -> bool
 // Rule 9's second part, for a class with the markers m.
 fn base_lacks(m: u8, bytes: &[u8], markers: &[u8]) -> bool
     requires { 13 ≤ length bytes.now }
-    ensures { result ≡ (eqb (m / 4 % 2) 1 && base_by bytes.now markers.now) }
+    ensures { result ≡ (eqb (m / 4 % 2) 1 && baseBy bytes.now markers.now) }
 {
     if has(m, SELFLESS) {
         return base_breaks(bytes, markers);
@@ -129,7 +129,7 @@ fn records_fine<'a>(
     bytes: &[u8],
 ) -> bool
     ghost g: { ℕ → Group }
-    requires groups { group_of library.now user.now ≡ g }
+    requires groups { groupOf library.now user.now ≡ g }
     requires indexed { Indexed library.now user.now classes.library classes.all starts.now }
     requires known { Known g markers.now }
     requires at_record { AtRecord bytes.now (length bytes.now) 0 }
@@ -179,7 +179,7 @@ pub fn clean<'a>(
     c: usize,
 ) -> bool
     ghost g: { ℕ → Group }
-    requires groups { group_of library.now user.now ≡ g }
+    requires groups { groupOf library.now user.now ≡ g }
     requires surveyed { Surveyed library.now user.now starts.now classes facts.now }
     requires user_class { (classes.library ≤ c) × (c < classes.all) }
     ensures { result ≡ isClean (verdictOf classes.library g c) }

@@ -7,25 +7,25 @@ use native.Mathlib.Nat.{add-zero}
 use native.Mathlib.Omega.{arith}
 use lib.ListN.{length, get_or, set, take, drop, length-set, length-append, length-drop}
 use lib.Seq.{take-nil, append_snoc, take-suc, length-take-le, get_or-drop}
-use Rattle.text.specs.Text.{put_all, overlaid}
+use Rattle.text.specs.Text.{putAll, overlaid}
 
 -- ---- lengths
 
-pub put-length : (out : List ℕ) (at : ℕ) (bs : List ℕ) → length (put_all out at bs) ≡ length out
-unfolding put_all
+pub put-length : (out : List ℕ) (at : ℕ) (bs : List ℕ) → length (putAll out at bs) ≡ length out
+unfolding putAll
 put-length out at [] = refl
 put-length out at (b ∷ bs) = put-length (set out at b) (at + 1) bs ∙ length-set out at b
 
 -- ---- one part after another
 
-pub put-append : (out : List ℕ) (at : ℕ) (xs ys : List ℕ) → put_all out at (xs ++ ys) ≡ put_all (put_all out at xs) (at + length xs) ys
-unfolding put_all
+pub put-append : (out : List ℕ) (at : ℕ) (xs ys : List ℕ) → putAll out at (xs ++ ys) ≡ putAll (putAll out at xs) (at + length xs) ys
+unfolding putAll
 put-append out at [] ys = rw add-zero
 put-append out at (x ∷ xs) ys =
-    put-append (set out at x) (at + 1) xs ys ∙ ap (λ (k : ℕ). put_all (put_all (set out at x) (at + 1) xs) k ys) (omega arith)
+    put-append (set out at x) (at + 1) xs ys ∙ ap (λ (k : ℕ). putAll (putAll (set out at x) (at + 1) xs) k ys) (omega arith)
 
-pub put-snoc : (out : List ℕ) (at : ℕ) (xs : List ℕ) (b : ℕ) → put_all out at (xs ++ (b ∷ [])) ≡ set (put_all out at xs) (at + length xs) b
-unfolding put_all
+pub put-snoc : (out : List ℕ) (at : ℕ) (xs : List ℕ) (b : ℕ) → putAll out at (xs ++ (b ∷ [])) ≡ set (putAll out at xs) (at + length xs) b
+unfolding putAll
 put-snoc out at xs b = put-append out at xs (b ∷ [])
 
 -- ---- a text that grows
@@ -41,12 +41,12 @@ put_byte [] (y ∷ ys) b = rw (take-nil {A = ℕ} (length ys))
 put_byte (x ∷ xs) [] b = refl
 put_byte (x ∷ xs) (y ∷ ys) b = ap (λ (r : List ℕ). x ∷ r) (put_byte xs ys b)
 
-pub put-text : (text out bs : List ℕ) → put_all (overlaid text out) (length text) bs ≡ overlaid (text ++ bs) out
-unfolding put_all
+pub put-text : (text out bs : List ℕ) → putAll (overlaid text out) (length text) bs ≡ overlaid (text ++ bs) out
+unfolding putAll
 put-text text out [] = rw append-nil
 put-text text out (b ∷ bs) =
     rw (put_byte text out b)
-    (ap (λ (k : ℕ). put_all (overlaid (text ++ (b ∷ [])) out) k bs) (simp length-append)
+    (ap (λ (k : ℕ). putAll (overlaid (text ++ (b ∷ [])) out) k bs) (simp length-append)
     ∙ put-text (text ++ (b ∷ [])) out bs
     ∙ rw append_snoc)
 
@@ -64,11 +64,11 @@ pub record Copied (out₀ : List ℕ) (at : ℕ) (text : List ℕ) (from to : �
   pub low : from ≤ i
   pub high : i ≤ to
   pub place : to_at ≡ at + (i - from)
-  pub written : out ≡ put_all out₀ at (take (i - from) (drop from text))
+  pub written : out ≡ putAll out₀ at (take (i - from) (drop from text))
 
 module _ {out₀ : List ℕ} {at : ℕ} {text : List ℕ} {from to : ℕ} where
   pub copied-start : from ≤ to → Copied out₀ at text from to out₀ from at
-  unfolding put_all
+  unfolding putAll
   copied-start h =
       let e : from - from ≡ 0 = omega arith in
       record { low = omega arith; high = h; place = omega arith; written = rw e }

@@ -10,7 +10,7 @@ use native.Mathlib.Omega.{arith}
 use lib.Dec.{T, eqb, leb, ltb, eqb→eq, nleb→lt, nltb→le, lt→ltb}
 use lib.ListN.{length, get_or}
 use Rattle.spec.specs.Record.{kind, isKind, isClass, bit, flags, index, target, references, kindFits, lengthFits, bodyFits, IMPLEMENTS, LOCAL, USES, MEMBER, REFERS}
-use Rattle.spec.specs.Sheet.{Group, Located, locate, locatedIn, located, Split, splitGroups, recordsOf, wholeEnd, groups_of, classCount, total, group, groupReferences, ofKind}
+use Rattle.spec.specs.Sheet.{Group, Located, locate, locatedIn, located, Split, splitGroups, recordsOf, wholeEnd, groupsOf, classCount, total, group, groupReferences, ofKind}
 use Rattle.spec.specs.Sheet.{isInterface, isInstanceField}
 use Rattle.spec.specs.Markers.{clash}
 use Rattle.spec.specs.Classes.{overlay}
@@ -126,13 +126,13 @@ module _ (P : ℕ → List ℕ → Type 0) where
 
   -- what holds of the located records holds of each class's records with its number
   pub by-class : (lib user : List ℕ) → All (λ l. P l.class l.bytes) (located lib user) → (c : ℕ) → All (P c) (group lib user c)
-  unfolding located locatedIn group classCount groups_of
+  unfolding located locatedIn group classCount groupsOf
   by-class lib user h c =
       let a = grouped 0 0 0 0 0 (recordsOf lib) (all_left (λ l. P l.class l.bytes) (locatedIn 0 0 lib) (locatedIn 1 (classCount lib) user) h) in
       let b = grouped 1 0 (classCount lib) 0 0 (recordsOf user) (all_right (λ l. P l.class l.bytes) (locatedIn 0 0 lib) (locatedIn 1 (classCount lib) user) h) in
-      subst (λ (m : ℕ). All (P m) (get_or (groups_of lib ++ groups_of user) c [])) (zero-add c)
-      (each-get 0 (groups_of lib ++ groups_of user)
-      (each_append 0 (groups_of lib) (groups_of user) a.groups (subst (λ (m : ℕ). Each m (groups_of user)) (sym (zero-add (length (groups_of lib)))) b.groups)) c)
+      subst (λ (m : ℕ). All (P m) (get_or (groupsOf lib ++ groupsOf user) c [])) (zero-add c)
+      (each-get 0 (groupsOf lib ++ groupsOf user)
+      (each_append 0 (groupsOf lib) (groupsOf user) a.groups (subst (λ (m : ℕ). Each m (groupsOf user)) (sym (zero-add (length (groupsOf lib)))) b.groups)) c)
 
 -- ---- the second pass
 
@@ -177,7 +177,7 @@ pub record Clear (sheet n : ℕ) (s : List ℕ) : Type 0 where
   pub few : n ≤ 256 → n + classCount s ≤ 256
 
 pub clear : (sheet n : ℕ) (s : List ℕ) → recordRefusal sheet n s ≡ none → tornRefusal sheet s ≡ none → Clear sheet n s
-unfolding recordRefusal tornRefusal locatedIn classCount groups_of
+unfolding recordRefusal tornRefusal locatedIn classCount groupsOf
 clear sheet n s e e' =
     let p : All Passed (locatedIn sheet n s) = passing recordTests Passed passed (locatedIn sheet n s) e in
     record {

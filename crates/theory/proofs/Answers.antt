@@ -7,7 +7,7 @@ use mathlib.Core.Option.{Option, none, some}
 use Prim.Native.Nat.{ℕ}
 use native.Mathlib.Omega.{arith}
 use lib.Dec.{T}
-use Rattle.spec.specs.Lists.{first_of}
+use Rattle.spec.specs.Lists.{firstOf}
 use Rattle.spec.specs.Sheet.{Located}
 use Rattle.spec.specs.Refusals.{refuseIf, refusePlain, refuseRecord}
 use Rattle.laws.proofs.All.{All, weaken, all_map}
@@ -16,45 +16,45 @@ module _ {A : Type 0} where
   pub some≢none : (a : A) → Path (Option A) (some a) none → ⊥
   some≢none a e = let z : ◌≡◌ {A = ℕ} 0 1 = cc in omega arith
 
-  pub first-none : (os : List (Option A)) → first_of os ≡ none → All (λ o. o ≡ none) os
-  unfolding first_of
+  pub first-none : (os : List (Option A)) → firstOf os ≡ none → All (λ o. o ≡ none) os
+  unfolding firstOf
   first-none [] e = tt
   first-none (none ∷ os) e = (refl, first-none os e)
   first-none (some a ∷ os) e = absurd (some≢none a e)
 
-  pub none_first : (os : List (Option A)) → All (λ o. o ≡ none) os → first_of os ≡ none
-  unfolding first_of
+  pub none_first : (os : List (Option A)) → All (λ o. o ≡ none) os → firstOf os ≡ none
+  unfolding firstOf
   none_first [] h = refl
   none_first (none ∷ os) h = none_first os h.1
   none_first (some a ∷ os) h = absurd (some≢none a h.0)
 
   -- answers that are not there do not count
-  pub skip-none : (o : Option A) (os : List (Option A)) → o ≡ none → first_of (o ∷ os) ≡ first_of os
-  unfolding first_of
+  pub skip-none : (o : Option A) (os : List (Option A)) → o ≡ none → firstOf (o ∷ os) ≡ firstOf os
+  unfolding firstOf
   skip-none none os e = refl
   skip-none (some a) os e = absurd (some≢none a e)
 
-  pub first_some : {o : Option A} {a : A} (os : List (Option A)) → o ≡ some a → first_of (o ∷ os) ≡ some a
-  unfolding first_of
+  pub first_some : {o : Option A} {a : A} (os : List (Option A)) → o ≡ some a → firstOf (o ∷ os) ≡ some a
+  unfolding firstOf
   first_some os e = rw e
 
-  pub first-only : (o : Option A) → first_of (o ∷ []) ≡ o
-  unfolding first_of
+  pub first-only : (o : Option A) → firstOf (o ∷ []) ≡ o
+  unfolding firstOf
   first-only none = refl
   first-only (some a) = refl
 
-  pub first_past : (o x : Option A) → o ≡ none → first_of (o ∷ x ∷ []) ≡ x
+  pub first_past : (o x : Option A) → o ≡ none → firstOf (o ∷ x ∷ []) ≡ x
   first_past o x e = skip-none o (x ∷ []) e ∙ first-only x
 
   -- the first answer of a front part counts as one
-  pub first-append : (xs ys : List (Option A)) → first_of (xs ++ ys) ≡ first_of (first_of xs ∷ ys)
-  unfolding first_of
+  pub first-append : (xs ys : List (Option A)) → firstOf (xs ++ ys) ≡ firstOf (firstOf xs ∷ ys)
+  unfolding firstOf
   first-append [] ys = refl
   first-append (none ∷ xs) ys = first-append xs ys
   first-append (some x ∷ xs) ys = refl
 
-  pub keep-head : (o : Option A) (os os' : List (Option A)) → first_of os ≡ first_of os' → first_of (o ∷ os) ≡ first_of (o ∷ os')
-  unfolding first_of
+  pub keep-head : (o : Option A) (os os' : List (Option A)) → firstOf os ≡ firstOf os' → firstOf (o ∷ os) ≡ firstOf (o ∷ os')
+  unfolding firstOf
   keep-head none os os' e = e
   keep-head (some a) os os' e = refl
 
@@ -64,8 +64,8 @@ module _ {A : Type 0} where
     Gives none = Unit {0}
     Gives (some a) = P a
 
-    pub gives-first : (os : List (Option A)) → All Gives os → Gives (first_of os)
-    unfolding first_of
+    pub gives-first : (os : List (Option A)) → All Gives os → Gives (firstOf os)
+    unfolding firstOf
     gives-first [] h = tt
     gives-first (none ∷ os) h = gives-first os h.1
     gives-first (some a ∷ os) h = h.0
@@ -114,7 +114,7 @@ record-none l ts e =
 
 -- where no record of a list is refused, each meets none of its tests
 pub passing : (tests : Located → List (ℕ × Bool)) (P : Located → Type 0) → ((l : Located) → All Fails (tests l) → P l)
-    → (ls : List Located) → first_of (map (λ l. refuseRecord l (tests l)) ls) ≡ none → All P ls
+    → (ls : List Located) → firstOf (map (λ l. refuseRecord l (tests l)) ls) ≡ none → All P ls
 passing tests P f ls e =
     weaken (λ l. refuseRecord l (tests l) ≡ none) P (λ l k. f l (record-none l (tests l) k)) ls (of_map (λ o. o ≡ none) (λ l. refuseRecord l (tests l)) ls (first-none _ e))
 
@@ -125,5 +125,5 @@ none-record l ts h =
     none_first _ (all_map Fails (λ o. o ≡ none) (λ t. refuseIf t.1 t.0 l.sheet l.byte) (λ t f. none-if t.1 t.0 l.sheet l.byte f) ts h)
 
 pub unrefused : (tests : Located → List (ℕ × Bool)) (P : Located → Type 0) → ((l : Located) → P l → All Fails (tests l))
-    → (ls : List Located) → All P ls → first_of (map (λ l. refuseRecord l (tests l)) ls) ≡ none
+    → (ls : List Located) → All P ls → firstOf (map (λ l. refuseRecord l (tests l)) ls) ≡ none
 unrefused tests P f ls h = none_first _ (all_map P (λ o. o ≡ none) (λ l. refuseRecord l (tests l)) (λ l k. none-record l (tests l) (f l k)) ls h)

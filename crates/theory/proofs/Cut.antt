@@ -12,7 +12,7 @@ use lib.Seq.{take-append_seam, drop-append_seam, length-take-le}
 use borrow.Author.Tests.{le-leb}
 use Rattle.spec.specs.Lists.{any, concat}
 use Rattle.spec.specs.Record.{u16, isClass}
-use Rattle.spec.specs.Sheet.{Group, wholeFirst, recordsIn, recordsOf, wholeEnd, Split, splitGroups, groups_of, classCount}
+use Rattle.spec.specs.Sheet.{Group, wholeFirst, recordsIn, recordsOf, wholeEnd, Split, splitGroups, groupsOf, classCount}
 use Rattle.spec.specs.Refusals.{oneClass, wholeGroup}
 use Rattle.laws.proofs.All.{All, all_append, all_left, all_right, all_map}
 use Rattle.laws.proofs.Parts.{u16-take}
@@ -290,8 +290,8 @@ records-of-groups gs h =
     ∙ records-of-join (concat (map recordsOf gs)) (all-concat (map recordsOf gs) (all_map IsGroup (All Whole) recordsOf (λ g q. records-of-whole g) gs h))
 
 -- whole groups end to end are split into the same groups
-pub groups-of-join : (gs : List (List ℕ)) → All IsGroup gs → groups_of (concat gs) ≡ map recordsOf gs
-unfolding groups_of
+pub groups-of-join : (gs : List (List ℕ)) → All IsGroup gs → groupsOf (concat gs) ≡ map recordsOf gs
+unfolding groupsOf
 groups-of-join gs h =
     ap (λ (l : List (List ℕ)). (splitGroups l).groups) (records-of-groups gs h)
     ∙ (split-join (map recordsOf gs) (all_map IsGroup (λ r. T (oneClass r)) recordsOf group-one gs h)).1
@@ -306,8 +306,8 @@ unfolding concat
 parts P [] h = tt
 parts P (x ∷ xs) h = (all_left P x (concat xs) h, parts P xs (all_right P x (concat xs) h))
 
-pub in-groups : (P : List ℕ → Type 0) (s : List ℕ) → All P (recordsOf s) → All (All P) (groups_of s)
-unfolding groups_of
+pub in-groups : (P : List ℕ → Type 0) (s : List ℕ) → All P (recordsOf s) → All (All P) (groupsOf s)
+unfolding groupsOf
 in-groups P s h =
     parts P (splitGroups (recordsOf s)).groups
     (all_right P (splitGroups (recordsOf s)).loose (concat (splitGroups (recordsOf s)).groups) (subst (All P) (split_parts (recordsOf s)).joined h))
@@ -324,17 +324,17 @@ all-groups [] w o = tt
 all-groups (h ∷ hs) w o = (is-group h w.0 o.0, all-groups hs w.1 o.1)
 
 module _ (s : List ℕ) (end : wholeEnd s ≡ length s) (none-loose : (splitGroups (recordsOf s)).loose ≡ []) where
-  pub records-grouped : recordsOf s ≡ concat (groups_of s)
-  unfolding groups_of
+  pub records-grouped : recordsOf s ≡ concat (groupsOf s)
+  unfolding groupsOf
   records-grouped = (split_parts (recordsOf s)).joined ∙ ap (λ (l : List (List ℕ)). l ++ concat (splitGroups (recordsOf s)).groups) none-loose
 
-  pub sheet-grouped : concat (map concat (groups_of s)) ≡ s
-  sheet-grouped = concat-concat (groups_of s) ∙ ap concat (sym records-grouped) ∙ join-records s end
+  pub sheet-grouped : concat (map concat (groupsOf s)) ≡ s
+  sheet-grouped = concat-concat (groupsOf s) ∙ ap concat (sym records-grouped) ∙ join-records s end
 
-  pub sheet-groups : All IsGroup (map concat (groups_of s))
-  unfolding groups_of
+  pub sheet-groups : All IsGroup (map concat (groupsOf s))
+  unfolding groupsOf
   sheet-groups =
-      all-groups (groups_of s) (in-groups Whole s (records-of-whole s)) (split_parts (recordsOf s)).one
+      all-groups (groupsOf s) (in-groups Whole s (records-of-whole s)) (split_parts (recordsOf s)).one
 
 -- so the new sheet of an Add or a Replace is never torn: refusal 2 doesn't come from it
 pub whole_join : (gs : List (List ℕ)) → All IsGroup gs → wholeEnd (concat gs) ≡ length (concat gs)

@@ -7,15 +7,15 @@ use mathlib.Core.List.{List, [], ◌++◌, map, Memᴰ}
 use Prim.Native.Nat.{ℕ, suc, ◌≤◌, ◌<◌}
 use lib.Dec.{T, T_not, not_T, eqb, ltb, eqb→eq, ltb→lt, lt→ltb, lit<}
 use lib.ListN.{get_or, take}
-use Rattle.spec.specs.Lists.{any, gather, only_if}
+use Rattle.spec.specs.Lists.{any, gather, onlyIf}
 use Rattle.spec.specs.Record.{bit, isKind, FIELD, REFERS, flags, ownMarkers, target, index, Ty, fieldTy, isFinal, isTransient, isStatic, references}
 use Rattle.spec.specs.Sheet.{Group, classCount, group, classRecord, isInterface, isAllowed, isStaticField}
 use Rattle.spec.specs.Markers.{Immutable, Powerless, Selfless, Equatable, Token, Throwable, Enum, DeepSelfless, clash}
 use Rattle.spec.specs.Classes.{Slot, superclasses, overlay, hasMarker, satisfies, root}
 use Rattle.spec.specs.Rules.{Fault, faultIf, staticBreaks, memberAllowed, judgedFor, rootFits, baseFits, baseFaults, forbidden, slotFaults, rootFaults, rule1}
-use Rattle.spec.specs.Rules.{rule2, rule3, rule4, rule5, rule6, rule7, rule8, rule9, rule10, rules, place_in, verdictOf}
+use Rattle.spec.specs.Rules.{rule2, rule3, rule4, rule5, rule6, rule7, rule8, rule9, rule10, rules, placeIn, verdictOf}
 use Rattle.spec.specs.Relations.{At, Marked}
-use Rattle.spec.specs.Breaks.{Not, Flag, Allowed, Satisfies, SlotShape, field, fixed, type_of, Final, Transient, HasSlot, Lacks, slot, root as root-lacks, Varies, Drops}
+use Rattle.spec.specs.Breaks.{Not, Flag, Allowed, Satisfies, SlotShape, field, fixed, typeOf, Final, Transient, HasSlot, Lacks, slot, root as root-lacks, Varies, Drops}
 use Rattle.spec.specs.Breaks.{SelflessBase, marked, overrides, UnfitBase, unfit, Claims, Breaks, rule1 as breaks1, rule2 as breaks2, rule3 as breaks3, rule4 as breaks4}
 use Rattle.spec.specs.Breaks.{rule5 as breaks5, rule6 as breaks6, rule7 as breaks7, rule8 as breaks8, rule9 as breaks9, rule10 as breaks10}
 use Rattle.spec.specs.Verdicts.{verdictAt}
@@ -201,7 +201,7 @@ module _ (nlib : ℕ) (g : ℕ → Group) (f : Falls g) (rel : Relations nlib g)
         record { slot = s.slot; member = s.member; fails = (not-fails (ok s.slot) (e s.slot h.0 s.shows)).1 h.2; place = s.place }),
   )
 
-  slot-type : (m : ℕ) → m < 8 → (s : Slot) (x : SlotShape) → Shows s x → T (satisfies g m s.type) ↔ Satisfies g m (type_of x)
+  slot-type : (m : ℕ) → m < 8 → (s : Slot) (x : SlotShape) → Shows s x → T (satisfies g m s.type) ↔ Satisfies g m (typeOf x)
   slot-type m h s x w = subst (λ (t : Ty). T (satisfies g m s.type) ↔ Satisfies g m t) w.type (satisfied m s.type h)
 
   root-fits : (m d : ℕ) → m < 8 → T (not (rootFits g m d)) ↔ ((d ≢ 0) × Not (Marked g d m))
@@ -214,7 +214,7 @@ module _ (nlib : ℕ) (g : ℕ → Group) (f : Falls g) (rel : Relations nlib g)
   -- slots' types and the root, for one marker: rules 7, 8 and 10
   lacks-sound : (m : ℕ) → m < 8 → (k : ℕ) → Fails (λ s. satisfies g m s.type) k ⊎ Stands c (rootFaults nlib g m c) k → Lacks nlib g m c k
   unfolding rootFaults
-  lacks-sound m h k (inl b) = let q = (shape_is (λ s. satisfies g m s.type) (λ x. Satisfies g m (type_of x)) (slot-type m h) k).0 b in slot q.1 q.2
+  lacks-sound m h k (inl b) = let q = (shape_is (λ s. satisfies g m s.type) (λ x. Satisfies g m (typeOf x)) (slot-type m h) k).0 b in slot q.1 q.2
   lacks-sound m h k (inr b) =
       let q = (stands-gather c (λ d. d) (λ d. not (rootFits g m d)) (root nlib g c) k).0 b in
       let w = (root-fits m q.0 h).0 q.2 in
@@ -222,13 +222,13 @@ module _ (nlib : ℕ) (g : ℕ → Group) (f : Falls g) (rel : Relations nlib g)
 
   lacks-complete : (m : ℕ) → m < 8 → {k : ℕ} → Lacks nlib g m c k → Fails (λ s. satisfies g m s.type) k ⊎ Stands c (rootFaults nlib g m c) k
   unfolding rootFaults
-  lacks-complete m h {k} (slot {s = x} p n) = inl ((shape_is (λ s. satisfies g m s.type) (λ x. Satisfies g m (type_of x)) (slot-type m h) k).1 (x, p, n))
+  lacks-complete m h {k} (slot {s = x} p n) = inl ((shape_is (λ s. satisfies g m s.type) (λ x. Satisfies g m (typeOf x)) (slot-type m h) k).1 (x, p, n))
   lacks-complete m h (root-lacks {d} p z n) =
       inr ((stands-gather c (λ d. d) (λ d. not (rootFits g m d)) (root nlib g c) 0).1 (d, (rel.root c d user).1 p, (root-fits m d h).1 (z, n), refl))
 
   -- rules 8 and 10
   marker-rule : ℕ → List Fault
-  marker-rule m = only_if (judgedFor g m c) (slotFaults nlib g (λ s. satisfies g m s.type) c ++ rootFaults nlib g m c)
+  marker-rule m = onlyIf (judgedFor g m c) (slotFaults nlib g (λ s. satisfies g m s.type) c ++ rootFaults nlib g m c)
 
   marker-is : (m : ℕ) → m < 8 → (k : ℕ) → Stands c (marker-rule m) k ↔ (Claims nlib g m c × Lacks nlib g m c k)
   unfolding marker-rule
@@ -335,7 +335,7 @@ module _ (nlib : ℕ) (g : ℕ → Group) (f : Falls g) (rel : Relations nlib g)
       rs : List Fault
       rs = rootFaults nlib g Immutable c
 
-      o : Stands c (only_if (judgedFor g Immutable c) (fs ++ rs)) k ↔ (T (judgedFor g Immutable c) × Stands c (fs ++ rs) k)
+      o : Stands c (onlyIf (judgedFor g Immutable c) (fs ++ rs)) k ↔ (T (judgedFor g Immutable c) × Stands c (fs ++ rs) k)
       o = stands-only c (judgedFor g Immutable c) (fs ++ rs) k
 
       a : Stands c (fs ++ rs) k ↔ (Stands c fs k ⊎ Stands c rs k)
@@ -378,7 +378,7 @@ module _ (nlib : ℕ) (g : ℕ → Group) (f : Falls g) (rel : Relations nlib g)
       bs : List Fault
       bs = baseFaults g c
 
-      o : Stands c (only_if (judgedFor g Selfless c) (fs ++ bs)) k ↔ (T (judgedFor g Selfless c) × Stands c (fs ++ bs) k)
+      o : Stands c (onlyIf (judgedFor g Selfless c) (fs ++ bs)) k ↔ (T (judgedFor g Selfless c) × Stands c (fs ++ bs) k)
       o = stands-only c (judgedFor g Selfless c) (fs ++ bs) k
 
       a : Stands c (fs ++ bs) k ↔ (Stands c fs k ⊎ Stands c bs k)
@@ -409,7 +409,7 @@ module _ (nlib : ℕ) (g : ℕ → Group) (f : Falls g) (rel : Relations nlib g)
   -- ---- the verdict
 
   places : List (List ℕ)
-  places = map (map (place_in c)) (rules nlib g c)
+  places = map (map (placeIn c)) (rules nlib g c)
 
   told : Told (Breaks nlib g c) 1 places
   unfolding places rules rule8 rule10 marker-rule

@@ -8,10 +8,10 @@ use mathlib.Core.List.{List, [], ◌∷◌, ◌++◌, map, Memᴰ}
 use Prim.Native.Nat.{ℕ}
 use native.Mathlib.Nat.{zero-add}
 use lib.Dec.{T}
-use Rattle.spec.specs.Lists.{keep, gather, numbered, only_if}
+use Rattle.spec.specs.Lists.{keep, gather, numbered, onlyIf}
 use Rattle.spec.specs.Sheet.{Group}
 use Rattle.spec.specs.Classes.{Slot, slots}
-use Rattle.spec.specs.Rules.{Fault, slotFault, faultIf, faultsAt, slotFaults, place_in}
+use Rattle.spec.specs.Rules.{Fault, slotFault, faultIf, faultsAt, slotFaults, placeIn}
 use Rattle.spec.specs.Relations.{At}
 use Rattle.laws.proofs.Members.{gather-mem, mem-gather, keep-mem, mem-keep, only-mem, mem-only, numbered-at, at-numbered}
 use Rattle.theory.proofs.Slots.{place-own, place-zero}
@@ -20,12 +20,12 @@ use Rattle.theory.proofs.Slots.{place-own, place-zero}
 pub record Stands (c : ℕ) (fs : List Fault) (k : ℕ) : Type 0 where
   pub fault : Fault
   pub member : Memᴰ fault fs
-  pub place : place_in c fault ≡ k
+  pub place : placeIn c fault ≡ k
 
-pub stands-is : (c : ℕ) (fs : List Fault) (k : ℕ) → Memᴰ k (map (place_in c) fs) ↔ Stands c fs k
+pub stands-is : (c : ℕ) (fs : List Fault) (k : ℕ) → Memᴰ k (map (placeIn c) fs) ↔ Stands c fs k
 stands-is c fs k = (
-  (λ m. let a = Memᴰ.of_map (place_in c) fs m in record { fault = a.0; member = a.1; place = a.2 }),
-  (λ h. subst (λ (x : ℕ). Memᴰ x (map (place_in c) fs)) h.place (Memᴰ.map (place_in c) h.member)),
+  (λ m. let a = Memᴰ.of_map (placeIn c) fs m in record { fault = a.0; member = a.1; place = a.2 }),
+  (λ h. subst (λ (x : ℕ). Memᴰ x (map (placeIn c) fs)) h.place (Memᴰ.map (placeIn c) h.member)),
 )
 
 pub stands-append : (c : ℕ) (fs gs : List Fault) (k : ℕ) → Stands c (fs ++ gs) k ↔ (Stands c fs k ⊎ Stands c gs k)
@@ -39,7 +39,7 @@ stands-append c fs gs k = ((λ h. go h (Memᴰ.append_cases fs h.member)), back)
     back (inl h) = record { fault = h.fault; member = Memᴰ.append_left gs h.member; place = h.place }
     back (inr h) = record { fault = h.fault; member = Memᴰ.append_right fs h.member; place = h.place }
 
-pub stands-only : (c : ℕ) (b : Bool) (fs : List Fault) (k : ℕ) → Stands c (only_if b fs) k ↔ (T b × Stands c fs k)
+pub stands-only : (c : ℕ) (b : Bool) (fs : List Fault) (k : ℕ) → Stands c (onlyIf b fs) k ↔ (T b × Stands c fs k)
 stands-only c b fs k = (
   (λ h. let m = only-mem b fs h.member in (m.0, record { fault = h.fault; member = m.1; place = h.place })),
   (λ h. record { fault = h.1.fault; member = mem-only b fs h.0 h.1.member; place = h.1.place }),
@@ -50,7 +50,7 @@ unfolding faultIf
 stands-if c d b k = (
   (λ h.
       let m = only-mem b (record { class = d; recordNumber = 0 } ∷ []) h.member in
-      (m.0, sym h.place ∙ ap (place_in c) (Memᴰ.eq_of_singleton m.1) ∙ place-zero c d)),
+      (m.0, sym h.place ∙ ap (placeIn c) (Memᴰ.eq_of_singleton m.1) ∙ place-zero c d)),
   (λ h. record { fault = record { class = d; recordNumber = 0 }; member = mem-only b _ h.0 (Memᴰ.head refl); place = place-zero c d ∙ sym h.1 }),
 )
 
@@ -82,7 +82,7 @@ stands_at g c bad k = (
       let p = numbered-at 0 (g c) a.0 q.0 in
       record {
         bytes = a.0.1;
-        at = subst (λ (n : ℕ). At (g c) n a.0.1) (sym (zero-add p.number) ∙ sym p.is ∙ sym (place-own c a.0.0) ∙ ap (place_in c) a.2 ∙ h.place) p.at;
+        at = subst (λ (n : ℕ). At (g c) n a.0.1) (sym (zero-add p.number) ∙ sym p.is ∙ sym (place-own c a.0.0) ∙ ap (placeIn c) a.2 ∙ h.place) p.at;
         is = q.1;
       }),
   (λ h. record {
@@ -98,7 +98,7 @@ pub record Failing (nlib : ℕ) (g : ℕ → Group) (c : ℕ) (ok : Slot → Boo
   pub slot : Slot
   pub member : Memᴰ slot (slots nlib g c)
   pub fails : T (not (ok slot))
-  pub place : place_in c (slotFault slot) ≡ k
+  pub place : placeIn c (slotFault slot) ≡ k
 
 pub failing-is : (nlib : ℕ) (g : ℕ → Group) (c : ℕ) (ok : Slot → Bool) (k : ℕ) → Stands c (slotFaults nlib g ok c) k ↔ Failing nlib g c ok k
 unfolding slotFaults
@@ -106,6 +106,6 @@ failing-is nlib g c ok k = (
   (λ h.
       let a = Memᴰ.of_map slotFault (keep (λ s. not (ok s)) (slots nlib g c)) h.member in
       let q = keep-mem (λ s. not (ok s)) (slots nlib g c) a.0 a.1 in
-      record { slot = a.0; member = q.0; fails = q.1; place = ap (place_in c) a.2 ∙ h.place }),
+      record { slot = a.0; member = q.0; fails = q.1; place = ap (placeIn c) a.2 ∙ h.place }),
   (λ h. record { fault = slotFault h.slot; member = Memᴰ.map slotFault (mem-keep (λ s. not (ok s)) h.member h.fails); place = h.place }),
 )

@@ -10,7 +10,7 @@ use native.Mathlib.Omega.{arith}
 use lib.Dec.{T, eqb, leb}
 use lib.ListN.{length, get_or}
 use Rattle.spec.specs.Record.{kind, isKind, isClass, bit, flags, target, index, references, IMPLEMENTS, LOCAL, USES, MEMBER, REFERS}
-use Rattle.spec.specs.Sheet.{Group, Located, locate, locatedIn, located, Split, splitGroups, recordsOf, groups_of, classCount, total, group, ofKind, isInterface, isInstanceField}
+use Rattle.spec.specs.Sheet.{Group, Located, locate, locatedIn, located, Split, splitGroups, recordsOf, groupsOf, classCount, total, group, ofKind, isInterface, isInstanceField}
 use Rattle.spec.specs.Refusals.{noSuchClass, noSuchIndex, superclassFits, encloserFits, implementsFits, usesFits, nameMet, formTests, formRefusal}
 use Rattle.spec.proofs.Also.{◌also◌}
 use Rattle.laws.proofs.Bools.{not-and, implied, nleb}
@@ -55,14 +55,14 @@ module _ (P : ℕ → List ℕ → Type 0) where
 
   pub of-class : (lib user : List ℕ) → (splitGroups (recordsOf lib)).loose ≡ [] → (splitGroups (recordsOf user)).loose ≡ []
       → ((c : ℕ) → All (P c) (group lib user c)) → All (λ l. P l.class l.bytes) (located lib user)
-  unfolding located locatedIn group classCount groups_of
+  unfolding located locatedIn group classCount groupsOf
   of-class lib user el eu h =
-      let e = each_of 0 (groups_of lib ++ groups_of user) (λ i. subst (λ (m : ℕ). All (P m) (get_or (groups_of lib ++ groups_of user) i [])) (sym (zero-add i)) (h i)) in
+      let e = each_of 0 (groupsOf lib ++ groupsOf user) (λ i. subst (λ (m : ℕ). All (P m) (get_or (groupsOf lib ++ groupsOf user) i [])) (sym (zero-add i)) (h i)) in
       all_append (λ l. P l.class l.bytes) (locatedIn 0 0 lib) (locatedIn 1 (classCount lib) user)
-      (spread 0 0 0 0 0 (recordsOf lib) (record { loose = subst (All (P (0 - 1))) (sym el) tt; groups = each_left 0 (groups_of lib) (groups_of user) e }))
+      (spread 0 0 0 0 0 (recordsOf lib) (record { loose = subst (All (P (0 - 1))) (sym el) tt; groups = each_left 0 (groupsOf lib) (groupsOf user) e }))
       (spread 1 0 (classCount lib) 0 0 (recordsOf user) (record {
         loose = subst (All (P (classCount lib - 1))) (sym eu) tt;
-        groups = subst (λ (m : ℕ). Each P m (groups_of user)) (zero-add (length (groups_of lib))) (each_right 0 (groups_of lib) (groups_of user) e);
+        groups = subst (λ (m : ℕ). Each P m (groupsOf user)) (zero-add (length (groupsOf lib))) (each_right 0 (groupsOf lib) (groupsOf user) e);
       }))
 
 -- ---- the second pass

@@ -14,7 +14,7 @@ use borrow.Author.Tests.{ne_eqb}
 use lib.ListN.{length, get_or, set, take, drop, length-set}
 use lib.Seq.{get_or-set_same, get_or-set_other, ext_get_or, sets, length-sets, sets-eq, paste, take_all}
 use Rattle.spec.specs.Rules.{Verdict}
-use Rattle.spec.specs.Verdicts.{verdictBytes, flatLines, flat_at, bytes_of, mapFrom, flatByte, flatRewritten}
+use Rattle.spec.specs.Verdicts.{verdictBytes, flatLines, flatAt, bytesOf, mapFrom, flatByte, flatRewritten}
 use Rattle.laws.proofs.Bools.{t_true, t-false, t-and, and_r, not-mono, eq→eqb}
 
 -- ---- a row of lines of w bytes
@@ -36,8 +36,8 @@ line-ends w n i h = omega (arith, mul-suc w i, mul-le-mul_left w h, mul-div-le n
 pub width_some : 0 < verdictBytes
 width_some = omega arith
 
-pub bytes-long : (v : Verdict) → length (bytes_of v) ≡ verdictBytes
-unfolding bytes_of
+pub bytes-long : (v : Verdict) → length (bytesOf v) ≡ verdictBytes
+unfolding bytesOf
 bytes-long v = refl
 
 pub line-room : (row : List ℕ) {i : ℕ} → i < flatLines row → verdictBytes * i + verdictBytes ≤ length row
@@ -89,13 +89,13 @@ module _ (f : ℕ → ℕ → ℕ) where
 
 module _ (changed : ℕ → Bool) (v : ℕ → Verdict) (n i j : ℕ) (x : ℕ) where
   byteIf : Bool → ℕ
-  byteIf b = elim b [ true ↦ get_or (bytes_of (v i)) (j % verdictBytes) 0 | false ↦ x ]
+  byteIf b = elim b [ true ↦ get_or (bytesOf (v i)) (j % verdictBytes) 0 | false ↦ x ]
 
   byte-is : j / verdictBytes ≡ i → flatByte changed v n j x ≡ byteIf (ltb i n && changed i)
   unfolding flatByte byteIf
-  byte-is e = ap (λ (k : ℕ). elim (ltb k n && changed k) as (λ (b : Bool). ℕ) [ true ↦ get_or (bytes_of (v k)) (j % verdictBytes) 0 | false ↦ x ]) e
+  byte-is e = ap (λ (k : ℕ). elim (ltb k n && changed k) as (λ (b : Bool). ℕ) [ true ↦ get_or (bytesOf (v k)) (j % verdictBytes) 0 | false ↦ x ]) e
 
-  byte-new : j / verdictBytes ≡ i → i < n → T (changed i) → flatByte changed v n j x ≡ get_or (bytes_of (v i)) (j % verdictBytes) 0
+  byte-new : j / verdictBytes ≡ i → i < n → T (changed i) → flatByte changed v n j x ≡ get_or (bytesOf (v i)) (j % verdictBytes) 0
   unfolding byteIf
   byte-new e h t = byte-is e ∙ ap byteIf (t_true (ltb i n && changed i) (t-and (ltb i n) (changed i) (lt→ltb i n h) t))
 
@@ -115,18 +115,18 @@ rewritten-lines changed v row = ap (λ (n : ℕ). n / verdictBytes) (rewritten-l
 
 module _ (changed : ℕ → Bool) (v : ℕ → Verdict) (row : List ℕ) (i : ℕ) where
   module _ (h : i < flatLines row) (t : T (changed i)) where
-    pub read-new : (j : ℕ) → j / verdictBytes ≡ i → get_or (flatRewritten changed v row) j 0 ≡ get_or (bytes_of (v i)) (j % verdictBytes) 0
+    pub read-new : (j : ℕ) → j / verdictBytes ≡ i → get_or (flatRewritten changed v row) j 0 ≡ get_or (bytesOf (v i)) (j % verdictBytes) 0
     unfolding flatRewritten
     read-new j e =
         from-new (flatByte changed v (flatLines row)) 0 row j (omega (arith, line-room row h, of-line verdictBytes i j e, mod-lt j width_some))
         ∙ ap (λ (k : ℕ). flatByte changed v (flatLines row) k (get_or row j 0)) (zero-add j)
         ∙ byte-new changed v (flatLines row) i j (get_or row j 0) e h t
 
-    pub line-new : (j : ℕ) → j < verdictBytes → get_or (flatRewritten changed v row) (verdictBytes * i + j) 0 ≡ get_or (bytes_of (v i)) j 0
-    line-new j l = let o = line_of verdictBytes i j l in read-new (verdictBytes * i + j) o.0 ∙ ap (λ (k : ℕ). get_or (bytes_of (v i)) k 0) o.1
+    pub line-new : (j : ℕ) → j < verdictBytes → get_or (flatRewritten changed v row) (verdictBytes * i + j) 0 ≡ get_or (bytesOf (v i)) j 0
+    line-new j l = let o = line_of verdictBytes i j l in read-new (verdictBytes * i + j) o.0 ∙ ap (λ (k : ℕ). get_or (bytesOf (v i)) k 0) o.1
 
-    pub at_new : flat_at (flatRewritten changed v row) i ≡ v i
-    unfolding flat_at bytes_of
+    pub at_new : flatAt (flatRewritten changed v row) i ≡ v i
+    unfolding flatAt bytesOf
     at_new k = record { rule = (rw add-zero at (line-new 0 width_some)) k; recordNumber = line-new 1 (omega arith) k }
 
   module _ (t : T (not (changed i))) where
@@ -139,8 +139,8 @@ module _ (changed : ℕ → Bool) (v : ℕ → Verdict) (row : List ℕ) (i : �
     pub line_kept : (j : ℕ) → j < verdictBytes → get_or (flatRewritten changed v row) (verdictBytes * i + j) 0 ≡ get_or row (verdictBytes * i + j) 0
     line_kept j l = read_kept (verdictBytes * i + j) (line_of verdictBytes i j l).0
 
-    pub at-kept : flat_at (flatRewritten changed v row) i ≡ flat_at row i
-    unfolding flat_at
+    pub at-kept : flatAt (flatRewritten changed v row) i ≡ flatAt row i
+    unfolding flatAt
     at-kept k = record { rule = (rw add-zero at (line_kept 0 width_some)) k; recordNumber = line_kept 1 (omega arith) k }
 
 -- ---- the whole row
@@ -165,7 +165,7 @@ module _ (v : ℕ → Verdict) (row : List ℕ) where
   unfolding flatByte
   byte-same p q j x e =
       let i = j / verdictBytes in
-      ap (λ (b : Bool). elim (ltb i (flatLines row) && b) as (λ (c : Bool). ℕ) [ true ↦ get_or (bytes_of (v i)) (j % verdictBytes) 0 | false ↦ x ]) e
+      ap (λ (b : Bool). elim (ltb i (flatLines row) && b) as (λ (c : Bool). ℕ) [ true ↦ get_or (bytesOf (v i)) (j % verdictBytes) 0 | false ↦ x ]) e
 
   pub rewritten-same : (p q : ℕ → Bool) → ((i : ℕ) → p i ≡ q i) → flatRewritten p v row ≡ flatRewritten q v row
   rewritten-same p q e =
@@ -173,7 +173,7 @@ module _ (v : ℕ → Verdict) (row : List ℕ) where
 
   -- one verdict more is written, byte by byte
   pub rewritten-more : (p q : ℕ → Bool) (i : ℕ) → i < flatLines row → T (q i) → ((k : ℕ) → (k ≡ i → ⊥) → p k ≡ q k)
-      → sets (flatRewritten p v row) (verdictBytes * i) (bytes_of (v i)) ≡ flatRewritten q v row
+      → sets (flatRewritten p v row) (verdictBytes * i) (bytesOf (v i)) ≡ flatRewritten q v row
   rewritten-more p q i h t same =
       rewritten-by q (sets r at bytes) (length-sets r at bytes ∙ rewritten-length p v row) (λ j l. go j l (ℕ_discrete (j / verdictBytes) i))
     where
@@ -184,7 +184,7 @@ module _ (v : ℕ → Verdict) (row : List ℕ) where
       at = verdictBytes * i
 
       bytes : List ℕ
-      bytes = bytes_of (v i)
+      bytes = bytesOf (v i)
 
       room : at + length bytes ≤ length r
       room = rw (bytes-long (v i), rewritten-length p v row) (line-room row h)
@@ -200,12 +200,12 @@ module _ (v : ℕ → Verdict) (row : List ℕ) where
           ∙ byte-same p q j (get_or row j 0) (same (j / verdictBytes) n)
 
 -- one verdict alone is written, all of its bytes at once
-pub line-put : (v : Verdict) (row : List ℕ) (i : ℕ) → i < flatLines row → paste row (verdictBytes * i) (bytes_of v) verdictBytes ≡ flatRewritten (λ j. eqb j i) (λ j. v) row
+pub line-put : (v : Verdict) (row : List ℕ) (i : ℕ) → i < flatLines row → paste row (verdictBytes * i) (bytesOf v) verdictBytes ≡ flatRewritten (λ j. eqb j i) (λ j. v) row
 line-put v row i h =
     let at : ℕ = verdictBytes * i in
-    let w : length (bytes_of v) ≡ verdictBytes = bytes-long v in
-    ap (λ (bs : List ℕ). (take at row ++ bs) ++ drop (at + verdictBytes) row) (take_all verdictBytes (bytes_of v) (omega arith))
-    ∙ ap (λ (k : ℕ). (take at row ++ bytes_of v) ++ drop (at + k) row) (sym w)
-    ∙ sym (sets-eq (bytes_of v) row at (rw w (line-room row h)))
-    ∙ ap (λ (r : List ℕ). sets r at (bytes_of v)) (rewritten-none (λ j. v) row (λ j. false) (λ j. tt))
+    let w : length (bytesOf v) ≡ verdictBytes = bytes-long v in
+    ap (λ (bs : List ℕ). (take at row ++ bs) ++ drop (at + verdictBytes) row) (take_all verdictBytes (bytesOf v) (omega arith))
+    ∙ ap (λ (k : ℕ). (take at row ++ bytesOf v) ++ drop (at + k) row) (sym w)
+    ∙ sym (sets-eq (bytesOf v) row at (rw w (line-room row h)))
+    ∙ ap (λ (r : List ℕ). sets r at (bytesOf v)) (rewritten-none (λ j. v) row (λ j. false) (λ j. tt))
     ∙ rewritten-more (λ j. v) row (λ j. false) (λ j. eqb j i) i h (eq→eqb {m = i} refl) (λ k ne. sym (ne_eqb k i ne))

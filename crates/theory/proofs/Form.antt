@@ -15,7 +15,7 @@ use Rattle.spec.specs.Rules.{dependencies}
 use Rattle.spec.specs.Verdicts.{dependsOn}
 use Rattle.spec.specs.Lists.{elem, any, keep, gather, numbered}
 use Rattle.spec.specs.Record.{Bytes, u8, u16, bit, isKind, isClass, flags, ownMarkers, superclass, target, index, none16, unlessNone, references, CLASS, LOCAL}
-use Rattle.spec.specs.Sheet.{Group, wholeFirst, recordsIn, recordsOf, groups_of, classCount, total, group, classRecord, ofKind, isInterface}
+use Rattle.spec.specs.Sheet.{Group, wholeFirst, recordsIn, recordsOf, groupsOf, classCount, total, group, classRecord, ofKind, isInterface}
 use Rattle.spec.specs.Classes.{superclasses, locals, lineageIn, lineage, rootIn, root}
 use Rattle.spec.specs.Relations.{Depends, Superclass, References, Uses, Root}
 use Rattle.spec.specs.Breaks.{Not, Flag}
@@ -56,16 +56,16 @@ records-bytes (suc n) s h = go (wholeFirst s) (records-bytes n)
     go true ih = (all_take Byte (u16 s 0) s h, ih (drop (u16 s 0) s) (all_drop Byte (u16 s 0) s h))
     go false ih = tt
 
-group-bytes : (s : List ℕ) → All Byte s → All (All (All Byte)) (groups_of s)
+group-bytes : (s : List ℕ) → All Byte s → All (All (All Byte)) (groupsOf s)
 unfolding recordsOf
 group-bytes s h = in-groups (All Byte) s (records-bytes (length s) s h)
 
 markers-low : (library user : List ℕ) → All Byte library → All Byte user → (c : ℕ) → ownMarkers (classRecord (group library user c)) < 256
 unfolding group classRecord ownMarkers u8 Byte
 markers-low library user hl hu c =
-    let g : Group = get_or (groups_of library ++ groups_of user) c [] in
+    let g : Group = get_or (groupsOf library ++ groupsOf user) c [] in
     let h : All (All Byte) g =
-    all-get (All (All Byte)) [] (groups_of library ++ groups_of user) (all_append (All (All Byte)) (groups_of library) (groups_of user) (group-bytes library hl) (group-bytes user hu)) tt c in
+    all-get (All (All Byte)) [] (groupsOf library ++ groupsOf user) (all_append (All (All Byte)) (groupsOf library) (groupsOf user) (group-bytes library hl) (group-bytes user hu)) tt c in
     all-get Byte 0 (get_or g 0 []) (all-get (All Byte) [] g h tt 0) (lit< tt) 6
 
 -- ---- one CLASS record
@@ -90,14 +90,14 @@ class-first P (r ∷ rs) o a = (a.0, and_l (isClass r) (not (any isClass rs)) o)
 -- past the last class there is no group
 pub group-past : (library user : List ℕ) (c : ℕ) → total library user ≤ c → group library user c ≡ []
 unfolding group total classCount
-group-past library user c h = get_or-eq_default (groups_of library ++ groups_of user) [] (omega (arith, length-append (groups_of library) (groups_of user)))
+group-past library user c h = get_or-eq_default (groupsOf library ++ groupsOf user) [] (omega (arith, length-append (groupsOf library) (groupsOf user)))
 
 pub group-one-class : (library user : List ℕ) (c : ℕ) → c < total library user → T (oneClass (group library user c))
-unfolding group total classCount groups_of
+unfolding group total classCount groupsOf
 group-one-class library user c h =
-    all-at (λ h. T (oneClass h)) [] (groups_of library ++ groups_of user)
-    (all_append (λ h. T (oneClass h)) (groups_of library) (groups_of user) (split_parts (recordsOf library)).one (split_parts (recordsOf user)).one)
-    c (omega (arith, length-append (groups_of library) (groups_of user)))
+    all-at (λ h. T (oneClass h)) [] (groupsOf library ++ groupsOf user)
+    (all_append (λ h. T (oneClass h)) (groupsOf library) (groupsOf user) (split_parts (recordsOf library)).one (split_parts (recordsOf user)).one)
+    c (omega (arith, length-append (groupsOf library) (groupsOf user)))
 
 unless-one : (x : ℕ) → x < 256 → unlessNone x ≡ x ∷ []
 unfolding unlessNone

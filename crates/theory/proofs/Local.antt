@@ -6,12 +6,12 @@ use mathlib.Core.List.{List, [], ◌∷◌, ◌++◌, map}
 use Prim.Native.Nat.{ℕ, zero, suc}
 use lib.Dec.{T, eqb, ltb}
 use lib.ListN.{length, get_or, take, drop}
-use Rattle.spec.specs.Lists.{any, keep, gather, numbered, only_if, elem, ascending}
+use Rattle.spec.specs.Lists.{any, keep, gather, numbered, onlyIf, elem, ascending}
 use Rattle.spec.specs.Record.{bit, isKind, CLASS, IMPLEMENTS, FIELD, LOCAL, BUILDS, MEMBER, REFERS, flags, ownMarkers, superclass, encloser}
-use Rattle.spec.specs.Record.{target, index, Ty, fieldTy, local_ty, isFinal, isStatic, unlessNone, tyReferences, references}
+use Rattle.spec.specs.Record.{target, index, Ty, fieldTy, localTy, isFinal, isStatic, unlessNone, tyReferences, references}
 use Rattle.spec.specs.Sheet.{Group, classCount, group, classRecord, groupReferences, ofKind, isInterface, isInner, isAllowed, isStaticField, isInstanceField}
 use Rattle.spec.specs.Markers.{Immutable, Powerless, Selfless, DeepSelfless, closure, union, unionAll}
-use Rattle.spec.specs.Classes.{superclasses, enclosing, targets, supertypes, locals, local_at, usedIndexes, classTy, Slot, fieldSlot, encloserSlot}
+use Rattle.spec.specs.Classes.{superclasses, enclosing, targets, supertypes, locals, localAt, usedIndexes, classTy, Slot, fieldSlot, encloserSlot}
 use Rattle.spec.specs.Classes.{variableSlot, gathered, overlay, hasMarker, satisfies, enclosersIn, enclosers, inside, lineageIn, lineage, rootIn, root}
 use Rattle.spec.specs.Classes.{buildsInside, capturedOf, captured, encloserSlots, fieldSlots, capturedSlots, ownSlots, slots}
 use Rattle.spec.specs.Rules.{Fault, staticBreaks, slotFault, faultsAt, faultIf, forbidden, rule1, memberAllowed, rule2, rule3, rule4, rule5, rule6, judgedFor}
@@ -208,31 +208,31 @@ module _ (nlib : ℕ) (g g' : ℕ → Group) (P : ℕ → Type 0) (closed : (d :
       (keep (λ n. isInstanceField n.1) (numbered 0 (g c))) (kept_in isInstanceField c p)
 
   encloserSlots-in : (c : ℕ) → P c → All SlotIn (encloserSlots g c)
-  unfolding encloserSlots only_if encloserSlot classTy tyReferences
+  unfolding encloserSlots onlyIf encloserSlot classTy tyReferences
   encloserSlots-in c p =
       all-if SlotIn (isInner (g c)) (map (encloserSlot c) (enclosing (g c))) []
       (all_map P SlotIn (encloserSlot c) (λ e q. (q, tt)) (enclosing (g c)) (enclosing-in c p)) tt
 
-  localAt-in : (d i : ℕ) → P d → All (λ n. TypeIn (local_ty n.1)) (local_at (g d) i)
-  unfolding local_at locals
+  localAt-in : (d i : ℕ) → P d → All (λ n. TypeIn (localTy n.1)) (localAt (g d) i)
+  unfolding localAt locals
   localAt-in d i p =
-      all_take (λ n. TypeIn (local_ty n.1)) 1 (drop i (locals (g d)))
-      (all_drop (λ n. TypeIn (local_ty n.1)) i (locals (g d))
-      (weaken (λ n. RecordIn n.1 × T (isKind LOCAL n.1)) (λ n. TypeIn (local_ty n.1)) (λ n q. subst (All P) (references-local n.1 q.1) q.0) (locals (g d))
+      all_take (λ n. TypeIn (localTy n.1)) 1 (drop i (locals (g d)))
+      (all_drop (λ n. TypeIn (localTy n.1)) i (locals (g d))
+      (weaken (λ n. RecordIn n.1 × T (isKind LOCAL n.1)) (λ n. TypeIn (localTy n.1)) (λ n q. subst (All P) (references-local n.1 q.1) q.0) (locals (g d))
       (kept_in (isKind LOCAL) d p)))
 
   capturedSlots-in : (c : ℕ) → P c → All SlotIn (capturedSlots g c)
   unfolding capturedSlots variableSlot
   capturedSlots-in c p =
-      all-gather (λ v. P v.0) SlotIn (λ v. map (variableSlot v.0) (local_at (g v.0) v.1))
-      (λ v q. all_map (λ n. TypeIn (local_ty n.1)) SlotIn (variableSlot v.0) (λ n s. s) (local_at (g v.0) v.1) (localAt-in v.0 v.1 q))
+      all-gather (λ v. P v.0) SlotIn (λ v. map (variableSlot v.0) (localAt (g v.0) v.1))
+      (λ v q. all_map (λ n. TypeIn (localTy n.1)) SlotIn (variableSlot v.0) (λ n s. s) (localAt (g v.0) v.1) (localAt-in v.0 v.1 q))
       (captured g c) (captured-in c p)
 
   capturedSlots-same : (c : ℕ) → P c → capturedSlots g c ≡ capturedSlots g' c
   unfolding capturedSlots
   capturedSlots-same c p =
-      gather-same (λ v. P v.0) (λ v. map (variableSlot v.0) (local_at (g v.0) v.1)) (λ v. map (variableSlot v.0) (local_at (g' v.0) v.1))
-      (λ v q. ap (λ (h : Group). map (variableSlot v.0) (local_at h v.1)) (same v.0 q)) (captured-same c p) (captured-in c p)
+      gather-same (λ v. P v.0) (λ v. map (variableSlot v.0) (localAt (g v.0) v.1)) (λ v. map (variableSlot v.0) (localAt (g' v.0) v.1))
+      (λ v q. ap (λ (h : Group). map (variableSlot v.0) (localAt h v.1)) (same v.0 q)) (captured-same c p) (captured-in c p)
 
   ownSlots-in : (c : ℕ) → P c → All SlotIn (ownSlots g c)
   unfolding ownSlots
@@ -307,13 +307,13 @@ module _ (nlib : ℕ) (g g' : ℕ → Group) (P : ℕ → Type 0) (closed : (d :
 
   -- each of these rules asks for a marker and tests the slots, and then something more
   judged-same : (k : ℕ) (ok ok' : Slot → Bool) → ((s : Slot) → SlotIn s → ok s ≡ ok' s) → {more more' : List Fault} → more ≡ more' → (c : ℕ) → P c
-      → only_if (judgedFor g k c) (slotFaults nlib g ok c ++ more) ≡ only_if (judgedFor g' k c) (slotFaults nlib g' ok' c ++ more')
+      → onlyIf (judgedFor g k c) (slotFaults nlib g ok c ++ more) ≡ onlyIf (judgedFor g' k c) (slotFaults nlib g' ok' c ++ more')
   judged-same k ok ok' h e c p = cc (judgedFor-same k c p, slotFaults-same ok ok' h c p, e)
 
   -- rules 7, 8 and 10 want the marker of the slots' types and of the root; `first` is what else they test of a slot
   marked-same : (k : ℕ) (first : Slot → Bool) (c : ℕ) → P c
-      → only_if (judgedFor g k c) (slotFaults nlib g (λ s. first s && satisfies g k s.type) c ++ rootFaults nlib g k c)
-      ≡ only_if (judgedFor g' k c) (slotFaults nlib g' (λ s. first s && satisfies g' k s.type) c ++ rootFaults nlib g' k c)
+      → onlyIf (judgedFor g k c) (slotFaults nlib g (λ s. first s && satisfies g k s.type) c ++ rootFaults nlib g k c)
+      ≡ onlyIf (judgedFor g' k c) (slotFaults nlib g' (λ s. first s && satisfies g' k s.type) c ++ rootFaults nlib g' k c)
   marked-same k first c p =
       judged-same k (λ s. first s && satisfies g k s.type) (λ s. first s && satisfies g' k s.type)
       (λ s q. ap (λ (b : Bool). first s && b) (type-same k s.type q)) (rootFaults-same k c p) c p

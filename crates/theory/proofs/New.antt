@@ -8,7 +8,7 @@ use Prim.Native.Nat.{ℕ, ◌+◌, ◌-◌}
 use lib.Dec.{eqb}
 use lib.ListN.{length, take, set, length-append, length-map, length-set}
 use Rattle.spec.specs.Lists.{concat}
-use Rattle.spec.specs.Sheet.{recordsOf, wholeEnd, groups_of, classCount}
+use Rattle.spec.specs.Sheet.{recordsOf, wholeEnd, groupsOf, classCount}
 use Rattle.spec.specs.Refusals.{tornRefusal, sheetRefusal, newRefusal, presentRefusal, addedSheet, replacedSheet}
 use Rattle.theory.specs.Claims.{NewSheets}
 use Rattle.laws.proofs.Bools.{eq→eqb, not-not}
@@ -25,7 +25,7 @@ concat-last xs x = concat-append xs (x ∷ []) ∙ ap (λ l. concat xs ++ l) (ap
 -- a sheet that passes the first pass and a whole group make sheets of whole records
 module _ {sheet n : ℕ} {user : List ℕ} (clear : Clear sheet n user) (g : List ℕ) (whole : IsGroup g) where
   abbrev gs : List (List ℕ)
-  gs = map concat (groups_of user)
+  gs = map concat (groupsOf user)
 
   -- its groups and the new one, last or in the place of one
   more-groups : All IsGroup (gs ++ (g ∷ []))
@@ -49,14 +49,14 @@ module _ {sheet n : ℕ} {user : List ℕ} (clear : Clear sheet n user) (g : Lis
   pub added-count : classCount (addedSheet user g) ≡ classCount user + 1
   unfolding addedSheet classCount
   added-count =
-      ap (λ (s : List ℕ). length (groups_of s)) (sym more-is) ∙ ap length (groups-of-join (gs ++ (g ∷ [])) more-groups)
-      ∙ length-map (gs ++ (g ∷ [])) recordsOf ∙ length-append gs (g ∷ []) ∙ ap (λ (k : ℕ). k + 1) (length-map (groups_of user) concat)
+      ap (λ (s : List ℕ). length (groupsOf s)) (sym more-is) ∙ ap length (groups-of-join (gs ++ (g ∷ [])) more-groups)
+      ∙ length-map (gs ++ (g ∷ [])) recordsOf ∙ length-append gs (g ∷ []) ∙ ap (λ (k : ℕ). k + 1) (length-map (groupsOf user) concat)
 
   pub replaced-count : (library : List ℕ) (c : ℕ) → classCount (replacedSheet library user c g) ≡ classCount user
   unfolding replacedSheet classCount
   replaced-count library c =
       let i : ℕ = c - classCount library in
-      ap length (groups-of-join (set gs i g) (other-groups i)) ∙ length-map (set gs i g) recordsOf ∙ length-set gs i g ∙ length-map (groups_of user) concat
+      ap length (groups-of-join (set gs i g) (other-groups i)) ∙ length-map (set gs i g) recordsOf ∙ length-set gs i g ∙ length-map (groupsOf user) concat
 
 -- beside a library that was accepted, a sheet of whole records
 pub sheet-new : (library user new : List ℕ) → sheetRefusal library user ≡ none → wholeEnd new ≡ length new → sheetRefusal library new ≡ newRefusal library new

@@ -9,9 +9,9 @@ use Prim.Native.Nat.{ℕ, zero, suc, ◌+◌, ◌≤◌, zero-le}
 use native.Mathlib.Omega.{arith}
 use lib.Dec.{T, eqb, ltb→lt, T_not}
 use lib.ListN.{length, get_or, take}
-use Rattle.spec.specs.Lists.{all, first_of}
+use Rattle.spec.specs.Lists.{all, firstOf}
 use Rattle.spec.specs.Record.{kind, isClass}
-use Rattle.spec.specs.Sheet.{Group, Split, splitGroups, recordsOf, groups_of, classCount, total, group, Located, locate, locatedIn, located}
+use Rattle.spec.specs.Sheet.{Group, Split, splitGroups, recordsOf, groupsOf, classCount, total, group, Located, locate, locatedIn, located}
 use Rattle.spec.specs.Relations.{At, here, next, Rising}
 use Rattle.spec.specs.Refusals.{Refusal, refuseRecord, recordTests, recordRefusal, tornRefusal, noClassRefusal, formTests, deemedTests, formRefusal, deemedRefusal, sheetRefusal}
 use Rattle.spec.specs.Refusals.{newRefusal, presentRefusal}
@@ -59,13 +59,13 @@ orderly s at n k p (r ∷ rs) h = go (isClass r) refl h (orderly s (at + length 
     go false e h f f' = let t = f' h.1 in subst (Orderly p) (sym (split-other r rs e)) (record { loose = (h.0, t.loose); groups = t.groups })
 
 pub sheets-in-order : (library user : List ℕ) → sheetRefusal library user ≡ none → InOrder library user
-unfolding group groups_of locatedIn
+unfolding group groupsOf locatedIn
 sheets-in-order library user e c =
     let s = sound library user e in
     let a = orderly 0 0 0 0 0 (recordsOf library) (weaken Passed Keeps (λ l p. p.ordered) (locatedIn 0 0 library) s.librarySheet.passed) in
     let b = orderly 1 0 (classCount library) 0 0 (recordsOf user) (weaken Passed Keeps (λ l p. p.ordered) (locatedIn 1 (classCount library) user) s.userSheet.passed) in
     rising 0 (group library user c)
-    (all-get {A = Group} (Ascends 0) [] (groups_of library ++ groups_of user) (all_append (Ascends 0) (groups_of library) (groups_of user) a.groups b.groups) tt c)
+    (all-get {A = Group} (Ascends 0) [] (groupsOf library ++ groupsOf user) (all_append (Ascends 0) (groupsOf library) (groupsOf user) a.groups b.groups) tt c)
 
 pub order-holds : OrderHolds
 unfolding presentRefusal
@@ -103,24 +103,24 @@ kept-other l h =
     also (λ t e. omega (arith, ltb→lt (kind l.bytes) l.before t, h)) also tt)
 
 -- a sheet's first record that is no CLASS record is refused, by another number: no later one is looked at
-stop : (o : Option Refusal) → (o ≡ none → ⊥) → Gives Other o → (os : List (Option Refusal)) → Gives Other (first_of (o ∷ os))
-unfolding first_of
+stop : (o : Option Refusal) → (o ≡ none → ⊥) → Gives Other o → (os : List (Option Refusal)) → Gives Other (firstOf (o ∷ os))
+unfolding firstOf
 stop none n g os = absurd (n refl)
 stop (some r) n g os = g
 
-loose-other : (l : Located) → T (not l.grouped) → Keeps l → (os : List (Option Refusal)) → Gives Other (first_of (refuseRecord l (recordTests l) ∷ os))
+loose-other : (l : Located) → T (not l.grouped) → Keeps l → (os : List (Option Refusal)) → Gives Other (firstOf (refuseRecord l (recordTests l) ∷ os))
 unfolding recordTests
 loose-other l h k os = stop (refuseRecord l (recordTests l)) (λ z. T_not (not l.grouped) (record-none l (recordTests l) z).1.1.0 h) (kept-other l k) os
 
-records-other : (sheet n : ℕ) (s : List ℕ) → All (Ascends 0) (groups_of s) → Gives Other (recordRefusal sheet n s)
-unfolding recordRefusal locatedIn groups_of locate locateIf
+records-other : (sheet n : ℕ) (s : List ℕ) → All (Ascends 0) (groupsOf s) → Gives Other (recordRefusal sheet n s)
+unfolding recordRefusal locatedIn groupsOf locate locateIf
 records-other sheet n s h = go (recordsOf s) h
   where
-    go : (rs : List (List ℕ)) → All (Ascends 0) (splitGroups rs).groups → Gives Other (first_of (map (λ l. refuseRecord l (recordTests l)) (locate sheet 0 n 0 0 rs)))
-    go [] h = unfold first_of in tt
+    go : (rs : List (List ℕ)) → All (Ascends 0) (splitGroups rs).groups → Gives Other (firstOf (map (λ l. refuseRecord l (recordTests l)) (locate sheet 0 n 0 0 rs)))
+    go [] h = unfold firstOf in tt
     go (r ∷ rs) h = first (isClass r) refl
       where
-        first : (b : Bool) → isClass r ≡ b → Gives Other (first_of (map (λ l. refuseRecord l (recordTests l)) (locateIf sheet 0 n 0 0 r rs b)))
+        first : (b : Bool) → isClass r ≡ b → Gives Other (firstOf (map (λ l. refuseRecord l (recordTests l)) (locateIf sheet 0 n 0 0 r rs b)))
         first true e =
             let t = subst (λ (x : Split). All (Ascends 0) x.groups) (split-class r rs e) h in
             let ls : List Located = locateIf sheet 0 n 0 0 r rs true in
@@ -131,7 +131,7 @@ records-other sheet n s h = go (recordsOf s) h
 
 -- tests without that number
 never : (tests : Located → List (ℕ × Bool)) → ((l : Located) → T (all (λ t. not (eqb t.0 16)) (tests l))) → (ls : List Located)
-    → Gives Other (first_of (map (λ l. refuseRecord l (tests l)) ls))
+    → Gives Other (firstOf (map (λ l. refuseRecord l (tests l)) ls))
 never tests h ls =
     gives-first Other _ (gives-map Other (λ l. refuseRecord l (tests l)) ls
     (of_members (λ l. Gives Other (refuseRecord l (tests l))) ls
@@ -140,9 +140,9 @@ never tests h ls =
     (λ t q u e. T_not (eqb t.0 16) q (eq→eqb e)) (tests l) (all_true (λ t. not (eqb t.0 16)) (tests l) (h l))))))
 
 module _ (library user : List ℕ) (o : InOrder library user) where
-  both-ascend : All (Ascends 0) (groups_of library ++ groups_of user)
+  both-ascend : All (Ascends 0) (groupsOf library ++ groupsOf user)
   unfolding group
-  both-ascend = all-ascend (groups_of library ++ groups_of user) o
+  both-ascend = all-ascend (groupsOf library ++ groupsOf user) o
 
   form-other : Gives Other (formRefusal library user)
   unfolding formRefusal formTests all
@@ -153,13 +153,13 @@ module _ (library user : List ℕ) (o : InOrder library user) where
   deemed-other = never (deemedTests (group library user) (classCount library)) (λ l. tt) (located library user)
 
   user-other : Gives Other (recordRefusal 1 (classCount library) user)
-  user-other = records-other 1 (classCount library) user (all_right (Ascends 0) (groups_of library) (groups_of user) both-ascend)
+  user-other = records-other 1 (classCount library) user (all_right (Ascends 0) (groupsOf library) (groupsOf user) both-ascend)
 
   sheet-other : Gives Other (sheetRefusal library user)
   unfolding sheetRefusal tornRefusal noClassRefusal
   sheet-other =
       gives-first Other _
-      (records-other 0 0 library (all_left (Ascends 0) (groups_of library) (groups_of user) both-ascend)
+      (records-other 0 0 library (all_left (Ascends 0) (groupsOf library) (groupsOf user) both-ascend)
       also gives-if Other _ 2 0 _ (λ t e. omega (arith, e))
       also gives-if Other _ 7 0 _ (λ t e. omega (arith, e))
       also user-other

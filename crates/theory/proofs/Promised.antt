@@ -9,15 +9,15 @@ use lib.ListN.{length, take}
 use lib.Seq.{take-append_seam}
 use Rattle.spec.specs.Refusals.{Refusal}
 use Rattle.spec.specs.Verdicts.{VerdictRow}
-use Rattle.spec.specs.Promises.{refused, accepted, answer_of, afterwards, bufferWith, State, Edit, edited, Changes}
+use Rattle.spec.specs.Promises.{refused, accepted, answerOf, afterwards, bufferWith, State, Edit, edited, Changes}
 
 module _ {A : Type 0} {o : Option Refusal} where
-  pub answer-refused : (a : A) {r : Refusal} → o ≡ some r → refused r ≡ answer_of o a
-  unfolding answer_of
+  pub answer-refused : (a : A) {r : Refusal} → o ≡ some r → refused r ≡ answerOf o a
+  unfolding answerOf
   answer-refused a e = rw e
 
-  pub answer-fine : (a : A) → o ≡ none → accepted a ≡ answer_of o a
-  unfolding answer_of
+  pub answer-fine : (a : A) → o ≡ none → accepted a ≡ answerOf o a
+  unfolding answerOf
   answer-fine a e = rw e
 
   pub kept-refused : (old new : A) {r : Refusal} → o ≡ some r → old ≡ afterwards o old new
@@ -29,13 +29,13 @@ module _ {A : Type 0} {o : Option Refusal} where
   new-fine old new e = rw e
 
 -- what an answer tells of the refusal and of the value
-pub told-fine : {A : Type 0} (o : Option Refusal) (a : A) {b : A} → accepted b ≡ answer_of o a → (o ≡ none) × (b ≡ a)
-unfolding answer_of
+pub told-fine : {A : Type 0} (o : Option Refusal) (a : A) {b : A} → accepted b ≡ answerOf o a → (o ≡ none) × (b ≡ a)
+unfolding answerOf
 told-fine none a e = (refl, cc)
 told-fine (some r) a e = absurd (let z : ◌≡◌ {A = ℕ} 0 1 = cc in omega arith)
 
-pub told-refused : {A : Type 0} (o : Option Refusal) (a : A) {r : Refusal} → refused r ≡ answer_of o a → o ≡ some r
-unfolding answer_of
+pub told-refused : {A : Type 0} (o : Option Refusal) (a : A) {r : Refusal} → refused r ≡ answerOf o a → o ≡ some r
+unfolding answerOf
 told-refused none a e = absurd (let z : ◌≡◌ {A = ℕ} 0 1 = cc in omega arith)
 told-refused (some r) a e = cc
 

@@ -5,10 +5,11 @@ use mathlib.Core.List.{List, [], ◌∷◌, ◌++◌}
 use Prim.Native.Nat.{ℕ}
 use lib.Dec.{T, eqb→eq}
 use lib.ListN.{get_or}
-use Rattle.spec.specs.Record.{kind, isKind, CLASS, IMPLEMENTS, FIELD, LOCAL, USES, BUILDS, MEMBER, REFERS, by_kind, superclass, encloser, target, fieldTy, local_ty, unlessNone, tyReferences, references}
+use Rattle.spec.specs.Record.{kind, isKind, CLASS, IMPLEMENTS, FIELD, LOCAL, USES, BUILDS, MEMBER}
+use Rattle.spec.specs.Record.{REFERS, byKind, superclass, encloser, target, fieldTy, localTy, unlessNone, tyReferences, references}
 
-pub by-kind : {A : Type 0} (r : List ℕ) (d : A) (choices : List A) (k : ℕ) → T (isKind k r) → by_kind r d choices ≡ get_or (d ∷ choices) k d
-unfolding by_kind
+pub by-kind : {A : Type 0} (r : List ℕ) (d : A) (choices : List A) (k : ℕ) → T (isKind k r) → byKind r d choices ≡ get_or (d ∷ choices) k d
+unfolding byKind
 by-kind r d choices k t = ap (λ (n : ℕ). get_or (d ∷ choices) n d) (eqb→eq (kind r) k t)
 
 module _ (r : List ℕ) where
@@ -24,7 +25,7 @@ module _ (r : List ℕ) where
   unfolding references
   references-field t = by-kind r [] _ FIELD t
 
-  pub references-local : T (isKind LOCAL r) → references r ≡ tyReferences (local_ty r)
+  pub references-local : T (isKind LOCAL r) → references r ≡ tyReferences (localTy r)
   unfolding references
   references-local t = by-kind r [] _ LOCAL t
 

@@ -10,7 +10,7 @@ use native.Mathlib.Nat.{add-zero, zero-add}
 use native.Mathlib.Omega.{arith}
 use lib.Dec.{T, leb, eqb→eq, leb→le, lit<}
 use lib.ListN.{length, take, length-append}
-use Rattle.spec.specs.Lists.{any, all, concat, first_of, elem}
+use Rattle.spec.specs.Lists.{any, all, concat, firstOf, elem}
 use Rattle.spec.specs.Record.{kind, isClass}
 use Rattle.spec.specs.Sheet.{recordsOf, wholeEnd, classCount, total, group, Located, locate, locatedIn, located}
 use Rattle.spec.specs.Refusals.{Refusal, refuseIf, refusePlain, refuseRecord, sizeRefusal, tornRefusal, recordTests, recordRefusal, noClassRefusal, formTests, deemedTests, formRefusal}
@@ -134,7 +134,7 @@ module _ (library user : List ℕ) where
 
   -- a number that blames a record: along located records, by tests with those numbers
   along-says : (tests : Located → List (ℕ × Bool)) → ((l : Located) → T (all (λ t. elem t.0 recordNumbers) (tests l)))
-      → (ls : List Located) → All (Stands library user) ls → Gives Recorded (first_of (map (λ l. refuseRecord l (tests l)) ls))
+      → (ls : List Located) → All (Stands library user) ls → Gives Recorded (firstOf (map (λ l. refuseRecord l (tests l)) ls))
   unfolding elem any all
   along-says tests h ls k =
       gives-first Recorded _ (gives-map Recorded (λ l. refuseRecord l (tests l)) ls
@@ -218,14 +218,14 @@ module _ (numbers : List ℕ) (among : T (all (λ n. elem n numbers) presentNumb
       → ((r : Refusal) → presentRefusal library user used ≡ some r → Blames library (take used user) r → blames r)
       → ((r : Refusal) → presentRefusal library user used ≡ none → Later library new r → blames r)
       → (os : List (Option Refusal)) → All (Gives (Says numbers (Later library new))) os
-      → Refuses numbers blames (first_of (presentRefusal library user used ∷ os))
-  unfolding first_of
+      → Refuses numbers blames (firstOf (presentRefusal library user used ∷ os))
+  unfolding firstOf
   refuses library user used new blames first later os k =
       let h = go (presentRefusal library user used) refl (present-says library user used) in
       record { number = λ r e. (subst (Gives (Says numbers blames)) e h).0; place = λ r e. (subst (Gives (Says numbers blames)) e h).1 }
     where
-      go : (o : Option Refusal) → presentRefusal library user used ≡ o → Gives (Present library (take used user)) o → Gives (Says numbers blames) (first_of (o ∷ os))
-      go none e h = gives-weaken (Says numbers (Later library new)) (Says numbers blames) (λ r q. (q.0, later r e q.1)) (first_of os) (gives-first _ os k)
+      go : (o : Option Refusal) → presentRefusal library user used ≡ o → Gives (Present library (take used user)) o → Gives (Says numbers blames) (firstOf (o ∷ os))
+      go none e h = gives-weaken (Says numbers (Later library new)) (Says numbers blames) (λ r q. (q.0, later r e q.1)) (firstOf os) (gives-first _ os k)
       go (some r) e h = (number-among r h, first r e h.1)
 
 pub refusals-hold : RefusalsHold

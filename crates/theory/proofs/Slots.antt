@@ -11,13 +11,13 @@ use native.Mathlib.Omega.{arith}
 use lib.Dec.{T, T_not, not_T, eqb, eqb→eq, eqb_refl}
 use lib.ListN.{get_or, take, drop}
 use Rattle.spec.specs.Lists.{all, keep, numbered}
-use Rattle.spec.specs.Record.{u16, bit, isKind, FIELD, LOCAL, MEMBER, flags, Ty, local_ty, isStatic, tyReferences}
+use Rattle.spec.specs.Record.{u16, bit, isKind, FIELD, LOCAL, MEMBER, flags, Ty, localTy, isStatic, tyReferences}
 use Rattle.spec.specs.Sheet.{Group, classRecord, ofKind, isInner, isInstanceField}
-use Rattle.spec.specs.Classes.{Slot, fieldSlot, encloserSlot, variableSlot, classTy, enclosing, locals, local_at, hasMarker, satisfies}
+use Rattle.spec.specs.Classes.{Slot, fieldSlot, encloserSlot, variableSlot, classTy, enclosing, locals, localAt, hasMarker, satisfies}
 use Rattle.spec.specs.Classes.{lineage, captured, encloserSlots, fieldSlots, capturedSlots, ownSlots, slots}
-use Rattle.spec.specs.Rules.{slotFault, place_in, memberAllowed}
+use Rattle.spec.specs.Rules.{slotFault, placeIn, memberAllowed}
 use Rattle.spec.specs.Relations.{At, Nth, here, over, past, Encloser, Marked, Lineage, self, up, Captures}
-use Rattle.spec.specs.Breaks.{Flag, Allowed, Satisfies, object, primitive, SlotShape, field, fixed, type_of, Final, Transient, OwnSlot, instance, outer, HasSlot, own, inherited}
+use Rattle.spec.specs.Breaks.{Flag, Allowed, Satisfies, object, primitive, SlotShape, field, fixed, typeOf, Final, Transient, OwnSlot, instance, outer, HasSlot, own, inherited}
 use Rattle.laws.proofs.Bools.{decide, t-and, and_l, and_r, t_true, t-false, true-t, false-t, eq→eqb}
 use Rattle.laws.proofs.Members.{gather-mem, mem-gather, keep-mem, mem-keep, only-mem, mem-only, numbered-at, at-numbered}
 use Rattle.theory.proofs.Groups.{encloser-is, flag_is}
@@ -168,7 +168,7 @@ module _ (g : ℕ → Group) (marked : (c k : ℕ) → k < 8 → T (hasMarker g 
 pub record Shows (s : Slot) (x : SlotShape) : Type 0 where
   pub final : T s.final ↔ Final x
   pub transient : T s.transient ↔ Transient x
-  pub type : s.type ≡ type_of x
+  pub type : s.type ≡ typeOf x
 
 fixed-shows : (d n : ℕ) (t : Ty) → Shows (record { holder = d; recordNumber = n; final = true; transient = false; type = t }) (fixed t)
 fixed-shows d n t = record { final = ((λ u. u), (λ u. u)); transient = ((λ u. u), (λ u. u)); type = refl }
@@ -178,20 +178,20 @@ unfolding fieldSlot
 field_shows d n = record { final = ((λ u. u), (λ u. u)); transient = ((λ u. u), (λ u. u)); type = refl }
 
 -- where a fault stands
-pub place-own : (c n : ℕ) → place_in c (record { class = c; recordNumber = n }) ≡ n
-unfolding place_in
+pub place-own : (c n : ℕ) → placeIn c (record { class = c; recordNumber = n }) ≡ n
+unfolding placeIn
 place-own c n = ap (λ (b : Bool). elim b as (λ (x : Bool). ℕ) [ true ↦ n | false ↦ 0 ]) (t_true (eqb c c) (eqb_refl c))
 
-pub place_other : (c d n : ℕ) → d ≢ c → place_in c (record { class = d; recordNumber = n }) ≡ 0
-unfolding place_in
+pub place_other : (c d n : ℕ) → d ≢ c → placeIn c (record { class = d; recordNumber = n }) ≡ 0
+unfolding placeIn
 place_other c d n h = ap (λ (b : Bool). elim b as (λ (x : Bool). ℕ) [ true ↦ n | false ↦ 0 ]) (t-false (eqb d c) (not_T (eqb d c) (λ t. h (eqb→eq d c t))))
 
-slot-other : (c : ℕ) (s : Slot) → s.holder ≢ c → place_in c (slotFault s) ≡ 0
+slot-other : (c : ℕ) (s : Slot) → s.holder ≢ c → placeIn c (slotFault s) ≡ 0
 unfolding slotFault
 slot-other c s h = place_other c s.holder s.recordNumber h
 
-pub place-zero : (c d : ℕ) → place_in c (record { class = d; recordNumber = 0 }) ≡ 0
-unfolding place_in
+pub place-zero : (c d : ℕ) → placeIn c (record { class = d; recordNumber = 0 }) ≡ 0
+unfolding placeIn
 place-zero c d = go (eqb d c)
   where
     go : (b : Bool) → ◌≡◌ {A = ℕ} (elim b as (λ (x : Bool). ℕ) [ true ↦ 0 | false ↦ 0 ]) 0
@@ -203,7 +203,7 @@ module _ (nlib : ℕ) (g : ℕ → Group) (f : Falls g) (captures : (l d i : ℕ
   -- a slot of class t itself, where its fault stands in t, and no higher holder
   record Own (t : ℕ) (s : Slot) : Type 0 where
     shape : SlotShape
-    is : OwnSlot g t (place_in t (slotFault s)) shape
+    is : OwnSlot g t (placeIn t (slotFault s)) shape
     shows : Shows s shape
     low : s.holder ≤ t
 
@@ -246,11 +246,11 @@ module _ (nlib : ℕ) (g : ℕ → Group) (f : Falls g) (captures : (l d i : ℕ
           }
 
   own-captured : (t : ℕ) (s : Slot) → Memᴰ s (capturedSlots g t) → Own t s
-  unfolding capturedSlots local_at locals numbers
+  unfolding capturedSlots localAt locals numbers
   own-captured t s m =
-      let a = gather-mem (λ v. map (variableSlot v.0) (local_at (g v.0) v.1)) (captured g t) s m in
+      let a = gather-mem (λ v. map (variableSlot v.0) (localAt (g v.0) v.1)) (captured g t) s m in
       let v : ℕ × ℕ = a.source in
-      let b = Memᴰ.of_map (variableSlot v.0) (local_at (g v.0) v.1) a.part in
+      let b = Memᴰ.of_map (variableSlot v.0) (localAt (g v.0) v.1) a.part in
       let q = nth-sound LOCAL 0 (g v.0) v.1 b.0 b.1 in
       subst (Own t) b.2 (at v.0 v.1 b.0 ((captures t v.0 v.1).0 a.member) q.number q.nth)
     where
@@ -258,9 +258,9 @@ module _ (nlib : ℕ) (g : ℕ → Group) (f : Falls g) (captures : (l d i : ℕ
       at d i n h k l = unfold variableSlot slotFault in
           let lt : d < t = captured-lower h in
           record {
-            shape = fixed (local_ty n.1);
-            is = subst (λ (j : ℕ). OwnSlot g t j (fixed (local_ty n.1))) (sym (place_other t d n.0 (omega arith))) (Rattle.spec.specs.Breaks.OwnSlot.captured h l);
-            shows = fixed-shows d n.0 (local_ty n.1);
+            shape = fixed (localTy n.1);
+            is = subst (λ (j : ℕ). OwnSlot g t j (fixed (localTy n.1))) (sym (place_other t d n.0 (omega arith))) (Rattle.spec.specs.Breaks.OwnSlot.captured h l);
+            shows = fixed-shows d n.0 (localTy n.1);
             low = omega arith;
           }
 
@@ -280,12 +280,12 @@ module _ (nlib : ℕ) (g : ℕ → Group) (f : Falls g) (captures : (l d i : ℕ
   record OwnBack (t k : ℕ) (x : SlotShape) : Type 0 where
     slot : Slot
     member : Memᴰ slot (ownSlots g t)
-    place : place_in t (slotFault slot) ≡ k
+    place : placeIn t (slotFault slot) ≡ k
     shows : Shows slot x
     low : slot.holder ≤ t
 
   own-complete : {t k : ℕ} {x : SlotShape} → OwnSlot g t k x → OwnBack t k x
-  unfolding ownSlots fieldSlots isInstanceField fieldSlot slotFault encloserSlots isInner encloserSlot classTy capturedSlots local_at locals numbers variableSlot
+  unfolding ownSlots fieldSlots isInstanceField fieldSlot slotFault encloserSlots isInner encloserSlot classTy capturedSlots localAt locals numbers variableSlot
   own-complete {t} (instance {k} {r} a b u) = record {
     slot = fieldSlot t (k, r);
     member = Memᴰ.append_right (encloserSlots g t) (Memᴰ.append_left (capturedSlots g t)
@@ -310,10 +310,10 @@ module _ (nlib : ℕ) (g : ℕ → Group) (f : Falls g) (captures : (l d i : ℕ
       record {
         slot = variableSlot d (k, r);
         member = Memᴰ.append_right (encloserSlots g t) (Memᴰ.append_right (fieldSlots g t)
-            (mem-gather (λ (v : ℕ × ℕ). map (variableSlot v.0) (local_at (g v.0) v.1)) ((captures t d i).1 h)
-            (Memᴰ.map (variableSlot d) (subst (λ (n : ℕ). Memᴰ (n, r) (local_at (g d) i)) (zero-add k) (nth-complete LOCAL l 0)))));
+            (mem-gather (λ (v : ℕ × ℕ). map (variableSlot v.0) (localAt (g v.0) v.1)) ((captures t d i).1 h)
+            (Memᴰ.map (variableSlot d) (subst (λ (n : ℕ). Memᴰ (n, r) (localAt (g d) i)) (zero-add k) (nth-complete LOCAL l 0)))));
         place = place_other t d k (omega arith);
-        shows = fixed-shows d k (local_ty r);
+        shows = fixed-shows d k (localTy r);
         low = omega arith;
       }
 
@@ -325,13 +325,13 @@ module _ (nlib : ℕ) (g : ℕ → Group) (f : Falls g) (captures : (l d i : ℕ
 
   pub record Seen (c : ℕ) (s : Slot) : Type 0 where
     pub shape : SlotShape
-    pub is : HasSlot nlib g c (place_in c (slotFault s)) shape
+    pub is : HasSlot nlib g c (placeIn c (slotFault s)) shape
     pub shows : Shows s shape
 
   pub record SeenBack (c k : ℕ) (x : SlotShape) : Type 0 where
     pub slot : Slot
     pub member : Memᴰ slot (slots nlib g c)
-    pub place : place_in c (slotFault slot) ≡ k
+    pub place : placeIn c (slotFault slot) ≡ k
     pub shows : Shows slot x
 
   pub slots-sound : (c : ℕ) → nlib ≤ c → (s : Slot) → Memᴰ s (slots nlib g c) → Seen c s
@@ -342,7 +342,7 @@ module _ (nlib : ℕ) (g : ℕ → Group) (f : Falls g) (captures : (l d i : ℕ
     where
       at : (t : ℕ) → Lineage nlib g c t → Own t s → T (eqb t c) ⊎ T (not (eqb t c)) → Seen c s
       at t p o (inl u) =
-          record { shape = o.shape; is = own (subst (λ (d : ℕ). OwnSlot g d (place_in d (slotFault s)) o.shape) (eqb→eq t c u) o.is); shows = o.shows }
+          record { shape = o.shape; is = own (subst (λ (d : ℕ). OwnSlot g d (placeIn d (slotFault s)) o.shape) (eqb→eq t c u) o.is); shows = o.shows }
       at t p o (inr u) =
           let ne : t ≢ c = λ e. T_not (eqb t c) u (eq→eqb e) in
           let le : t ≤ c = lineage-low p in

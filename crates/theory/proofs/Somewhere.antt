@@ -4,7 +4,7 @@ use mathlib.Core.Path.{◌≡◌, refl, sym, ap, ap₂, ◌∙◌}
 use mathlib.Core.Bool.{Bool, true, false, ◌&&◌, ◌||◌, or_assoc}
 use mathlib.Core.List.{List, [], ◌∷◌, ◌++◌, map}
 use Prim.Native.Nat.{ℕ, suc}
-use Rattle.spec.specs.Lists.{any, keep, gather, numbered, only_if}
+use Rattle.spec.specs.Lists.{any, keep, gather, numbered, onlyIf}
 
 module _ {A : Type 0} (p : A → Bool) where
   pub any_append : (xs ys : List A) → any p (xs ++ ys) ≡ (any p xs || any p ys)
@@ -75,8 +75,8 @@ module _ {A : Type 0} where
   some-map f [] = refl
   some-map f (x ∷ xs) = refl
 
-  pub some-only : (b : Bool) (xs : List A) → some (only_if b xs) ≡ (b && some xs)
-  unfolding some only_if
+  pub some-only : (b : Bool) (xs : List A) → some (onlyIf b xs) ≡ (b && some xs)
+  unfolding some onlyIf
   some-only true xs = refl
   some-only false xs = refl
 

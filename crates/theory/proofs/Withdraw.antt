@@ -12,9 +12,9 @@ use native.Mathlib.Omega.{arith}
 use lib.Dec.{T, T_not, not_T, eqb, ltb, ltb→lt, nltb→le}
 use lib.ListN.{length, get_or, take, drop, length-append, take-append-drop, get_or-append}
 use lib.Seq.{length-take-le}
-use Rattle.spec.specs.Lists.{any, concat, elem, span, same_list}
+use Rattle.spec.specs.Lists.{any, concat, elem, span, sameList}
 use Rattle.spec.specs.Record.{kind, isClass, bit, none16, flags, superclass, target, index, className, references, LOCAL, MEMBER}
-use Rattle.spec.specs.Sheet.{Group, Located, locate, locatedIn, located, splitGroups, recordsOf, wholeEnd, groups_of, classCount, total, group, classRecord, groupReferences, ofKind, isInterface}
+use Rattle.spec.specs.Sheet.{Group, Located, locate, locatedIn, located, splitGroups, recordsOf, wholeEnd, groupsOf, classCount, total, group, classRecord, groupReferences, ofKind, isInterface}
 use Rattle.spec.specs.Markers.{clash}
 use Rattle.spec.specs.Classes.{overlay}
 use Rattle.spec.specs.Relations.{References}
@@ -77,8 +77,8 @@ module _ (nlib n n' : ℕ) (g g' : ℕ → Group) (closed : (d : ℕ) → d < n'
 
       met-same : nameMet g c r ≡ nameMet g' c r
       met-same =
-          any-cong (λ d. d < c) (λ d. same_list (className (classRecord (g d))) (className r)) (λ d. same_list (className (classRecord (g' d))) (className r))
-          (λ d k. ap (λ (x : Group). same_list (className (classRecord x)) (className r)) (same d (omega arith))) (span 0 c)
+          any-cong (λ d. d < c) (λ d. sameList (className (classRecord (g d))) (className r)) (λ d. sameList (className (classRecord (g' d))) (className r))
+          (λ d k. ap (λ (x : Group). sameList (className (classRecord x)) (className r)) (same d (omega arith))) (span 0 c)
           (subst (λ (m : ℕ). All (λ d. d < m) (span 0 c)) (zero-add c) (below_span 0 c))
 
 -- ---- a part of the located records
@@ -112,55 +112,55 @@ module _ (library user : List ℕ) (e : sheetRefusal library user ≡ none) (fil
   abbrev left : List ℕ
   left = withdrawnSheet user
 
-  all_whole : All IsGroup (map concat (groups_of user))
+  all_whole : All IsGroup (map concat (groupsOf user))
   all_whole = sheet-groups user old.userSheet.end old.userSheet.loose
 
-  left-whole : All IsGroup (map concat (take k (groups_of user)))
-  left-whole = subst (All IsGroup) (sym (map-take concat k (groups_of user))) (all_take IsGroup k (map concat (groups_of user)) all_whole)
+  left-whole : All IsGroup (map concat (take k (groupsOf user)))
+  left-whole = subst (All IsGroup) (sym (map-take concat k (groupsOf user))) (all_take IsGroup k (map concat (groupsOf user)) all_whole)
 
-  regrouped : map recordsOf (map concat (groups_of user)) ≡ groups_of user
-  regrouped = sym (groups-of-join (map concat (groups_of user)) all_whole) ∙ ap groups_of (sheet-grouped user old.userSheet.end old.userSheet.loose)
+  regrouped : map recordsOf (map concat (groupsOf user)) ≡ groupsOf user
+  regrouped = sym (groups-of-join (map concat (groupsOf user)) all_whole) ∙ ap groupsOf (sheet-grouped user old.userSheet.end old.userSheet.loose)
 
-  left-regrouped : map recordsOf (map concat (take k (groups_of user))) ≡ take k (groups_of user)
-  left-regrouped = ap (map recordsOf) (map-take concat k (groups_of user)) ∙ map-take recordsOf k (map concat (groups_of user)) ∙ ap (take k) regrouped
+  left-regrouped : map recordsOf (map concat (take k (groupsOf user))) ≡ take k (groupsOf user)
+  left-regrouped = ap (map recordsOf) (map-take concat k (groupsOf user)) ∙ map-take recordsOf k (map concat (groupsOf user)) ∙ ap (take k) regrouped
 
-  pub withdrawn-groups : groups_of left ≡ take k (groups_of user)
+  pub withdrawn-groups : groupsOf left ≡ take k (groupsOf user)
   unfolding withdrawnSheet
-  withdrawn-groups = groups-of-join (map concat (take k (groups_of user))) left-whole ∙ left-regrouped
+  withdrawn-groups = groups-of-join (map concat (take k (groupsOf user))) left-whole ∙ left-regrouped
 
-  records-left : recordsOf left ≡ concat (take k (groups_of user))
+  records-left : recordsOf left ≡ concat (take k (groupsOf user))
   unfolding withdrawnSheet
-  records-left = records-of-groups (map concat (take k (groups_of user))) left-whole ∙ ap concat left-regrouped
+  records-left = records-of-groups (map concat (take k (groupsOf user))) left-whole ∙ ap concat left-regrouped
 
-  records-all : recordsOf user ≡ recordsOf left ++ concat (drop k (groups_of user))
+  records-all : recordsOf user ≡ recordsOf left ++ concat (drop k (groupsOf user))
   records-all =
       ap recordsOf (sym (sheet-grouped user old.userSheet.end old.userSheet.loose))
-      ∙ records-of-groups (map concat (groups_of user)) all_whole ∙ ap concat regrouped
-      ∙ ap concat (sym (take-append-drop k (groups_of user))) ∙ concat-append (take k (groups_of user)) (drop k (groups_of user))
-      ∙ ap (λ (rs : List (List ℕ)). rs ++ concat (drop k (groups_of user))) (sym records-left)
+      ∙ records-of-groups (map concat (groupsOf user)) all_whole ∙ ap concat regrouped
+      ∙ ap concat (sym (take-append-drop k (groupsOf user))) ∙ concat-append (take k (groupsOf user)) (drop k (groupsOf user))
+      ∙ ap (λ (rs : List (List ℕ)). rs ++ concat (drop k (groupsOf user))) (sym records-left)
 
   -- the sheet is what is left and then the last group
-  pub withdrawn-front : user ≡ left ++ concat (map concat (drop k (groups_of user)))
+  pub withdrawn-front : user ≡ left ++ concat (map concat (drop k (groupsOf user)))
   unfolding withdrawnSheet
   withdrawn-front =
       sym (sheet-grouped user old.userSheet.end old.userSheet.loose)
-      ∙ ap (λ (gs : List Group). concat (map concat gs)) (sym (take-append-drop k (groups_of user)))
-      ∙ ap concat (map-append concat (take k (groups_of user)) (drop k (groups_of user)))
-      ∙ concat-append (map concat (take k (groups_of user))) (map concat (drop k (groups_of user)))
+      ∙ ap (λ (gs : List Group). concat (map concat gs)) (sym (take-append-drop k (groupsOf user)))
+      ∙ ap concat (map-append concat (take k (groupsOf user)) (drop k (groupsOf user)))
+      ∙ concat-append (map concat (take k (groupsOf user))) (map concat (drop k (groupsOf user)))
 
   pub withdrawn-count : classCount left + 1 ≡ classCount user
   unfolding classCount
-  withdrawn-count = omega (arith, ap length withdrawn-groups, length-take-le k (groups_of user) (let z : k ≤ length (groups_of user) = omega arith in z))
+  withdrawn-count = omega (arith, ap length withdrawn-groups, length-take-le k (groupsOf user) (let z : k ≤ length (groupsOf user) = omega arith in z))
 
   pub withdrawn-group : (d : ℕ) → d < total library left → group library user d ≡ group library left d
   unfolding group total classCount
   withdrawn-group d h =
-      let m : length (groups_of left) ≡ k = ap length withdrawn-groups ∙ length-take-le k (groups_of user) (let z : k ≤ length (groups_of user) = omega arith in z) in
-      let l : d < length (groups_of library ++ take k (groups_of user)) = omega (arith, length-append (groups_of library) (take k (groups_of user)), ap length withdrawn-groups) in
-      ap (λ (xs : List Group). get_or (groups_of library ++ xs) d []) (sym (take-append-drop k (groups_of user)))
-      ∙ ap (λ (xs : List Group). get_or xs d []) (sym (append_assoc (groups_of library) (take k (groups_of user)) (drop k (groups_of user))))
-      ∙ get_or-append (groups_of library ++ take k (groups_of user)) (drop k (groups_of user)) [] d l
-      ∙ ap (λ (xs : List Group). get_or (groups_of library ++ xs) d []) (sym withdrawn-groups)
+      let m : length (groupsOf left) ≡ k = ap length withdrawn-groups ∙ length-take-le k (groupsOf user) (let z : k ≤ length (groupsOf user) = omega arith in z) in
+      let l : d < length (groupsOf library ++ take k (groupsOf user)) = omega (arith, length-append (groupsOf library) (take k (groupsOf user)), ap length withdrawn-groups) in
+      ap (λ (xs : List Group). get_or (groupsOf library ++ xs) d []) (sym (take-append-drop k (groupsOf user)))
+      ∙ ap (λ (xs : List Group). get_or xs d []) (sym (append_assoc (groupsOf library) (take k (groupsOf user)) (drop k (groupsOf user))))
+      ∙ get_or-append (groupsOf library ++ take k (groupsOf user)) (drop k (groupsOf user)) [] d l
+      ∙ ap (λ (xs : List Group). get_or (groupsOf library ++ xs) d []) (sym withdrawn-groups)
 
   -- ---- nothing names the last class
 
@@ -204,10 +204,10 @@ module _ (library user : List ℕ) (e : sheetRefusal library user ≡ none) (fil
     -- ---- each part of the refusals
 
     left-loose : (splitGroups (recordsOf left)).loose ≡ []
-    unfolding groups_of
+    unfolding groupsOf
     left-loose =
         ap (λ (rs : List (List ℕ)). (splitGroups rs).loose) records-left
-        ∙ (split-join (take k (groups_of user)) (all_take (λ h. T (oneClass h)) k (groups_of user) (split_parts (recordsOf user)).one)).0
+        ∙ (split-join (take k (groupsOf user)) (all_take (λ h. T (oneClass h)) k (groupsOf user) (split_parts (recordsOf user)).one)).0
 
     records-fine : recordRefusal 1 (classCount library) left ≡ none
     unfolding sheetRefusal recordRefusal locatedIn
@@ -216,14 +216,14 @@ module _ (library user : List ℕ) (e : sheetRefusal library user ≡ none) (fil
         let was : All P (locate 1 0 (classCount library) 0 0 (recordsOf user)) =
         passing recordTests P (λ l h. h) (locate 1 0 (classCount library) 0 0 (recordsOf user)) (first-none _ e).1.1.1.0 in
         unrefused recordTests P (λ l h. h) (locate 1 0 (classCount library) 0 0 (recordsOf left))
-        (locate-left P 1 0 (classCount library) 0 0 (recordsOf left) (concat (drop k (groups_of user)))
+        (locate-left P 1 0 (classCount library) 0 0 (recordsOf left) (concat (drop k (groupsOf user)))
         (subst (λ (rs : List (List ℕ)). All P (locate 1 0 (classCount library) 0 0 rs)) records-all was))
 
     torn-fine : tornRefusal 1 left ≡ none
     unfolding tornRefusal withdrawnSheet
     torn-fine =
         none-if (not (eqb (wholeEnd left) (length left))) 2 1 (wholeEnd left)
-        (not-not (eqb (wholeEnd left) (length left)) (eq→eqb (whole_join (map concat (take k (groups_of user))) left-whole)))
+        (not-not (eqb (wholeEnd left) (length left)) (eq→eqb (whole_join (map concat (take k (groupsOf user))) left-whole)))
 
     deemed-fine : deemedRefusal library left ≡ none
     unfolding sheetRefusal deemedRefusal deemedTests deemedBad

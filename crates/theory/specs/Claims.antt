@@ -5,7 +5,7 @@ use mathlib.Core.List.{List, [], Memᴰ}
 use Rattle.std.proofs.Math.Option.{Option, none, some}
 use Rattle.spec.specs.Lists.{concat, elem, reach}
 use Rattle.spec.specs.Record.{FIELD, isKind, isStatic, fieldTy}
-use Rattle.spec.specs.Sheet.{Group, recordsOf, wholeEnd, groups_of, classCount, groupStart, total, group}
+use Rattle.spec.specs.Sheet.{Group, recordsOf, wholeEnd, groupsOf, classCount, groupStart, total, group}
 use Rattle.spec.specs.Markers.{Token}
 use Rattle.spec.specs.Classes.{hasMarker, inside, lineage, root, buildsInside, captured}
 use Rattle.spec.specs.Rules.{Verdict, clean, dependencies}
@@ -177,7 +177,7 @@ OrderPasses =
 
 -- how long the group is that some bytes begin with
 unfoldable pub firstLength : List ℕ → ℕ
-firstLength rest = length (concat (get_or (groups_of rest) 0 []))
+firstLength rest = length (concat (get_or (groupsOf rest) 0 []))
 
 -- the position at the i-th class: "the next is found from the bytes at or after it alone"
 unfoldable pub running : List ℕ → ℕ → ℕ
@@ -188,8 +188,8 @@ running s (suc i) = running s i + firstLength (drop (running s i) s)
 pub record Carried (user : List ℕ) (used : ℕ) : Type 0 where
   pub begins : (i : ℕ) → i ≤ classCount user → running user i ≡ groupStart user i
   -- from there on stand the bytes of its group and of those after it, and they are cut into just these
-  pub stands : (i : ℕ) → i ≤ classCount user → drop (running user i) user ≡ concat (concat (drop i (groups_of user)))
-  pub onward : (i : ℕ) → i ≤ classCount user → groups_of (drop (running user i) user) ≡ drop i (groups_of user)
+  pub stands : (i : ℕ) → i ≤ classCount user → drop (running user i) user ≡ concat (concat (drop i (groupsOf user)))
+  pub onward : (i : ℕ) → i ≤ classCount user → groupsOf (drop (running user i) user) ≡ drop i (groupsOf user)
   -- after the last class it is the used length
   pub end : running user (classCount user) ≡ used
 

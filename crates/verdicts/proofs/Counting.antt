@@ -12,9 +12,9 @@ use lib.ListN.{length, get_or, take, drop, replicate, length-replicate, replicat
 use lib.Seq.{take-suc, take_all, drop_at}
 use borrow.Author.Tests.{eq-eqb, ne_eqb}
 use Rattle.spec.specs.Lists.{keep, count}
-use Rattle.spec.specs.Verdicts.{flat_at}
+use Rattle.spec.specs.Verdicts.{flatAt}
 use Rattle.laws.proofs.Count.{step, count_none, count-more}
-use Rattle.verdicts.specs.Row.{clean, line_of, isFaulted, tallied, faultedIn, shared, first_lines, written, flatFaulted}
+use Rattle.verdicts.specs.Row.{clean, lineOf, isFaulted, tallied, faultedIn, shared, firstLines, written, flatFaulted}
 use Rattle.verdicts.specs.declared.Verdict.{Verdict}
 
 -- ---- one line more
@@ -101,14 +101,14 @@ clean-past l (suc m) =
 
 module _ (flat : List ℕ) where
   abbrev bad : ℕ → Bool
-  bad i = not (eqb (flat_at flat i).rule 0)
+  bad i = not (eqb (flatAt flat i).rule 0)
 
-  lines-counted : (n : ℕ) → count isFaulted (first_lines flat n) ≡ flatFaulted flat n
-  unfolding first_lines flatFaulted isFaulted count keep
+  lines-counted : (n : ℕ) → count isFaulted (firstLines flat n) ≡ flatFaulted flat n
+  unfolding firstLines flatFaulted isFaulted count keep
   lines-counted zero = sym (count_none bad)
   lines-counted (suc n) =
-      let v : Verdict = line_of (flat_at flat n) in
-      tallied-last (first_lines flat n) v
+      let v : Verdict = lineOf (flatAt flat n) in
+      tallied-last (firstLines flat n) v
       ∙ ap (λ (k : ℕ). tallied k v) (lines-counted n)
       ∙ tallied-step (flatFaulted flat n) v
       ∙ sym (count-more bad n)
@@ -119,8 +119,8 @@ module _ (flat : List ℕ) where
   unfolding faultedIn written
   faults-counted n {ys} e long told =
       told
-      ∙ ap (count isFaulted) (take_all (min 256 (length ys)) ys (omega arith) ∙ e ∙ ap (λ (l : List Verdict). first_lines flat k ++ l) rest)
-      ∙ clean-past (first_lines flat k) (256 - k)
+      ∙ ap (count isFaulted) (take_all (min 256 (length ys)) ys (omega arith) ∙ e ∙ ap (λ (l : List Verdict). firstLines flat k ++ l) rest)
+      ∙ clean-past (firstLines flat k) (256 - k)
       ∙ lines-counted k
     where
       k : ℕ

@@ -8,7 +8,7 @@ use native.Mathlib.Omega.{arith}
 use lib.ListN.{length, take}
 use Rattle.spec.specs.Sheet.{classCount}
 use Rattle.spec.specs.Refusals.{scratchLength, presentRefusal, shortRefusal, judgeRefusal}
-use Rattle.spec.specs.Verdicts.{flat, flat_at}
+use Rattle.spec.specs.Verdicts.{flat, flatAt}
 use Rattle.spec.specs.Promises.{State}
 use Rattle.theory.proofs.Answers.{first-none, none_first}
 use Rattle.history.specs.Judged.{RightAt}
@@ -17,7 +17,7 @@ use Rattle.history.specs.Demand3.{Done, Agrees, Follows}
 use Rattle.history.proofs.Model.{front-is}
 use Rattle.theory.proofs.Unrefused.{short_none, none-short}
 use Rattle.history.proofs.Demand3.{flat-demand3}
-use Rattle.verdicts.specs.Row.{structs, line_at, written}
+use Rattle.verdicts.specs.Row.{structs, lineAt, written}
 use Rattle.verdicts.specs.Demand3.{withLines, holding, WrittenFollows, StructDemand3}
 use Rattle.verdicts.specs.declared.Verdict.{Verdict}
 use Rattle.verdicts.proofs.Filling.{written-length, reads-flat}
@@ -41,7 +41,7 @@ module _ (m : Model) where
 -- ---- one state
 
 module _ (m : Model) (s : State flat) (a : Agrees flat m s) (row : List Verdict) (n : ℕ) (fits : classCount (sheet m) ≤ length row) (all : classCount (sheet m) ≤ n) where
-  reads : (i : ℕ) → i < classCount (sheet m) → line_at (written s.verdicts row n) i ≡ flat_at s.verdicts i
+  reads : (i : ℕ) → i < classCount (sheet m) → lineAt (written s.verdicts row n) i ≡ flatAt s.verdicts i
   reads i h = reads-flat s.verdicts row n i (omega (arith, a.lines_are, enough m m.lines a.accepted))
 
   agrees : Agrees structs (withLines m (length row)) (holding s (written s.verdicts row n))

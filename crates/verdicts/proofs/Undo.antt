@@ -13,7 +13,7 @@ use Rattle.spec.specs.Promises.{State}
 use Rattle.history.specs.Undo.{Undone}
 use Rattle.history.proofs.Flat.{flat-laws}
 use Rattle.history.proofs.Undo.{line-there, flat-undo}
-use Rattle.verdicts.specs.Row.{structs, line_at, shared, written}
+use Rattle.verdicts.specs.Row.{structs, lineAt, shared, written}
 use Rattle.verdicts.specs.Demand3.{holding}
 use Rattle.verdicts.specs.Undo.{StructUndo}
 use Rattle.verdicts.specs.declared.Verdict.{Verdict}
@@ -31,7 +31,7 @@ module _ (before : State flat) (g : List ℕ) (last : State flat) (u : Undone fl
   still : shared n (length first) last.verdicts ≡ k
   still = omega (arith, written-length before.verdicts row n, u.lines_are)
 
-  kept_line : (i : ℕ) → i ≢ classCount (take before.used before.user) → Dec (i < k) → line_at (written last.verdicts first n) i ≡ line_at first i
+  kept_line : (i : ℕ) → i ≢ classCount (take before.used before.user) → Dec (i < k) → lineAt (written last.verdicts first n) i ≡ lineAt first i
   kept_line i ne (yes h) = reads-flat last.verdicts first n i (omega (arith, still)) ∙ u.other-lines i ne ∙ sym (reads-flat before.verdicts row n i h)
   kept_line i ne (no h) = reads-row last.verdicts first n i (omega (arith, still))
 

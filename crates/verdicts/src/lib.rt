@@ -2,8 +2,8 @@
 #![tactic(auto)]
 
 ghost use Rattle.std.specs.Prelude.{◌≡◌, ◌<◌, ◌+◌, ◌/◌, ◌^◌, min, length};
-ghost use Rattle.spec.specs.Verdicts.{verdictBytes, flatLines, flat_at};
-ghost use Rattle.verdicts.specs.Row.{line_of, tallied, faultedIn, shared, written, flatFaulted};
+ghost use Rattle.spec.specs.Verdicts.{verdictBytes, flatLines, flatAt};
+ghost use Rattle.verdicts.specs.Row.{lineOf, tallied, faultedIn, shared, written, flatFaulted};
 
 use records::{CLASS_LIMIT, VERDICT_BYTES};
 
@@ -51,7 +51,7 @@ pub fn report(row: &[Verdict], n: usize) -> usize
 // Line i of a flat row.
 fn line(flat: &[u8], i: usize) -> Verdict
     requires { i < flatLines flat.now }
-    ensures { result ≡ line_of (flat_at flat.now i) }
+    ensures { result ≡ lineOf (flatAt flat.now i) }
 {
     Verdict {
         rule: flat[VERDICT_BYTES * i],

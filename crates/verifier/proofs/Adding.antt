@@ -10,10 +10,10 @@ use lib.Dec.{eqb}
 use lib.ListN.{length, take, length-take, drop_of_length-le}
 use borrow.Author.Tests.{eq-eqb, ne_eqb}
 use Rattle.spec.specs.Lists.{concat}
-use Rattle.spec.specs.Sheet.{groups_of, classCount, total}
+use Rattle.spec.specs.Sheet.{groupsOf, classCount, total}
 use Rattle.spec.specs.Verdicts.{userVerdict, flatLines, flat}
 use Rattle.spec.specs.Refusals.{Refusal, presentRefusal, addedSheet, addRefusal}
-use Rattle.spec.specs.Promises.{Answer, refused, accepted, answer_of, State, Makes, addition}
+use Rattle.spec.specs.Promises.{Answer, refused, accepted, answerOf, State, Makes, addition}
 use Rattle.theory.proofs.Answers.{first_some, skip-none, first-none}
 use Rattle.theory.proofs.Accept.{Sound, sound}
 use Rattle.theory.proofs.Cut.{IsGroup, sheet-grouped, sheet-groups}
@@ -56,7 +56,7 @@ module _ (library user : List ℕ) (used : ℕ) (verdicts scratch g : List ℕ) 
           within = omega arith;
           there = used-there library user used o;
           around = record {
-            earlier = map concat (groups_of s);
+            earlier = map concat (groupsOf s);
             later = [];
             before = sym (sheet-grouped s now.userSheet.end now.userSheet.loose);
             after = let h : length s ≤ used = simp length-take (omega arith) in drop_of_length-le s h;
@@ -96,7 +96,7 @@ module _ (library user : List ℕ) (used : ℕ) (verdicts scratch g : List ℕ) 
         go (no n) = ne_eqb (classCount library + i) (classCount library + classCount (take used user)) (λ q. n (omega arith)) ∙ sym (ne_eqb i (classCount (take used user)) n)
 
     module _ {answer : Answer ℕ} {after : State flat} {cleaned : List ℕ} (m : Makes flat (putting library held g end last (length scratch)) held scratch answer after cleaned) where
-      made : {answer' : Answer ℕ} → answer' ≡ answer_of (addRefusal library user used g (flatLines verdicts) (length scratch)) last
+      made : {answer' : Answer ℕ} → answer' ≡ answerOf (addRefusal library user used g (flatLines verdicts) (length scratch)) last
           → Makes flat (addition flat library held g (length scratch)) held scratch answer' after cleaned
       unfolding putting addition
       made e =

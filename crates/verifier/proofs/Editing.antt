@@ -15,7 +15,7 @@ use Rattle.spec.specs.Sheet.{classCount, total, group}
 use Rattle.spec.specs.Rules.{Verdict, verdictOf}
 use Rattle.spec.specs.Verdicts.{flatLines, flatRewritten, flat, dependsOn}
 use Rattle.spec.specs.Refusals.{Refusal}
-use Rattle.spec.specs.Promises.{Answer, answer_of, afterwards, refused, accepted, cleared, bufferWith, State, Edit, edited, Makes}
+use Rattle.spec.specs.Promises.{Answer, answerOf, afterwards, refused, accepted, cleared, bufferWith, State, Edit, edited, Makes}
 use Rattle.theory.proofs.FlatRow.{rewritten-same}
 use Rattle.laws.proofs.Count.{count_same}
 use Rattle.view.specs.View.{spliced}
@@ -100,7 +100,7 @@ module _ (library user : List ℕ) (used : ℕ) (verdicts scratch g : List ℕ) 
 -- two edits with the same refusal, sheet, touched classes and verdicts
 pub makes-as : (e e' : Edit) → e.refusal ≡ e'.refusal → e.sheet ≡ e'.sheet → ((i : ℕ) → e.changed i ≡ e'.changed i) → e.verdict ≡ e'.verdict
     → {before after : State flat} {scratch cleaned : List ℕ} {answer answer' : Answer ℕ} → Makes flat e before scratch answer after cleaned
-    → answer' ≡ answer_of e'.refusal e'.answer → Makes flat e' before scratch answer' after cleaned
+    → answer' ≡ answerOf e'.refusal e'.answer → Makes flat e' before scratch answer' after cleaned
 unfolding edited
 makes-as e e' er es ec ev {before} {scratch = scratch} m ea = record {
   changes = record {

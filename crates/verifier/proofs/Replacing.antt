@@ -11,11 +11,11 @@ use lib.Dec.{eqb, leb, ltb, nltb→le, nleb→lt}
 use lib.ListN.{length, get_or, take, drop, length-take, get_or-append}
 use lib.Seq.{take-take}
 use borrow.Author.Tests.{ne_eqb, lt-ltb, le-ltb, le-leb, lt-leb}
-use Rattle.spec.specs.Lists.{first_of, concat, count, span}
-use Rattle.spec.specs.Sheet.{groups_of, classCount, groupStart, total}
+use Rattle.spec.specs.Lists.{firstOf, concat, count, span}
+use Rattle.spec.specs.Sheet.{groupsOf, classCount, groupStart, total}
 use Rattle.spec.specs.Verdicts.{userVerdict, flatLines, flat, dependsOn, dependentCount}
 use Rattle.spec.specs.Refusals.{Refusal, refuseIf, refusePlain, presentRefusal, noUserRefusal, replacedSheet, replaceRefusal}
-use Rattle.spec.specs.Promises.{Answer, answer_of, refused, State, Edit, Makes, replacement}
+use Rattle.spec.specs.Promises.{Answer, answerOf, refused, State, Edit, Makes, replacement}
 use Rattle.laws.proofs.Rows.{length-values, getD-values}
 use Rattle.laws.proofs.Count.{count_same}
 use Rattle.theory.proofs.Answers.{first-none, skip-none, first_some, first-append, plain-none}
@@ -24,7 +24,7 @@ use Rattle.theory.proofs.Cut.{IsGroup}
 use Rattle.theory.proofs.New.{new-sheets, replaced-count}
 use Rattle.view.specs.declared.Cut.{Cut}
 use Rattle.view.specs.View.{Sits, spliced}
-use Rattle.groups.specs.Groups.{Indexed, start_of, end_of}
+use Rattle.groups.specs.Groups.{Indexed, startOf, endOf}
 use Rattle.groups.proofs.Held.{Held, in-user, group-tiled, class-there}
 use Rattle.groups.proofs.Few.{classes-ordered}
 use Rattle.reach.specs.Reach.{dependentRow}
@@ -33,7 +33,7 @@ use Rattle.form.proofs.Unrefused.{used-there, some-row}
 use Rattle.form.specs.declared.Refusal.{Refusal as Turned}
 use Rattle.form.specs.Form.{refusalOf}
 use Rattle.verifier.specs.declared.Found.TheVariants.{At, Refused}
-use Rattle.verifier.specs.Changing.{touches, putting, Puts, cut_at, foundOf, CutOf}
+use Rattle.verifier.specs.Changing.{touches, putting, Puts, cutAt, foundOf, CutOf}
 use Rattle.verifier.proofs.Editing.{edit-refused, makes-as}
 use Rattle.verifier.proofs.Exchange.{earlier-is, later-is, earlier-whole, later-whole, replaced-parts}
 
@@ -67,7 +67,7 @@ found_some (some r) cut {r = r'} e = let q : r' ≡ record { number = r.number; 
 pub found-refused : (library user : List ℕ) (used c : ℕ) {r : Refusal} → presentRefusal library user used ≡ some r
     → CutOf library user used c (Refused (record { number = r.number; sheet = r.sheet; byte = r.byte }))
 found-refused library user used c o =
-    record { is = sym (ap (λ (w : Option Refusal). foundOf w (cut_at library (take used user) used c)) (first_some _ o)) }
+    record { is = sym (ap (λ (w : Option Refusal). foundOf w (cutAt library (take used user) used c)) (first_some _ o)) }
 
 module _ (library user : List ℕ) (used c : ℕ) (o : presentRefusal library user used ≡ none) {nlib n : ℕ} {row : List ℕ}
     (x : Indexed library (take used user) nlib n row) where
@@ -79,11 +79,11 @@ module _ (library user : List ℕ) (used c : ℕ) (o : presentRefusal library us
 
   pub found-missing : (c < nlib) ⊎ (n ≤ c) → CutOf library user used c (Refused (record { number = 13; sheet = 0; byte = 0 }))
   found-missing h =
-      record { is = sym (ap (λ (w : Option Refusal). foundOf w (cut_at library (take used user) used c)) (skip-none _ _ o ∙ first_some _ (gone h))) }
+      record { is = sym (ap (λ (w : Option Refusal). foundOf w (cutAt library (take used user) used c)) (skip-none _ _ o ∙ first_some _ (gone h))) }
 
-  pub found_at : nlib ≤ c → c < n → {from to : ℕ} → from ≡ start_of library (take used user) c → to ≡ end_of library (take used user) c
+  pub found_at : nlib ≤ c → c < n → {from to : ℕ} → from ≡ startOf library (take used user) c → to ≡ endOf library (take used user) c
       → CutOf library user used c (At (record { from = from; to = to; used = used }))
-  unfolding first_of
+  unfolding firstOf
   found_at hl hn ef et = record { is = rw (o, there, ef, et) refl }
     where
       there : noUserRefusal library (take used user) c ≡ none
@@ -101,10 +101,10 @@ module _ (library user : List ℕ) (used c : ℕ) (verdicts scratch g : List ℕ
   edit-of = replacement flat library was c g (length scratch)
 
   abbrev cut : Cut
-  cut = cut_at library (take used user) used c
+  cut = cutAt library (take used user) used c
 
   abbrev why : Option Refusal
-  why = first_of (presentRefusal library user used ∷ noUserRefusal library (take used user) c ∷ [])
+  why = firstOf (presentRefusal library user used ∷ noUserRefusal library (take used user) c ∷ [])
 
   -- the present sheets are refused, or have no such user class
   pub replace-stopped : {r : Refusal} → why ≡ some r → Makes flat edit-of was scratch (refused r) was scratch
@@ -120,7 +120,7 @@ module _ (library user : List ℕ) (used c : ℕ) (verdicts scratch g : List ℕ
     there = (first-none _ o).1.0
 
     row : List ℕ
-    row = map (start_of library (take used user)) (span 0 256)
+    row = map (startOf library (take used user)) (span 0 256)
 
     x : Indexed library (take used user) (classCount library) (total library (take used user)) row
     unfolding row
@@ -139,7 +139,7 @@ module _ (library user : List ℕ) (used c : ℕ) (verdicts scratch g : List ℕ
     held : Held library (take used user) (classCount library) c (take used user) (c - classCount library)
     held = in-user x own below
 
-    end-within : end_of library (take used user) c ≤ used
+    end-within : endOf library (take used user) c ≤ used
     end-within = omega (arith, (group-tiled x below).within, ap length held.is, length-take used user)
 
     abbrev s : List ℕ
@@ -150,22 +150,22 @@ module _ (library user : List ℕ) (used c : ℕ) (verdicts scratch g : List ℕ
 
     -- the parts of the buffer that stay are those of the sheet before the class and after it
     head-is : take cut.from user ≡ take (groupStart s i) s
-    unfolding end_of
+    unfolding endOf
     head-is = ap (λ (k : ℕ). take k user) held.start ∙ sym (take-take (groupStart s i) used user (omega (arith, end-within, held.start)))
 
-    tail-is : drop cut.to (take cut.used user) ≡ drop (groupStart s i + length (concat (get_or (groups_of s) i []))) s
-    unfolding end_of
+    tail-is : drop cut.to (take cut.used user) ≡ drop (groupStart s i + length (concat (get_or (groupsOf s) i []))) s
+    unfolding endOf
     tail-is = ap (λ (k : ℕ). drop k (take used user)) (ap₂ (λ (k : ℕ) (r : List (List ℕ)). k + length (concat r)) held.start held.its)
 
     pub replaced-sits : Sits cut user
-    unfolding end_of
+    unfolding endOf
     replaced-sits = record {
       ordered = omega arith;
       within = end-within;
       there = used-there library user used present;
       around = record {
-        earlier = map concat (take i (groups_of s));
-        later = map concat (drop (suc i) (groups_of s));
+        earlier = map concat (take i (groupsOf s));
+        later = map concat (drop (suc i) (groupsOf s));
         before = head-is ∙ earlier-is x.user-clear i held.there;
         after = tail-is ∙ later-is x.user-clear i held.there;
         earlier-whole = earlier-whole x.user-clear i held.there;
@@ -206,6 +206,6 @@ module _ (library user : List ℕ) (used c : ℕ) (verdicts scratch g : List ℕ
         makes-as (putting library was g cut c (length scratch)) edit-of (sym refusal_is) replaced-is
         (λ i. touched (classCount library + i) ∙ ap (λ (s : List ℕ). dependsOn library s c (classCount library + i)) replaced-is) (ap (userVerdict library) replaced-is) m
         (m.changes.answered
-        ∙ ap₂ answer_of (sym refusal_is)
+        ∙ ap₂ answerOf (sym refusal_is)
         (count_same (touches library (spliced user g cut) cut c) (dependsOn library (spliced user g cut) c) (total library (spliced user g cut)) (λ d h. touched d)
         ∙ ap (λ (s : List ℕ). count (dependsOn library s c) (span 0 (total library s))) replaced-is))

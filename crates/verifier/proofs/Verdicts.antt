@@ -11,7 +11,7 @@ use lib.ListN.{length, get_or, take}
 use borrow.Author.Tests.{lt-ltb, le-ltb, ltb-true, ltb-false}
 use Rattle.spec.specs.Sheet.{classCount, total, group}
 use Rattle.spec.specs.Rules.{Verdict, verdictOf}
-use Rattle.spec.specs.Verdicts.{verdictBytes, verdictAt, userVerdict, faulted, faultedCount, flatLines, flat_at, flatRewritten, flat}
+use Rattle.spec.specs.Verdicts.{verdictBytes, verdictAt, userVerdict, faulted, faultedCount, flatLines, flatAt, flatRewritten, flat}
 use Rattle.spec.specs.Refusals.{Refusal, scratchLength, refuseIf, refusePlain, presentRefusal, judgeRefusal}
 use Rattle.spec.specs.Promises.{countsOf, refused, accepted, cleared, judgedRow, Judges}
 use Rattle.theory.proofs.Answers.{first_past, first_some}
@@ -61,9 +61,9 @@ module _ (library sheet : List ℕ) {nlib n : ℕ} (el : nlib ≡ classCount lib
   row_is e = changed_row library sheet n el row marks (λ i. ltb i (classCount sheet)) every e
 
   module _ (room : n - nlib ≤ flatLines row) {after : List ℕ} (e : after ≡ flatRewritten (λ i. ltb i (classCount sheet)) (userVerdict library sheet) row) where
-    rule-is : (i : ℕ) → i < classCount sheet → (flat_at after i).rule ≡ (userVerdict library sheet i).rule
+    rule-is : (i : ℕ) → i < classCount sheet → (flatAt after i).rule ≡ (userVerdict library sheet i).rule
     rule-is i h =
-        ap (λ (r : List ℕ). (flat_at r i).rule) e
+        ap (λ (r : List ℕ). (flatAt r i).rule) e
         ∙ ap (λ (v : Verdict). v.rule) (at_new (λ i. ltb i (classCount sheet)) (userVerdict library sheet) row i (omega (arith, room, classes-are)) (lt→ltb i (classCount sheet) h))
 
     same_lines : flatLines after ≡ flatLines row
@@ -75,7 +75,7 @@ module _ (library sheet : List ℕ) {nlib n : ℕ} (el : nlib ≡ classCount lib
     count-is q =
         q
         ∙ ap (faultedIn after) (let w : min (n - nlib) (flatLines after) ≡ classCount sheet = omega (arith, room, same_lines, classes-are) in w)
-        ∙ count_same (λ i. not (eqb (flat_at after i).rule 0)) (λ i. not (eqb (userVerdict library sheet i).rule 0)) (classCount sheet) (λ i h. ap (λ (k : ℕ). not (eqb k 0)) (rule-is i h))
+        ∙ count_same (λ i. not (eqb (flatAt after i).rule 0)) (λ i. not (eqb (userVerdict library sheet i).rule 0)) (classCount sheet) (λ i h. ap (λ (k : ℕ). not (eqb k 0)) (rule-is i h))
 
 -- ---- the promise of a judging, at each of its ends
 

@@ -2,12 +2,12 @@
 -- Assumes nothing.
 use Rattle.std.specs.Prelude.{◌≡◌, Bool, true, false, List, [], ◌∷◌, ℕ, ◌+◌, ◌≤◌, ◌<◌, T, eqb, length, get_or, take}
 use Rattle.std.proofs.Math.Option.{Option, none, some}
-use Rattle.spec.specs.Lists.{first_of, count, span}
+use Rattle.spec.specs.Lists.{firstOf, count, span}
 use Rattle.spec.specs.Sheet.{classCount, total}
 use Rattle.spec.specs.Verdicts.{userVerdict, flat, flatLines, dependsOn}
 use Rattle.spec.specs.Refusals as spec
 use Rattle.spec.specs.Promises.{State, Edit}
-use Rattle.groups.specs.Groups.{start_of, end_of}
+use Rattle.groups.specs.Groups.{startOf, endOf}
 use Rattle.view.specs.declared.Cut.{Cut}
 use Rattle.view.specs.View.{Sits, spliced}
 use Rattle.admit.specs.Admitting.{admitRefusal, Plain}
@@ -48,8 +48,8 @@ pub record Puts (library user : List ℕ) (used : ℕ) (g : List ℕ) (cut : Cut
 
 -- ---- where a class's group stands
 
-abbrev pub cut_at : List ℕ → List ℕ → ℕ → ℕ → Cut
-cut_at library sheet used c = record { from = start_of library sheet c; to = end_of library sheet c; used = used }
+abbrev pub cutAt : List ℕ → List ℕ → ℕ → ℕ → Cut
+cutAt library sheet used c = record { from = startOf library sheet c; to = endOf library sheet c; used = used }
 
 abbrev pub foundOf : Option spec.Refusal → Cut → Found
 foundOf none cut = At cut
@@ -58,4 +58,4 @@ foundOf (some r) cut = Refused (record { number = r.number; sheet = r.sheet; byt
 -- the cut that takes the class out, or why there is none
 pub record CutOf (library user : List ℕ) (used c : ℕ) (found : Found) : Type 0 where
   pub is : found
-      ≡ foundOf (first_of (spec.presentRefusal library user used ∷ spec.noUserRefusal library (take used user) c ∷ [])) (cut_at library (take used user) used c)
+      ≡ foundOf (firstOf (spec.presentRefusal library user used ∷ spec.noUserRefusal library (take used user) c ∷ [])) (cutAt library (take used user) used c)

@@ -18,7 +18,7 @@ use Rattle.laws.proofs.All.{All, all_append, all_take}
 use Rattle.laws.proofs.Parts.{part_length}
 use Rattle.theory.proofs.Cut.{IsGroup, front_low, concat-append, concat-concat, groups-of-join, regroup}
 use Rattle.theory.proofs.New.{concat-last}
-use Rattle.groups.specs.Groups.{start_of, end_of, Indexed}
+use Rattle.groups.specs.Groups.{startOf, endOf, Indexed}
 use Rattle.groups.proofs.Held.{in-user, held-end, group-tiled}
 use Rattle.groups.proofs.Bytes as plain
 use Rattle.records.specs.Records.{Carries}
@@ -106,14 +106,14 @@ module _ {user g : List ℕ} {cut : Cut} (fits : Fits cut user g) (a : Around cu
 
 module _ {user g : List ℕ} {cut : Cut} (fits : Fits cut user g)
     {library : List ℕ} {nlib n : ℕ} {row : List ℕ} (x : Indexed library (spliced user g cut) nlib n row) {c : ℕ} (hl : nlib ≤ c) (hn : c < n) where
-  class-end : end_of library (spliced user g cut) c ≤ length (spliced user g cut)
+  class-end : endOf library (spliced user g cut) c ≤ length (spliced user g cut)
   class-end = omega (arith, (group-tiled x hn).within, ap length (in-user x hl hn).is)
 
-  pub lies : Lies user g cut (start_of library (spliced user g cut) c) (end_of library (spliced user g cut) c)
+  pub lies : Lies user g cut (startOf library (spliced user g cut) c) (endOf library (spliced user g cut) c)
   unfolding Seamed
   lies = go fits.seams
     where
-      go : ((g ≡ []) × (cut.from ≡ cut.used)) ⊎ (Around cut user × IsGroup g) → Lies user g cut (start_of library (spliced user g cut) c) (end_of library (spliced user g cut) c)
+      go : ((g ≡ []) × (cut.from ≡ cut.used)) ⊎ (Around cut user × IsGroup g) → Lies user g cut (startOf library (spliced user g cut) c) (endOf library (spliced user g cut) c)
       go (inl p) = inl (omega (arith, class-end, length-spliced user g cut fits, ap length p.0, p.1, fits.within, fits.ordered))
       go (inr p) = rw ((in-user x hl hn).start, held-end (in-user x hl hn)) (among fits p.0 p.1 (c - nlib))
 
@@ -130,8 +130,8 @@ same-part a b i j n ha hb e =
 pub record Stands (view : View) (library user g starts : List ℕ) (c start end : ℕ) : Type 0 where
   pub views : Views view library user g starts
   pub low : c < view.classes.all
-  pub begins : start ≡ start_of library (spliced user g view.cut) c
-  pub ends : end ≡ end_of library (spliced user g view.cut) c
+  pub begins : start ≡ startOf library (spliced user g view.cut) c
+  pub ends : end ≡ endOf library (spliced user g view.cut) c
 
 module _ {view : View} {library user g starts : List ℕ} {c start end : ℕ} (s : Stands view library user g starts c start end) where
   abbrev cut : Cut

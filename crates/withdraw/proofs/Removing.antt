@@ -8,7 +8,7 @@ use Prim.Native.Nat.{ℕ, ◌-◌, ◌≤◌, ◌<◌}
 use lib.Dec.{ltb}
 use lib.ListN.{take}
 use borrow.Author.Tests.{eq-eqb, ne_eqb, lt-ltb, le-ltb}
-use Rattle.spec.specs.Lists.{any, elem, span, first_of}
+use Rattle.spec.specs.Lists.{any, elem, span, firstOf}
 use Rattle.spec.specs.Sheet.{classCount, group, groupReferences}
 use Rattle.spec.specs.Refusals.{refuseIf, refusePlain, presentRefusal, emptyRefusal, lastClass, namedRefusal, fewLinesRefusal, withdrawRefusal}
 use Rattle.theory.proofs.Answers.{first_some, first_past, skip-none}
@@ -32,7 +32,7 @@ module _ (library user : List ℕ) (used lines : ℕ) {p : Checked} {row memo : 
   sheets-refused f = then-refused a f (first_some _ (turned a f))
 
   module _ {k : Classes} (f : p ≡ Fine k) where
-    past-sheets : withdrawRefusal library user used lines ≡ first_of (emptyRefusal sheet ∷ namedRefusal library sheet ∷ fewLinesRefusal (classCount sheet) lines ∷ [])
+    past-sheets : withdrawRefusal library user used lines ≡ firstOf (emptyRefusal sheet ∷ namedRefusal library sheet ∷ fewLinesRefusal (classCount sheet) lines ∷ [])
     unfolding withdrawRefusal
     past-sheets = skip-none _ _ (told a f).0
 
@@ -44,7 +44,7 @@ module _ (library user : List ℕ) (used lines : ℕ) {p : Checked} {row memo : 
         then-stopped a (past-sheets ∙ first_some _ o)
 
     module _ (there : k.all - k.library ≡ 0 → ⊥) where
-      past-empty : withdrawRefusal library user used lines ≡ first_of (namedRefusal library sheet ∷ fewLinesRefusal (classCount sheet) lines ∷ [])
+      past-empty : withdrawRefusal library user used lines ≡ firstOf (namedRefusal library sheet ∷ fewLinesRefusal (classCount sheet) lines ∷ [])
       unfolding emptyRefusal refusePlain refuseIf
       past-empty =
           let o : emptyRefusal sheet ≡ none = rw (ne_eqb (classCount sheet) 0 (λ e. there (sym (own a f) ∙ e))) in

@@ -9,9 +9,9 @@ use lib.Dec.{ltb, nltb→le}
 use lib.ListN.{length, get_or, take, drop, replicate, length-append}
 use lib.Seq.{paste, take-take, take-append_seam, length-take-le}
 use Rattle.spec.specs.Lists.{concat}
-use Rattle.spec.specs.Sheet.{groups_of, classCount, groupStart, total}
+use Rattle.spec.specs.Sheet.{groupsOf, classCount, groupStart, total}
 use Rattle.spec.specs.Rules.{clean}
-use Rattle.spec.specs.Verdicts.{verdictBytes, bytes_of, flatLines, flat}
+use Rattle.spec.specs.Verdicts.{verdictBytes, bytesOf, flatLines, flat}
 use Rattle.spec.specs.Refusals.{Refusal, fewLinesRefusal, lastClass, withdrawnSheet, withdrawRefusal}
 use Rattle.spec.specs.Promises.{refused, accepted, bufferWith, State, Edit, Changes, withdrawal}
 use Rattle.theory.proofs.Answers.{first-none, plain-none}
@@ -63,11 +63,11 @@ module _ (library user : List ℕ) (used : ℕ) (verdicts : List ℕ) where
     sheet-long : length sheet ≡ used
     sheet-long = length-take-le used user used-within
 
-    front : sheet ≡ left ++ concat (map concat (drop (classCount sheet - 1) (groups_of sheet)))
+    front : sheet ≡ left ++ concat (map concat (drop (classCount sheet - 1) (groupsOf sheet)))
     front = withdrawn-front library sheet present.sheets some_left
 
     pub left-within : length left ≤ used
-    left-within = omega (arith, sheet-long, ap length front, length-append left (concat (map concat (drop (classCount sheet - 1) (groups_of sheet)))))
+    left-within = omega (arith, sheet-long, ap length front, length-append left (concat (map concat (drop (classCount sheet - 1) (groupsOf sheet)))))
 
     left_is : take (length left) user ≡ left
     left_is = sym (take-take (length left) used user left-within) ∙ ap (take (length left)) front ∙ take-append_seam left _
@@ -83,8 +83,8 @@ module _ (library user : List ℕ) (used : ℕ) (verdicts : List ℕ) where
       begins e =
           let h = in-user x last-user (let z : n - 1 < n = omega (arith, x.n-is, some_left) in z) in
           e ∙ x.starts (n - 1) (omega (arith, x.n-is, some_left)) ∙ h.start
-          ∙ ap length (sym (concat-concat (take (n - 1 - nlib) (groups_of sheet))))
-          ∙ ap (λ (k : ℕ). length (concat (map concat (take k (groups_of sheet))))) (let z : n - 1 - nlib ≡ classCount sheet - 1 = omega (arith, x.nlib-is, x.n-is) in z)
+          ∙ ap length (sym (concat-concat (take (n - 1 - nlib) (groupsOf sheet))))
+          ∙ ap (λ (k : ℕ). length (concat (map concat (take k (groupsOf sheet))))) (let z : n - 1 - nlib ≡ classCount sheet - 1 = omega (arith, x.nlib-is, x.n-is) in z)
 
     -- ---- the end
 
@@ -92,7 +92,7 @@ module _ (library user : List ℕ) (used : ℕ) (verdicts : List ℕ) where
         → user' ≡ paste user start (replicate (used - start) 0) (used - start) → line ≡ verdictBytes * (classCount sheet - 1)
         → verdicts' ≡ paste verdicts line (replicate (line + verdictBytes - line) 0) (line + verdictBytes - line)
         → Changes flat edit held (accepted value) (record { user = user'; used = start; verdicts = verdicts' })
-    unfolding withdrawal bytes_of
+    unfolding withdrawal bytesOf
     withdrawn {line = line} ev es eu el er =
         let w : line + verdictBytes - line ≡ verdictBytes = omega arith in
         changes-made flat edit held o ev

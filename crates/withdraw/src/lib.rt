@@ -3,7 +3,7 @@
 
 ghost use Rattle.std.specs.Prelude.{◌≡◌, ℕ, ◌≤◌, ◌<◌, length, take, replicate};
 ghost use Rattle.spec.specs.Lists.{any, elem, span};
-ghost use Rattle.spec.specs.Sheet.{Group, group as group_of, groupReferences};
+ghost use Rattle.spec.specs.Sheet.{Group, group as groupOf, groupReferences};
 ghost use Rattle.spec.specs.Refusals.{withdrawRefusal};
 ghost use Rattle.spec.specs.Verdicts.{flat};
 ghost use Rattle.spec.specs.Promises.{Withdraws};
@@ -43,7 +43,7 @@ fn last_named<'a>(
     last: usize,
 ) -> bool
     ghost g: { ℕ → Group }
-    requires groups { group_of library.now user.now ≡ g }
+    requires groups { groupOf library.now user.now ≡ g }
     requires indexed { Indexed library.now user.now classes.library classes.all starts.now }
     requires there { last < classes.all }
     ensures { result ≡ any (λ c. elem last (groupReferences (g c))) (span 0 last) }

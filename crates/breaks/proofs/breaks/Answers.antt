@@ -3,7 +3,7 @@ use Rattle.std.proofs.Common.{◌≡◌, ℕ, ◌+◌, ◌^◌, ◌/◌, ◌%◌
 use mathlib.Core.Path.{subst}
 use lib.Dec.{T, eqb}
 use Rattle.spec.specs.Record.{u16, flags, ownMarkers}
-use Rattle.spec.specs.Sheet.{Group, group as group_of, isInterface}
+use Rattle.spec.specs.Sheet.{Group, group as groupOf, isInterface}
 use Rattle.records.specs.Records.{recordAt}
 use Rattle.records.proofs.Carried.{class-within}
 use Rattle.groups.specs.declared.Classes.{Classes}
@@ -11,7 +11,7 @@ use Rattle.groups.proofs.Few.{indexed-sound}
 use Rattle.groups.proofs.Held.{class-long}
 use Rattle.overlay.specs.Types.{Known}
 use Rattle.theory.proofs.Form.{sound-super}
-use Rattle.slots.specs.Slots.{ruleMarker, HeadSet, headSlots, baseBreaks, base_by}
+use Rattle.slots.specs.Slots.{ruleMarker, HeadSet, headSlots, baseBreaks, baseBy}
 use Rattle.slots.proofs.Base.{base-is}
 use Rattle.slots.proofs.Heads.{head-is}
 use Rattle.breaks.specs.declared.Step.{Step}
@@ -24,9 +24,9 @@ use Rattle.breaks.proofs.breaks.Goals.{Else-rule-eq6, After-has}
 
 -- ---- what is known from the start, with the sheets' groups under the caller's name
 
-module _ {library user starts facts lanes bytes : List ℕ} {classes : Classes} {step : Step} {g : ℕ → Group} (e : group_of library user ≡ g)
+module _ {library user starts facts lanes bytes : List ℕ} {classes : Classes} {step : Step} {g : ℕ → Group} (e : groupOf library user ≡ g)
     (j : Judging library user starts classes facts lanes) (s : AtStep g classes bytes step) where
-  q : AtStep (group_of library user) classes bytes step
+  q : AtStep (groupOf library user) classes bytes step
   q = subst (λ (h : ℕ → Group). AtStep h classes bytes step) (sym e) s
 
   known : Known g (markersIn facts)
@@ -59,9 +59,9 @@ module _ {library user starts facts lanes bytes : List ℕ} {classes : Classes} 
       (marker-in step.rule set ep eb ∙ head-is j.indexed j.formed q.asked-there q.standing.carries j.facts.known j.shown h step.rule (l, q.rule-last))
 
   -- record 0 of the class that is judged
-  base : 7 ≤ step.rule → step.asked ≡ step.class → {b : Bool} → b ≡ base_by bytes (markersIn facts) → b ≡ baseBreaks g step.class
+  base : 7 ≤ step.rule → step.asked ≡ step.class → {b : Bool} → b ≡ baseBy bytes (markersIn facts) → b ≡ baseBreaks g step.class
   base l own {b} eb =
-      let d : ℕ → Group = group_of library user in
+      let d : ℕ → Group = groupOf library user in
       let concrete = subst (λ (i : ℕ). T (not (isInterface (d i)))) (sym own) (q.concrete l) in
       let super = sound-super _ _ (indexed-sound j.indexed j.formed) step.asked (omega (arith, q.user-class, own, j.indexed.nlib-is)) (omega (arith, q.asked-there, j.indexed.n-is)) concrete in
       subst (λ (i : ℕ → Group). b ≡ baseBreaks i step.class) e

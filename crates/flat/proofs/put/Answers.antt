@@ -1,9 +1,9 @@
 -- The bytes of a line that is there, one store each.
 use Rattle.std.proofs.Common.{arith, add-one}
 use Rattle.std.proofs.Math.ListN.{length-set}
-use Rattle.spec.specs.Verdicts.{bytes_of}
+use Rattle.spec.specs.Verdicts.{bytesOf}
 use Rattle.theory.proofs.FlatRow.{line-room}
-use Rattle.flat.specs.Row.{put_at}
+use Rattle.flat.specs.Row.{putAt}
 use Rattle.flat.proofs.put.Goals as goal
 
 pub overflow_mul-at : goal.overflow_mul-at
@@ -19,5 +19,5 @@ pub bounds-verdicts-at-2 : goal.bounds-verdicts-at-2
 bounds-verdicts-at-2 c = simp length-set (omega (arith, line-room _ c.requires))
 
 pub returns : goal.returns
-unfolding put_at bytes_of
+unfolding putAt bytesOf
 returns c = rw add-one

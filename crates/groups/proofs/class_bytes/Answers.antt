@@ -1,6 +1,6 @@
 -- The bytes from the group's start to its end, in the library or in the user sheet.
 use Rattle.std.proofs.Common.{◌≡◌, ℕ, ◌<◌, List, length, get_or, refl, ◌∙◌, arith}
-use Rattle.groups.specs.Groups.{start_of, end_of, Indexed, EndOf}
+use Rattle.groups.specs.Groups.{startOf, endOf, Indexed, EndOf}
 use Rattle.groups.specs.declared.Classes.{Classes}
 use Rattle.groups.proofs.Bytes.{some, library-within, library-bytes, user-within, user-bytes, carries}
 use Rattle.groups.proofs.class_bytes.Goals as goal
@@ -9,10 +9,10 @@ use Rattle.groups.proofs.class_bytes.Goals as goal
 
 module _ {library user row : List ℕ} {k : Classes} (x : Indexed library user k.library k.all row) {c start end : ℕ} (h : c < k.all)
     (s : start ≡ get_or row c 0) (e : EndOf row k (length library) (length user) c end) where
-  start_is : start ≡ start_of library user c
+  start_is : start ≡ startOf library user c
   start_is = s ∙ x.starts _ h
 
-  end_is : end ≡ end_of library user c
+  end_is : end ≡ endOf library user c
   end_is = e.is _ _ x refl refl
 
   ordered : start < end

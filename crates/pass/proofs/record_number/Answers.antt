@@ -1,7 +1,7 @@
 -- A record that is torn, then the tests of its head, its name and the room for it.
 use Rattle.std.proofs.Common.{◌≡◌, ◌≤◌, le_refl, arith, eqb, eq-eqb, ne_eqb, lt-ltb, le-ltb, le-leb}
 use borrow.Author.Tests.{lt-leb}
-use Rattle.pass.specs.Pass.{name_at, recordNumber}
+use Rattle.pass.specs.Pass.{nameAt, recordNumber}
 use Rattle.pass.proofs.Tables.{start-inside}
 use Rattle.pass.proofs.Numbers.{full, falling, late, torn, by-head, head-size, by_name}
 use Rattle.pass.proofs.record_number.Goals as goal
@@ -34,7 +34,7 @@ name_fits-requires c = let r = reach (goal.at.name_fits-requires c).After-name_s
 from-name : (c : After-name_fits)
     → recordNumber c.args.sheet c.args.bytes.now c.args.at c.args.c c.args.k c.args.before
     ≡ late c.name_fits.result (full (eqb c.args.kind 1) c.args.c c.args.k) (falling (eqb c.args.kind 1) c.args.kind c.args.before)
-unfolding name_at
+unfolding nameAt
 from-name c =
     rw (c.name_fits.ensures, c.name_start.ensures)
     (by_name _ _ _ (record { left = omega arith; four = omega arith; ends = omega arith })

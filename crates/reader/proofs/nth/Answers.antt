@@ -2,7 +2,7 @@ use Rattle.std.proofs.Common.{◌≡◌, List, ℕ, ◌<◌, ◌∙◌, Bool, ap
 use mathlib.Core.Path.{ap₂}
 use lib.Dec.{T}
 use mathlib.Core.Bool.{not}
-use Rattle.reader.specs.Reading.{after_at, movesAt, foundAt}
+use Rattle.reader.specs.Reading.{afterAt, movesAt, foundAt}
 use Rattle.reader.proofs.Reading.{moves_before, nth-zero, nth-step, nth_end}
 use Rattle.reader.proofs.nth.Goals as goal
 
@@ -22,7 +22,7 @@ loop-reader-smaller c = omega (arith, ahead c)
 pub loop-reader-preserved : goal.loop-reader-preserved
 loop-reader-preserved c =
     let inv = c.loop-reader.invariant in
-    (omega (arith, ahead c), ap (λ b. b.now) c.moved-reader.ensures.0 ∙ inv.1, c.moved-reader.ensures.1 ∙ ap₂ after_at inv.1 inv.2 ∙ nth-step _ _)
+    (omega (arith, ahead c), ap (λ b. b.now) c.moved-reader.ensures.0 ∙ inv.1, c.moved-reader.ensures.1 ∙ ap₂ afterAt inv.1 inv.2 ∙ nth-step _ _)
 
 pub returns : goal.returns
 returns c =

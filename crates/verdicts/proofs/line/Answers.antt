@@ -1,6 +1,6 @@
 -- A line of a flat row.
 use Rattle.std.proofs.Common.{refl, arith, rules}
-use Rattle.spec.specs.Verdicts.{flatLines, flat_at}
+use Rattle.spec.specs.Verdicts.{flatLines, flatAt}
 use Rattle.verdicts.proofs.line.Goals as goal
 
 pub overflow_mul-result : goal.overflow_mul-result
@@ -24,5 +24,5 @@ unfolding flatLines
 bounds-flat-i-2 c = omega arith
 
 pub returns : goal.returns
-unfolding flat_at
+unfolding flatAt
 returns c = refl

@@ -1,17 +1,17 @@
 -- The class's place, then the frame.
 use Rattle.std.proofs.Common.{◌≡◌, sym, ◌∙◌, [], ◌∷◌, take}
 use Rattle.std.proofs.Math.Option.{none}
-use Rattle.spec.specs.Lists.{first_of}
+use Rattle.spec.specs.Lists.{firstOf}
 use Rattle.spec.specs.Refusals.{presentRefusal, noUserRefusal}
-use Rattle.verifier.specs.Changing.{cut_at}
+use Rattle.verifier.specs.Changing.{cutAt}
 use Rattle.verifier.proofs.Replacing.{found_none, found_some, replace-stopped, replace-puts, replace-made}
 use Rattle.verifier.proofs.replace.Goals as goal
 use Rattle.verifier.proofs.replace.Goals.{In-At}
 
 -- the sheets are accepted and have the class, and this is its place
 found : (c : In-At) → let sheet = take c.args.used.now c.args.user.now in
-    (first_of (presentRefusal c.args.library.now c.args.user.now c.args.used.now ∷ noUserRefusal c.args.library.now sheet c.args.class ∷ []) ≡ none)
-    × (c.in-At.cut ≡ cut_at c.args.library.now sheet c.args.used.now c.args.class)
+    (firstOf (presentRefusal c.args.library.now c.args.user.now c.args.used.now ∷ noUserRefusal c.args.library.now sheet c.args.class ∷ []) ≡ none)
+    × (c.in-At.cut ≡ cutAt c.args.library.now sheet c.args.used.now c.args.class)
 found c = found_none _ (sym c.in-At.is ∙ c.cut_of-found.ensures.is)
 
 pub change-requires : goal.change-requires
