@@ -1,6 +1,7 @@
 // One judging: its answer, what it left in the buffers that it was lent, and whether the verdicts are those that were expected.
 use crate::line::same;
 use crate::say;
+use std::io;
 use verifier::{Judged, SCRATCH_BYTES, VERDICT_BYTES, judge};
 
 // More than a judging needs, so that bytes past its need are lent and must be left as they are.
@@ -57,67 +58,79 @@ pub(crate) fn is_clean(scratch: &[u8]) -> bool {
     only(&scratch[SCRATCH_BYTES..], KEPT)
 }
 
-pub(crate) fn say_wrong() {
-    io::write_all(1, b"; buffers wrong");
+pub(crate) fn say_wrong(rt: &impl Print) -> io::Result<()> {
+    rt.write_all(b"; buffers wrong")
 }
 
 // The row is as it was past the verdicts.
-fn say_accepted(row: &[u8], scratch: &[u8], classes: usize, faulted: usize) {
-    say::number(b": classes ", classes);
-    say::number(b" faulted ", faulted);
-    say::row(verdicts(row, classes));
+fn say_accepted(
+    rt: &impl Print,
+    row: &[u8],
+    scratch: &[u8],
+    classes: usize,
+    faulted: usize,
+) -> io::Result<()> {
+    say::number(rt, b": classes ", classes)?;
+    say::number(rt, b" faulted ", faulted)?;
+    say::row(rt, verdicts(row, classes))?;
     if !is_clean(scratch) {
-        say_wrong();
-        return;
+        return say_wrong(rt);
     }
     if !only(past(row, classes), KEPT) {
-        say_wrong();
+        return say_wrong(rt);
     }
+    Ok(())
 }
 
 // A refused judging leaves both buffers as they were.
-fn say_refused(row: &[u8], scratch: &[u8]) {
+fn say_refused(rt: &impl Print, row: &[u8], scratch: &[u8]) -> io::Result<()> {
     if !only(row, KEPT) {
-        say_wrong();
-        return;
+        return say_wrong(rt);
     }
     if !only(scratch, KEPT) {
-        say_wrong();
+        return say_wrong(rt);
     }
+    Ok(())
 }
 
 // No expected verdicts: nothing is compared.
-fn compare(found: &[u8], expected: &[u8]) {
+fn compare(rt: &impl Print, found: &[u8], expected: &[u8]) -> io::Result<()> {
     if expected.len() == 0 {
-        return;
+        return Ok(());
     }
     if same(found, expected) {
-        io::write_all(1, b"; as expected");
-        return;
+        return rt.write_all(b"; as expected");
     }
-    io::write_all(1, b"; EXPECTED");
-    say::row(expected);
+    rt.write_all(b"; EXPECTED")?;
+    say::row(rt, expected)
 }
 
 // How many user classes were judged.
-fn say_judged(judged: Judged, row: &[u8], scratch: &[u8], expected: &[u8]) -> usize {
+fn say_judged(
+    rt: &impl Print,
+    judged: Judged,
+    row: &[u8],
+    scratch: &[u8],
+    expected: &[u8],
+) -> io::Result<usize> {
     match judged {
         Judged::Fine(classes, faulted) => {
-            say_accepted(row, scratch, classes, faulted);
-            compare(verdicts(row, classes), expected);
-            classes
+            say_accepted(rt, row, scratch, classes, faulted)?;
+            compare(rt, verdicts(row, classes), expected)?;
+            Ok(classes)
         }
         Judged::Refused(refusal) => {
-            say::refused(b": ", refusal);
-            say_refused(row, scratch);
-            compare(b"", expected);
-            0
+            say::refused(rt, b": ", refusal)?;
+            say_refused(rt, row, scratch)?;
+            compare(rt, b"", expected)?;
+            Ok(0)
         }
     }
 }
 
 // The row is filled before it.
 pub(crate) fn judging<'a>(
+    rt: &impl Print,
     library: &'a [u8],
     user: &'a [u8],
     used: usize,
@@ -125,12 +138,12 @@ pub(crate) fn judging<'a>(
     row_lent: usize,
     scratch_lent: usize,
     expected: &[u8],
-) -> usize {
+) -> io::Result<usize> {
     let mut scratch = [KEPT; SCRATCH];
     let row_part = lent(row, row_lent);
     let scratch_part = lent(&mut scratch, scratch_lent);
     let judged = judge(library, user, used, row_part, scratch_part);
-    let classes = say_judged(judged, row, &scratch, expected);
-    io::write_all(1, b"\n");
-    classes
+    let classes = say_judged(rt, judged, row, &scratch, expected)?;
+    rt.write_all(b"\n")?;
+    Ok(classes)
 }

@@ -9,28 +9,33 @@ mod script;
 mod sheet;
 mod week;
 
-// A file that fills the buffer may go on after it, so it is not run.
-fn run(path: &[u8]) {
-    let file = os::open_read(path);
-    if file < 0 {
-        os::fail(path);
-        return;
+use std::io::Read;
+use std::rt::Files;
+use std::{fs, io};
+
+// Of a longer file, no more is read.
+const READ_LIMIT: usize = 65536;
+
+// A file that cannot be opened is named and passed over. One with as many bytes as are read may go on after them, so it is not run. What
+// fails later, a read or a write, ends the program with that error.
+fn run<R: Files + Print + Eprint + Alloc>(rt: &R, path: &str) -> io::Result<()> {
+    let file = match fs::open(rt, path) {
+        Ok(file) => file,
+        Err(error) => return eprintln!(rt; "{path}: {error}"),
+    };
+    let mut text = Vec::new(rt.alloc());
+    file.take(READ_LIMIT as u64).read_to_end(&mut text)?;
+    if text.len() == READ_LIMIT {
+        return println!(rt; "a file of {READ_LIMIT} bytes or more");
     }
-    let mut text = io::large_buffer();
-    let n = io::read_full(file, &mut text);
-    libc::close(file);
-    if n == 65536 {
-        io::write_all(1, b"a file of 65536 bytes or more\n");
-        return;
-    }
-    script::run(&text[..n]);
+    script::run(rt, &text)
 }
 
-fn main() {
-    run(b"questions.txt");
-    run(b"judgings.txt");
-    run(b"limits.txt");
-    run(b"week.txt");
-    run(b"interfaces.txt");
-    run(b"papers.txt");
+fn main(rt: HostRuntime) -> io::Result<()> {
+    run(&rt, "questions.txt")?;
+    run(&rt, "judgings.txt")?;
+    run(&rt, "limits.txt")?;
+    run(&rt, "week.txt")?;
+    run(&rt, "interfaces.txt")?;
+    run(&rt, "papers.txt")
 }

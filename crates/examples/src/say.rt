@@ -1,64 +1,87 @@
 // What is written: the answers of `marks`, `name_place` and `name` on one line, what a reader finds, how many classes are faulted, and a row of verdicts.
 use reader::{Found, nth};
+use std::io;
 use verdicts::faulted;
 use verifier::{Judged, Marked, Placed, Refusal, judge, marks, name, name_place};
 
-pub(crate) fn number(text: &[u8], x: usize) {
-    io::write_all(1, text);
-    io::print_decimal(1, x as u64);
+pub(crate) fn number(rt: &impl Print, text: &[u8], x: usize) -> io::Result<()> {
+    rt.write_all(text)?;
+    rt.print(x)
 }
 
-pub(crate) fn refused(text: &[u8], refusal: Refusal) {
-    io::write_all(1, text);
-    number(b"refused ", refusal.number as usize);
-    number(b" sheet ", refusal.sheet as usize);
-    number(b" byte ", refusal.byte);
+pub(crate) fn refused(rt: &impl Print, text: &[u8], refusal: Refusal) -> io::Result<()> {
+    rt.write_all(text)?;
+    number(rt, b"refused ", refusal.number as usize)?;
+    number(rt, b" sheet ", refusal.sheet as usize)?;
+    number(rt, b" byte ", refusal.byte)
 }
 
-fn say_marks<'a>(library: &'a [u8], user: &'a [u8], used: usize, class: usize) {
+fn say_marks<'a>(
+    rt: &impl Print,
+    library: &'a [u8],
+    user: &'a [u8],
+    used: usize,
+    class: usize,
+) -> io::Result<()> {
     match marks(library, user, used, class) {
-        Marked::Fine(set) => number(b": markers ", set as usize),
-        Marked::Refused(refusal) => refused(b": ", refusal),
+        Marked::Fine(set) => number(rt, b": markers ", set as usize),
+        Marked::Refused(refusal) => refused(rt, b": ", refusal),
     }
 }
 
-fn say_place<'a>(library: &'a [u8], user: &'a [u8], used: usize, class: usize) {
+fn say_place<'a>(
+    rt: &impl Print,
+    library: &'a [u8],
+    user: &'a [u8],
+    used: usize,
+    class: usize,
+) -> io::Result<()> {
     match name_place(library, user, used, class) {
         Placed::At(sheet, start, size) => {
-            number(b"; name in sheet ", sheet as usize);
-            number(b" at ", start);
-            number(b", bytes ", size);
+            number(rt, b"; name in sheet ", sheet as usize)?;
+            number(rt, b" at ", start)?;
+            number(rt, b", bytes ", size)
         }
-        Placed::Refused(refusal) => refused(b"; name ", refusal),
+        Placed::Refused(refusal) => refused(rt, b"; name ", refusal),
     }
 }
 
-fn say_name<'a>(library: &'a [u8], user: &'a [u8], used: usize, class: usize) {
-    io::write_all(1, b"; <");
-    io::write_all(1, name(library, user, used, class));
-    io::write_all(1, b">\n");
+fn say_name<'a>(
+    rt: &impl Print,
+    library: &'a [u8],
+    user: &'a [u8],
+    used: usize,
+    class: usize,
+) -> io::Result<()> {
+    rt.write_all(b"; <")?;
+    rt.write_all(name(library, user, used, class))?;
+    rt.write_all(b">\n")
 }
 
 // Class `class` of the library sheet and the first `used` bytes of the user buffer.
-pub(crate) fn answers<'a>(library: &'a [u8], user: &'a [u8], used: usize, class: usize) {
-    say_marks(library, user, used, class);
-    say_place(library, user, used, class);
-    say_name(library, user, used, class);
+pub(crate) fn answers<'a>(
+    rt: &impl Print,
+    library: &'a [u8],
+    user: &'a [u8],
+    used: usize,
+    class: usize,
+) -> io::Result<()> {
+    say_marks(rt, library, user, used, class)?;
+    say_place(rt, library, user, used, class)?;
+    say_name(rt, library, user, used, class)
 }
 
 // Record n of a sheet.
-pub(crate) fn say_record(sheet: &[u8], n: usize) {
+pub(crate) fn say_record(rt: &impl Print, sheet: &[u8], n: usize) -> io::Result<()> {
     match nth(sheet, n) {
         Found::Record { start, len } => {
-            number(b": record at ", start);
-            number(b", bytes ", len);
+            number(rt, b": record at ", start)?;
+            number(rt, b", bytes ", len)?;
         }
-        Found::Broken { start } => number(b": broken at ", start),
-        Found::End => {
-            io::write_all(1, b": end");
-        }
+        Found::Broken { start } => number(rt, b": broken at ", start)?,
+        Found::End => rt.write_all(b": end")?,
     }
-    io::write_all(1, b"\n");
+    rt.write_all(b"\n")
 }
 
 // None where judging refuses.
@@ -70,31 +93,35 @@ fn classes(judged: Judged) -> usize {
 }
 
 // How many user classes are faulted, counted through a row of structs.
-pub(crate) fn say_faulted<'a>(library: &'a [u8], user: &'a [u8], used: usize) {
+pub(crate) fn say_faulted<'a>(
+    rt: &impl Print,
+    library: &'a [u8],
+    user: &'a [u8],
+    used: usize,
+) -> io::Result<()> {
     let mut row = [0u8; 512];
     let mut scratch = [0u8; 65536];
     let n = classes(judge(library, user, used, &mut row, &mut scratch));
-    number(b": faulted ", faulted(&row, n));
-    io::write_all(1, b"\n");
+    number(rt, b": faulted ", faulted(&row, n))?;
+    rt.write_all(b"\n")
 }
 
 // A byte of a row stands after a colon, a space or a bar: two bytes are one class's verdict.
-fn row_byte(i: usize, byte: u8) {
+fn row_byte(rt: &impl Print, i: usize, byte: u8) -> io::Result<()> {
     if i == 0 {
-        number(b": ", byte as usize);
-        return;
+        return number(rt, b": ", byte as usize);
     }
     if i % 2 == 1 {
-        number(b" ", byte as usize);
-        return;
+        return number(rt, b" ", byte as usize);
     }
-    number(b" | ", byte as usize);
+    number(rt, b" | ", byte as usize)
 }
 
-pub(crate) fn row(verdicts: &[u8]) {
+pub(crate) fn row(rt: &impl Print, verdicts: &[u8]) -> io::Result<()> {
     let mut i = 0;
     while i < verdicts.len() {
-        row_byte(i, verdicts[i]);
+        row_byte(rt, i, verdicts[i])?;
         i += 1;
     }
+    Ok(())
 }

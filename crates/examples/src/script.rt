@@ -23,32 +23,43 @@ use crate::line::{next, number, part, rest, same, word};
 use crate::say::{answers, say_faulted, say_record};
 use crate::sheet::{bytes, repeated, verdicts};
 use crate::week::{Call, changing, filled};
+use std::io;
 
-fn ask<'a>(library: &'a [u8], user: &'a [u8], case: Case, class: usize) {
+fn ask<'a>(
+    rt: &impl Print,
+    library: &'a [u8],
+    user: &'a [u8],
+    case: Case,
+    class: usize,
+) -> io::Result<()> {
     answers(
+        rt,
         start(library, case.library),
         start(user, case.user),
         case.used,
         class,
-    );
+    )
 }
 
-fn counted<'a>(library: &'a [u8], user: &'a [u8], case: Case) {
+fn counted<'a>(rt: &impl Print, library: &'a [u8], user: &'a [u8], case: Case) -> io::Result<()> {
     say_faulted(
+        rt,
         start(library, case.library),
         start(user, case.user),
         case.used,
-    );
+    )
 }
 
 fn judged<'a>(
+    rt: &impl Print,
     library: &'a [u8],
     user: &'a [u8],
     expected: &[u8],
     row: &mut [u8],
     case: Case,
-) -> usize {
+) -> io::Result<usize> {
     judging(
+        rt,
         start(library, case.library),
         start(user, case.user),
         case.used,
@@ -60,23 +71,31 @@ fn judged<'a>(
 }
 
 // A judging from nothing: its row is its own.
-fn judged_apart<'a>(library: &'a [u8], user: &'a [u8], expected: &[u8], case: Case) {
+fn judged_apart<'a>(
+    rt: &impl Print,
+    library: &'a [u8],
+    user: &'a [u8],
+    expected: &[u8],
+    case: Case,
+) -> io::Result<()> {
     let mut row = [KEPT; ROW];
-    judged(library, user, expected, &mut row, case);
+    judged(rt, library, user, expected, &mut row, case)?;
+    Ok(())
 }
 
 fn opened<'a>(
+    rt: &impl Print,
     library: &'a [u8],
     user: &'a [u8],
     expected: &[u8],
     row: &mut [u8],
     mut case: Case,
-) -> Case {
+) -> io::Result<Case> {
     filled(row, KEPT);
-    let lines = judged(library, user, expected, row, case);
+    let lines = judged(rt, library, user, expected, row, case)?;
     case.lines = lines;
     case.classes = lines;
-    case
+    Ok(case)
 }
 
 fn begun(mut case: Case) -> Case {
@@ -100,143 +119,176 @@ fn user_set(mut case: Case, size: usize) -> Case {
 }
 
 // The sheet's size after a command that appends to it.
-fn appended(sheet: &mut [u8], size: usize, verb: &[u8], words: &[u8]) -> usize {
+fn appended(
+    rt: &impl Print,
+    sheet: &mut [u8],
+    size: usize,
+    verb: &[u8],
+    words: &[u8],
+) -> io::Result<usize> {
     if same(verb, b"more") {
-        return bytes(sheet, size, words, 0);
+        return Ok(bytes(sheet, size, words, 0));
     }
     if same(verb, b"repeat") {
-        return repeated(sheet, size, words);
+        return Ok(repeated(sheet, size, words));
     }
-    io::write_all(1, b"unknown command ");
-    io::write_all(1, verb);
-    io::write_all(1, b"\n");
-    size
+    rt.write_all(b"unknown command ")?;
+    rt.write_all(verb)?;
+    rt.write_all(b"\n")?;
+    Ok(size)
 }
 
-fn sheets(verb: &[u8], words: &[u8], library: &mut [u8], user: &mut [u8], case: Case) -> Case {
+fn sheets(
+    rt: &impl Print,
+    verb: &[u8],
+    words: &[u8],
+    library: &mut [u8],
+    user: &mut [u8],
+    case: Case,
+) -> io::Result<Case> {
     if same(verb, b"library") {
-        return library_set(case, bytes(library, 0, words, 0));
+        return Ok(library_set(case, bytes(library, 0, words, 0)));
     }
     if same(verb, b"user") {
-        return user_set(case, bytes(user, 0, words, 0));
+        return Ok(user_set(case, bytes(user, 0, words, 0)));
     }
     if case.in_user {
-        return user_set(case, appended(user, case.user, verb, words));
+        let size = appended(rt, user, case.user, verb, words)?;
+        return Ok(user_set(case, size));
     }
-    library_set(case, appended(library, case.library, verb, words))
+    let size = appended(rt, library, case.library, verb, words)?;
+    Ok(library_set(case, size))
 }
 
-fn lent(verb: &[u8], words: &[u8], library: &mut [u8], user: &mut [u8], mut case: Case) -> Case {
+fn lent(
+    rt: &impl Print,
+    verb: &[u8],
+    words: &[u8],
+    library: &mut [u8],
+    user: &mut [u8],
+    mut case: Case,
+) -> io::Result<Case> {
     if same(verb, b"used") {
         case.used = number(words);
-        return case;
+        return Ok(case);
     }
     if same(verb, b"row") {
         case.row = number(words);
-        return case;
+        return Ok(case);
     }
     if same(verb, b"scratch") {
         case.scratch = number(words);
-        return case;
+        return Ok(case);
     }
-    sheets(verb, words, library, user, case)
+    sheets(rt, verb, words, library, user, case)
 }
 
 // Whether the command asks; then what is answered is written.
 fn asked<'a>(
+    rt: &impl Print,
     verb: &[u8],
     words: &[u8],
     library: &'a [u8],
     user: &'a [u8],
     expected: &[u8],
     case: Case,
-) -> bool {
+) -> io::Result<bool> {
     if same(verb, b"ask") {
-        ask(library, user, case, number(words));
-        return true;
+        ask(rt, library, user, case, number(words))?;
+        return Ok(true);
     }
     if same(verb, b"record") {
-        say_record(start(user, case.used), number(words));
-        return true;
+        say_record(rt, start(user, case.used), number(words))?;
+        return Ok(true);
     }
     if same(verb, b"structs") {
-        counted(library, user, case);
-        return true;
+        counted(rt, library, user, case)?;
+        return Ok(true);
     }
     if same(verb, b"judge") {
-        judged_apart(library, user, expected, case);
-        return true;
+        judged_apart(rt, library, user, expected, case)?;
+        return Ok(true);
     }
-    false
+    Ok(false)
 }
 
 fn set(
+    rt: &impl Print,
     verb: &[u8],
     words: &[u8],
     library: &mut [u8],
     user: &mut [u8],
     expected: &mut [u8],
     mut case: Case,
-) -> Case {
+) -> io::Result<Case> {
     if same(verb, b"title") {
-        io::write_all(1, words);
-        return begun(case);
+        rt.write_all(words)?;
+        return Ok(begun(case));
     }
     if same(verb, b"expect") {
         case.expected = verdicts(expected, words);
-        return case;
+        return Ok(case);
     }
-    if asked(verb, words, library, user, expected, case) {
-        return case;
+    if asked(rt, verb, words, library, user, expected, case)? {
+        return Ok(case);
     }
-    lent(verb, words, library, user, case)
+    lent(rt, verb, words, library, user, case)
 }
 
 fn command(
+    rt: &impl Print,
     line: &[u8],
     library: &mut [u8],
     user: &mut [u8],
     expected: &mut [u8],
     row: &mut [u8],
     case: Case,
-) -> Case {
+) -> io::Result<Case> {
     let verb = word(line);
     let words = rest(line);
     if same(verb, b"open") {
-        return opened(library, user, expected, row, case);
+        return opened(rt, library, user, expected, row, case);
     }
     if same(verb, b"add") {
-        return changing(library, user, row, Call::Add, words, case);
+        return changing(rt, library, user, row, Call::Add, words, case);
     }
     if same(verb, b"replace") {
         let call = Call::Replace(number(words));
-        return changing(library, user, row, call, rest(words), case);
+        return changing(rt, library, user, row, call, rest(words), case);
     }
     if same(verb, b"withdraw") {
-        return changing(library, user, row, Call::Withdraw, words, case);
+        return changing(rt, library, user, row, Call::Withdraw, words, case);
     }
-    set(verb, words, library, user, expected, case)
+    set(rt, verb, words, library, user, expected, case)
 }
 
 fn line_done(
+    rt: &impl Print,
     line: &[u8],
     library: &mut [u8],
     user: &mut [u8],
     expected: &mut [u8],
     row: &mut [u8],
     case: Case,
-) -> Case {
+) -> io::Result<Case> {
     if line.len() == 0 {
-        return case;
+        return Ok(case);
     }
     if line[0] == b'#' {
-        return case;
+        return Ok(case);
     }
-    command(line, library, user, expected, row, case)
+    command(rt, line, library, user, expected, row, case)
 }
 
 // There are no more lines than bytes.
-fn lines(text: &[u8], library: &mut [u8], user: &mut [u8], expected: &mut [u8], row: &mut [u8]) {
+fn lines(
+    rt: &impl Print,
+    text: &[u8],
+    library: &mut [u8],
+    user: &mut [u8],
+    expected: &mut [u8],
+    row: &mut [u8],
+) -> io::Result<()> {
     let mut case = Case {
         library: 0,
         user: 0,
@@ -251,16 +303,18 @@ fn lines(text: &[u8], library: &mut [u8], user: &mut [u8], expected: &mut [u8], 
     let mut at = 0;
     let mut left = text.len();
     while 0 < left {
-        case = line_done(part(text, at, b'\n'), library, user, expected, row, case);
+        let line = part(text, at, b'\n');
+        case = line_done(rt, line, library, user, expected, row, case)?;
         at = next(text, at, b'\n');
         left -= 1;
     }
+    Ok(())
 }
 
-pub(crate) fn run(text: &[u8]) {
-    let mut library = io::large_buffer();
-    let mut user = io::large_buffer();
+pub(crate) fn run(rt: &impl Print, text: &[u8]) -> io::Result<()> {
+    let mut library = [0u8; 65536];
+    let mut user = [0u8; 65536];
     let mut expected = [0u8; ROW];
     let mut row = [KEPT; ROW];
-    lines(text, &mut library, &mut user, &mut expected, &mut row);
+    lines(rt, text, &mut library, &mut user, &mut expected, &mut row)
 }

@@ -4,7 +4,8 @@ use crate::judging::{KEPT, ROW, SCRATCH, is_clean, lent, only, past, say_wrong, 
 use crate::line::same;
 use crate::say;
 use crate::sheet::bytes;
-use verifier::{Changed, add, replace, withdraw};
+use std::io;
+use verifier::{Outcome, add, replace, withdraw};
 
 #[derive(Clone, Copy)]
 pub(crate) enum Call {
@@ -78,15 +79,15 @@ fn is_scratch_left(call: Call, accepted: bool, scratch: &[u8]) -> bool {
 }
 
 // Writes the answer; whether the call was accepted.
-fn say_changed(text: &[u8], changed: Changed) -> bool {
+fn say_changed(rt: &impl Print, text: &[u8], changed: Outcome) -> io::Result<bool> {
     match changed {
-        Changed::Fine(number) => {
-            say::number(text, number);
-            true
+        Outcome::Fine(number) => {
+            say::number(rt, text, number)?;
+            Ok(true)
         }
-        Changed::Refused(refusal) => {
-            say::refused(b": ", refusal);
-            false
+        Outcome::Refused(refusal) => {
+            say::refused(rt, b": ", refusal)?;
+            Ok(false)
         }
     }
 }
@@ -116,17 +117,24 @@ fn counted(call: Call, accepted: bool, mut case: Case) -> Case {
     }
 }
 
-fn say_ended(used: usize, lines: usize, row: &[u8], is_right: bool) {
-    say::number(b" used ", used);
-    say::row(verdicts(row, lines));
+fn say_ended(
+    rt: &impl Print,
+    used: usize,
+    lines: usize,
+    row: &[u8],
+    is_right: bool,
+) -> io::Result<()> {
+    say::number(rt, b" used ", used)?;
+    say::row(rt, verdicts(row, lines))?;
     if !is_right {
-        say_wrong();
+        say_wrong(rt)?;
     }
-    io::write_all(1, b"\n");
+    rt.write_all(b"\n")
 }
 
 // The case after a call: what it left in the scratch is known to be right or not.
 fn ended(
+    rt: &impl Print,
     before: &[u8],
     user: &[u8],
     row_before: &[u8],
@@ -134,20 +142,21 @@ fn ended(
     done: Done,
     used: usize,
     mut case: Case,
-) -> Case {
+) -> io::Result<Case> {
     if done.accepted {
         let is_kept = only(past(row, case.lines), KEPT) && is_left(before, user, case.used, used);
-        say_ended(used, case.lines, row, done.is_right && is_kept);
+        say_ended(rt, used, case.lines, row, done.is_right && is_kept)?;
         case.used = used;
-        return case;
+        return Ok(case);
     }
     let is_kept = same(before, user) && same(row_before, row) && used == case.used;
-    say_ended(used, case.lines, row, done.is_right && is_kept);
-    case
+    say_ended(rt, used, case.lines, row, done.is_right && is_kept)?;
+    Ok(case)
 }
 
 // Makes the call; whether it was accepted.
 fn said<'a>(
+    rt: &impl Print,
     library: &'a [u8],
     user: &mut [u8],
     used: &mut usize,
@@ -155,25 +164,26 @@ fn said<'a>(
     group: &'a [u8],
     row: &mut [u8],
     scratch: &mut [u8],
-) -> bool {
+) -> io::Result<bool> {
     match call {
         Call::Add => {
             let added = add(library, user, used, group, row, scratch);
-            say_changed(b": class ", added)
+            say_changed(rt, b": class ", added)
         }
         Call::Replace(class) => {
             let replaced = replace(library, user, used, class, group, row, scratch);
-            say_changed(b": dependents ", replaced)
+            say_changed(rt, b": dependents ", replaced)
         }
         Call::Withdraw => {
             let withdrawn = withdraw(library, user, used, row);
-            say_changed(b": class ", withdrawn)
+            say_changed(rt, b": class ", withdrawn)
         }
     }
 }
 
 // With a scratch of its own.
 fn called<'a>(
+    rt: &impl Print,
     library: &'a [u8],
     user: &mut [u8],
     used: &mut usize,
@@ -181,9 +191,10 @@ fn called<'a>(
     call: Call,
     group: &'a [u8],
     case: Case,
-) -> Done {
+) -> io::Result<Done> {
     let mut scratch = [KEPT; SCRATCH];
     let accepted = said(
+        rt,
         start(library, case.library),
         lent(user, case.user),
         used,
@@ -191,41 +202,43 @@ fn called<'a>(
         group,
         lent(row, case.row),
         lent(&mut scratch, case.scratch),
-    );
-    Done {
+    )?;
+    Ok(Done {
         accepted: accepted,
         is_right: is_scratch_left(call, accepted, &scratch),
-    }
+    })
 }
 
 // With copies of what the call may write, to be compared.
 fn compared<'a>(
+    rt: &impl Print,
     library: &'a [u8],
     user: &mut [u8],
     row: &mut [u8],
     call: Call,
     group: &'a [u8],
     case: Case,
-) -> Case {
-    let mut before = io::large_buffer();
+) -> io::Result<Case> {
+    let mut before = [0u8; 65536];
     copied(&mut before, user);
     let mut row_before = [0u8; ROW];
     copied(&mut row_before, row);
     let mut used = case.used;
-    let done = called(library, user, &mut used, row, call, group, case);
+    let done = called(rt, library, user, &mut used, row, call, group, case)?;
     let after = counted(call, done.accepted, case);
-    ended(&before, user, &row_before, row, done, used, after)
+    ended(rt, &before, user, &row_before, row, done, used, after)
 }
 
 pub(crate) fn changing(
+    rt: &impl Print,
     library: &[u8],
     user: &mut [u8],
     row: &mut [u8],
     call: Call,
     words: &[u8],
     case: Case,
-) -> Case {
+) -> io::Result<Case> {
     let mut group = [0u8; GROUP];
     let size = bytes(&mut group, 0, words, 0);
-    compared(library, user, row, call, start(&group, size), case)
+    compared(rt, library, user, row, call, start(&group, size), case)
 }

@@ -13,8 +13,8 @@ use Rattle.overlay.specs.Memo.{memoOf}
 use Rattle.form.specs.declared.Refusal.{Refusal}
 use Rattle.form.specs.declared.Checked.{Checked}
 use Rattle.form.specs.declared.Checked.TheVariants.{Fine, Refused}
-use Rattle.form.specs.declared.Changed.{Changed}
-use Rattle.form.specs.declared.Changed.TheVariants as C
+use Rattle.form.specs.declared.Outcome.{Outcome}
+use Rattle.form.specs.declared.Outcome.TheVariants as C
 
 -- 11: the deemed markers m of class c clash, or it is class 0 and has any
 unfoldable pub deemedBreaks : ℕ → ℕ → Bool
@@ -70,9 +70,9 @@ refuse number sheet byte = Refused (record { number = number; sheet = sheet; byt
 abbrev pub refusalOf : Refusal → Reason
 refusalOf r = record { number = r.number; sheet = r.sheet; byte = r.byte }
 
-abbrev pub changedAnswer : Changed → Answer ℕ
-changedAnswer (C.Fine n) = accepted n
-changedAnswer (C.Refused r) = refused (refusalOf r)
+abbrev pub outcomeAnswer : Outcome → Answer ℕ
+outcomeAnswer (C.Fine n) = accepted n
+outcomeAnswer (C.Refused r) = refused (refusalOf r)
 
 abbrev pub checkedOf : Option Reason → ℕ → ℕ → Checked
 checkedOf none nlib n = fine nlib n

@@ -36,9 +36,9 @@ pub enum Checked {
     Refused(Refusal),
 }
 
-// What an operation that changes the user sheet answers: its number, or the refusal.
+// What an operation answers that has one number to tell: the number, or the refusal.
 #[derive(Clone, Copy)]
-pub enum Changed {
+pub enum Outcome {
     Fine(usize),
     Refused(Refusal),
 }

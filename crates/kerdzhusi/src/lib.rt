@@ -4,10 +4,10 @@
 ghost use Rattle.std.specs.Prelude.{◌≡◌, ◌≤◌};
 ghost use Rattle.spec.specs.Promises.{refused, Judges, Adds, Replaces, Withdraws, Marks, Places};
 ghost use Rattle.spec.specs.Verdicts.{flat};
-ghost use Rattle.form.specs.Form.{refusalOf, changedAnswer};
+ghost use Rattle.form.specs.Form.{refusalOf, outcomeAnswer};
 ghost use Rattle.kerdzhusi.specs.Codes.{plainValue, countsValue, partValue, replyOf, Codable, Replies};
 
-use verifier::{Changed, Judged, Marked, Placed, Refusal};
+use verifier::{Outcome, Judged, Marked, Placed, Refusal};
 
 // Status 0 and a value, or the refusal's status and 0.
 #[repr(C)]
@@ -28,13 +28,13 @@ fn refusal(turned: Refusal) -> Reply
 }
 
 // What an operation that changes the sheet answers.
-fn changed(answer: Changed) -> Reply
-    requires { Codable (changedAnswer answer) }
-    ensures { result ≡ replyOf plainValue (changedAnswer answer) }
+fn outcome(answer: Outcome) -> Reply
+    requires { Codable (outcomeAnswer answer) }
+    ensures { result ≡ replyOf plainValue (outcomeAnswer answer) }
 {
     match answer {
-        Changed::Refused(turned) => refusal(turned),
-        Changed::Fine(number) => Reply {
+        Outcome::Refused(turned) => refusal(turned),
+        Outcome::Fine(number) => Reply {
             status: 0,
             value: number as u64,
         },
@@ -75,7 +75,7 @@ pub extern "C" fn kz_add<'a>(
         (record { user = user.old; used = used.old; verdicts = verdicts.old })
         scratch.old a (record { user = user.new; used = used.new; verdicts = verdicts.new }) scratch.new) result }
 {
-    changed(verifier::add(library, user, used, group, verdicts, scratch))
+    outcome(verifier::add(library, user, used, group, verdicts, scratch))
 }
 
 #[unsafe(no_mangle)]
@@ -92,7 +92,7 @@ pub extern "C" fn kz_replace<'a>(
         (record { user = user.old; used = used.old; verdicts = verdicts.old })
         scratch.old a (record { user = user.new; used = used.new; verdicts = verdicts.new }) scratch.new) result }
 {
-    changed(verifier::replace(library, user, used, class, group, verdicts, scratch))
+    outcome(verifier::replace(library, user, used, class, group, verdicts, scratch))
 }
 
 #[unsafe(no_mangle)]
@@ -106,7 +106,7 @@ pub extern "C" fn kz_withdraw<'a>(
         (record { user = user.old; used = used.old; verdicts = verdicts.old }) a
         (record { user = user.new; used = used.new; verdicts = verdicts.new })) result }
 {
-    changed(verifier::withdraw(library, user, used, verdicts))
+    outcome(verifier::withdraw(library, user, used, verdicts))
 }
 
 #[unsafe(no_mangle)]

@@ -1,34 +1,32 @@
 // Lists the verdicts of `user.sheet` beside `library.sheet`, both in the current folder.
 #![tactic(auto)]
 
-ghost use Rattle.io.specs.Counts.{IsPrefixLen};
-
-use libc::STDOUT_FILENO;
 use listing_text::listing_text;
+use std::io::Read;
+use std::rt::Files;
+use std::{fs, io};
 
-// Puts a file into the buffer and answers how many bytes came. A file that cannot be opened counts as empty; of one that is too long
-// for a sheet enough comes to be refused.
-fn read(path: &[u8], buffer: &mut [u8]) -> usize
-    ensures { IsPrefixLen result buffer.new }
-{
-    let file = os::open_read(path);
-    if file < 0 {
-        return 0;
+// More bytes than a sheet may have.
+const READ_LIMIT: u64 = 65536;
+
+// The bytes of a file. Of one that is too long for a sheet enough come to be refused. A file that cannot be opened counts as empty; one
+// that can be opened and then not read to its end is an error, so that no part of a sheet is listed as if it were all of it.
+fn read<R: Files + Alloc>(rt: &R, path: &str) -> io::Result<Vec<u8, R::A>> {
+    let mut bytes = Vec::new(rt.alloc());
+    if let Ok(file) = fs::open(rt, path) {
+        file.take(READ_LIMIT).read_to_end(&mut bytes)?;
     }
-    let size = io::read_full(file, buffer);
-    libc::close(file);
-    size
+    Ok(bytes)
 }
 
-fn main() {
-    let mut library = io::large_buffer();
-    let mut user = io::large_buffer();
-    let mut scratch = io::large_buffer();
-    let mut out = io::large_buffer();
-    let first = read(b"library.sheet", &mut library);
-    let second = read(b"user.sheet", &mut user);
-    let size = listing_text(&library[..first], &user, second, &mut scratch, &mut out);
+fn main(rt: HostRuntime) -> io::Result<()> {
+    let library = read(&rt, "library.sheet")?;
+    let user = read(&rt, "user.sheet")?;
+    let mut scratch = [0u8; 65536];
+    let mut out = [0u8; 65536];
+    let size = listing_text(&library, &user, user.len(), &mut scratch, &mut out);
     if size <= out.len() {
-        io::write_all(STDOUT_FILENO, &out[..size]);
+        rt.write_all(&out[..size])?;
     }
+    Ok(())
 }

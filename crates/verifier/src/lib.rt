@@ -8,14 +8,14 @@ ghost use Rattle.spec.specs.Promises.{Judges, Adds, Replaces, Makes};
 ghost use Rattle.spec.specs.Verdicts.{flat};
 ghost use Rattle.spec.specs.Refusals.{presentRefusal, formRefusal};
 ghost use Rattle.groups.specs.Groups.{Indexed};
-ghost use Rattle.form.specs.Form.{checkedOf, changedAnswer};
+ghost use Rattle.form.specs.Form.{checkedOf, outcomeAnswer};
 ghost use Rattle.verifier.specs.Answers.{judgedAnswer};
 ghost use Rattle.verifier.specs.Changing.{Touched, Puts, putting, CutOf};
 
 use admit::{admit, short};
 use edit::write;
 use flat::{faulted, marked, rejudge};
-pub use form::{Changed, Refusal};
+pub use form::{Outcome, Refusal};
 use form::{Checked, UNASKED, plain, present};
 use groups::{Classes, group_end};
 use lanes::EMPTY;
@@ -99,12 +99,12 @@ fn change<'a>(
     class: usize,
     verdicts: &mut [u8],
     scratch: &mut [u8],
-) -> Changed
+) -> Outcome
     requires { Puts library.now user.old used.old group.now cut class }
     ensures { Makes flat
         (putting library.now (record { user = user.old; used = used.old; verdicts = verdicts.old })
         group.now cut class (length scratch.old))
-        (record { user = user.old; used = used.old; verdicts = verdicts.old }) scratch.old (changedAnswer result)
+        (record { user = user.old; used = used.old; verdicts = verdicts.old }) scratch.old (outcomeAnswer result)
         (record { user = user.new; used = used.new; verdicts = verdicts.new }) scratch.new }
 {
     let mut starts = [0u16; CLASS_LIMIT];
@@ -121,7 +121,7 @@ fn change<'a>(
         &mut memo,
     );
     match admitted {
-        Checked::Refused(refusal) => Changed::Refused(refusal),
+        Checked::Refused(refusal) => Outcome::Refused(refusal),
         Checked::Fine(classes) => {
             let size = view_len(user, group, cut);
             write(user, group, cut);
@@ -132,7 +132,7 @@ fn change<'a>(
             rejudge(
                 library, sheet, &starts, classes, &mut memo, &marks, verdicts, scratch,
             );
-            Changed::Fine(marked(&marks, classes.all))
+            Outcome::Fine(marked(&marks, classes.all))
         }
     }
 }
@@ -155,15 +155,15 @@ pub fn add<'a>(
     group: &'a [u8],
     verdicts: &mut [u8],
     scratch: &mut [u8],
-) -> Changed
+) -> Outcome
     ensures { Adds flat library.now group.now
-        (record { user = user.old; used = used.old; verdicts = verdicts.old }) scratch.old (changedAnswer result)
+        (record { user = user.old; used = used.old; verdicts = verdicts.old }) scratch.old (outcomeAnswer result)
         (record { user = user.new; used = used.new; verdicts = verdicts.new }) scratch.new }
 {
     let size = *used;
     let checked = accepted(library, user, size);
     match checked {
-        Checked::Refused(refusal) => Changed::Refused(refusal),
+        Checked::Refused(refusal) => Outcome::Refused(refusal),
         Checked::Fine(classes) => {
             let cut = Cut {
                 from: size,
@@ -173,8 +173,8 @@ pub fn add<'a>(
             let class = classes.all;
             let changed = change(library, user, used, group, cut, class, verdicts, scratch);
             match changed {
-                Changed::Refused(refusal) => Changed::Refused(refusal),
-                Changed::Fine(_touched) => Changed::Fine(class),
+                Outcome::Refused(refusal) => Outcome::Refused(refusal),
+                Outcome::Fine(_touched) => Outcome::Fine(class),
             }
         }
     }
@@ -220,15 +220,15 @@ pub fn replace<'a>(
     group: &'a [u8],
     verdicts: &mut [u8],
     scratch: &mut [u8],
-) -> Changed
+) -> Outcome
     ensures { Replaces flat library.now class group.now
-        (record { user = user.old; used = used.old; verdicts = verdicts.old }) scratch.old (changedAnswer result)
+        (record { user = user.old; used = used.old; verdicts = verdicts.old }) scratch.old (outcomeAnswer result)
         (record { user = user.new; used = used.new; verdicts = verdicts.new }) scratch.new }
 {
     let size = *used;
     let found = cut_of(library, user, size, class);
     match found {
-        Found::Refused(refusal) => Changed::Refused(refusal),
+        Found::Refused(refusal) => Outcome::Refused(refusal),
         Found::At(cut) => change(library, user, used, group, cut, class, verdicts, scratch),
     }
 }

@@ -9,10 +9,10 @@ ghost use Rattle.spec.specs.Verdicts.{flat};
 ghost use Rattle.spec.specs.Promises.{Withdraws};
 ghost use Rattle.records.specs.Records.{between, AtRecord};
 ghost use Rattle.groups.specs.Groups.{Indexed};
-ghost use Rattle.form.specs.Form.{Checks, changedAnswer};
+ghost use Rattle.form.specs.Form.{Checks, outcomeAnswer};
 
 use edit::clear;
-pub use form::Changed;
+pub use form::Outcome;
 use form::{Checked, UNASKED, plain, present};
 use groups::{Classes, class_bytes};
 use named::names;
@@ -95,9 +95,9 @@ pub fn withdraw<'a>(
     user: &mut [u8],
     used: &mut usize,
     verdicts: &mut [u8],
-) -> Changed
+) -> Outcome
     ensures { Withdraws flat library.now
-        (record { user = user.old; used = used.old; verdicts = verdicts.old }) (changedAnswer result)
+        (record { user = user.old; used = used.old; verdicts = verdicts.old }) (outcomeAnswer result)
         (record { user = user.new; used = used.new; verdicts = verdicts.new }) }
 {
     let mut starts = [0u16; CLASS_LIMIT];
@@ -106,7 +106,7 @@ pub fn withdraw<'a>(
     let lines = verdicts.len() / VERDICT_BYTES;
     let checked = removable(library, user, size, lines, &mut starts, &mut memo);
     match checked {
-        Checked::Refused(refusal) => Changed::Refused(refusal),
+        Checked::Refused(refusal) => Outcome::Refused(refusal),
         Checked::Fine(classes) => {
             let last = classes.all - 1;
             let start = wide(starts[last]);
@@ -114,7 +114,7 @@ pub fn withdraw<'a>(
             *used = start;
             let line = VERDICT_BYTES * (last - classes.library);
             clear(verdicts, line, line + VERDICT_BYTES);
-            Changed::Fine(last)
+            Outcome::Fine(last)
         }
     }
 }

@@ -4,8 +4,8 @@ use Rattle.kerdzhusi.proofs.Codes.{replies}
 use Rattle.kerdzhusi.proofs.Bounds.{adds-low}
 use Rattle.kerdzhusi.proofs.kz_add.Goals as goal
 
-pub changed-requires : goal.changed-requires
-changed-requires c = record { low = adds-low _ _ c.add.ensures }
+pub outcome-requires : goal.outcome-requires
+outcome-requires c = record { low = adds-low _ _ c.add.ensures }
 
 pub returns : goal.returns
-returns c = replies plainValue _ c.add.ensures c.changed.ensures
+returns c = replies plainValue _ c.add.ensures c.outcome.ensures

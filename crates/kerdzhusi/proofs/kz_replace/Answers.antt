@@ -4,8 +4,8 @@ use Rattle.kerdzhusi.proofs.Codes.{replies}
 use Rattle.kerdzhusi.proofs.Bounds.{replaces-low}
 use Rattle.kerdzhusi.proofs.kz_replace.Goals as goal
 
-pub changed-requires : goal.changed-requires
-changed-requires c = record { low = replaces-low _ _ _ c.replace.ensures }
+pub outcome-requires : goal.outcome-requires
+outcome-requires c = record { low = replaces-low _ _ _ c.replace.ensures }
 
 pub returns : goal.returns
-returns c = replies plainValue _ c.replace.ensures c.changed.ensures
+returns c = replies plainValue _ c.replace.ensures c.outcome.ensures

@@ -4,8 +4,8 @@ use Rattle.kerdzhusi.proofs.Codes.{replies}
 use Rattle.kerdzhusi.proofs.Bounds.{withdraws-low}
 use Rattle.kerdzhusi.proofs.kz_withdraw.Goals as goal
 
-pub changed-requires : goal.changed-requires
-changed-requires c = record { low = withdraws-low _ c.withdraw.ensures }
+pub outcome-requires : goal.outcome-requires
+outcome-requires c = record { low = withdraws-low _ c.withdraw.ensures }
 
 pub returns : goal.returns
-returns c = replies plainValue _ c.withdraw.ensures c.changed.ensures
+returns c = replies plainValue _ c.withdraw.ensures c.outcome.ensures

@@ -4,7 +4,7 @@ use Rattle.std.proofs.Math.Option.{none}
 use Rattle.spec.specs.Sheet.{classCount, total}
 use Rattle.spec.specs.Refusals.{presentRefusal}
 use Rattle.form.proofs.Accepting.{fine-none, refused-is}
-use Rattle.form.specs.Form.{changedAnswer}
+use Rattle.form.specs.Form.{outcomeAnswer}
 use Rattle.verifier.proofs.Adding.{add-present, add-puts, add_turned, add-made}
 use Rattle.verifier.proofs.add.Goals as goal
 use Rattle.verifier.proofs.add.Goals.{In-Fine}
@@ -25,9 +25,9 @@ returns-in-Refused c = add-present _ _ _ _ _ _ (refused-is _ _ _ (sym c.in-Refus
 pub returns-in-Refused-changed : goal.returns-in-Refused-changed
 returns-in-Refused-changed c =
     let t = told (goal.at.returns-in-Refused-changed c).In-Fine in
-    add_turned _ _ _ _ _ _ t.0 (rw t.1.1 at c.change-changed.ensures) (ap changedAnswer c.in-Refused-changed.is)
+    add_turned _ _ _ _ _ _ t.0 (rw t.1.1 at c.change-changed.ensures) (ap outcomeAnswer c.in-Refused-changed.is)
 
 pub returns-in-Fine-changed : goal.returns-in-Fine-changed
 returns-in-Fine-changed c =
     let t = told (goal.at.returns-in-Fine-changed c).In-Fine in
-    add-made _ _ _ _ _ _ t.0 (rw t.1.1 at c.change-changed.ensures) (ap changedAnswer c.in-Fine-changed.is) t.1.1
+    add-made _ _ _ _ _ _ t.0 (rw t.1.1 at c.change-changed.ensures) (ap outcomeAnswer c.in-Fine-changed.is) t.1.1
