@@ -1,11 +1,11 @@
-//! Links the static library that `rt staticlib kerdzhusi` writes, or the one that KERDZHUSI_LIB
+//! Links the static library that `rt lib` writes in crates/kerdzhusi, or the one that KERDZHUSI_LIB
 //! names. Both paths start at the repository's root.
 
 use std::path::{Path, PathBuf};
 use std::{env, process};
 
 const VARIABLE: &str = "KERDZHUSI_LIB";
-const USUAL_PLACE: &str = "target/staticlib/libkerdzhusi.a";
+const USUAL_PLACE: &str = "crates/kerdzhusi/out/libkerdzhusi.a";
 
 fn main() {
     let archive = archive();
@@ -15,7 +15,7 @@ fn main() {
         (archive.is_file(), archive.parent(), archive.file_name())
     else {
         let place = archive.display();
-        eprintln!("no {place}: run `rt staticlib kerdzhusi` first");
+        eprintln!("no {place}: run `rt lib` in crates/kerdzhusi first");
         process::exit(1);
     };
     let (directory, name) = (directory.display(), Path::new(name).display());

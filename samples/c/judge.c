@@ -4,7 +4,7 @@
  * takes the last class back out.
  * Build and run at the repository's root:
  *
- *     cc -Iinclude samples/c/judge.c target/staticlib/libkerdzhusi.a -o target/judge
+ *     cc -Iinclude samples/c/judge.c crates/kerdzhusi/out/libkerdzhusi.a -o target/judge
  *     target/judge samples/papers
  */
 #include "kerdzhusi.h"
