@@ -18,6 +18,7 @@
  *   verdicts, verdicts_len  the verdicts, KZ_VERDICT_BYTES for each user class in class order:
  *                           rule, then record number. An odd last byte belongs to no verdict
  *   scratch, scratch_len    KZ_SCRATCH_BYTES to work in, of any content; more is allowed
+ *   out, out_len            a buffer that the call writes from its start on
  *
  * A pointer may be NULL where its length is 0: so the archive behaves, and the host's tests call it
  * so; the proofs speak of buffers that are there. `used` of kz_add, kz_replace and kz_withdraw is
@@ -54,7 +55,8 @@
  *   12  too few verdicts or too little scratch
  *   13  no class has this number; for a replacement, no user class; for a withdrawal, there is none
  *   14  the group is not whole records with one CLASS, its first
- *   15  the new user sheet is over its buffer or over KZ_SHEET_BYTES
+ *   15  the new user sheet is over its buffer or over KZ_SHEET_BYTES; or the output buffer is
+ *       shorter than what would be written
  *   16  the record's kind is lower than that of the record before it in its group
  *   17  another class names the one that would be withdrawn
  *
@@ -70,6 +72,7 @@
  *   kz_replace         1 to 16
  *   kz_withdraw        1 to 13, 16, 17
  *   kz_name, kz_marks  1 to 11, 13, 16
+ *   kz_canonical       1 to 11, 15, 16
  */
 #ifndef KERDZHUSI_H
 #define KERDZHUSI_H
@@ -170,6 +173,20 @@ kz_answer kz_name(const uint8_t *library, size_t library_len,
  */
 kz_answer kz_marks(const uint8_t *library, size_t library_len,
                    const uint8_t *user, size_t user_len, size_t used, size_t class_number);
+
+/*
+ * Writes the canonical form of the user sheet: in each group IMPLEMENTS, USES, BUILDS and REFERS
+ * ascend by class, then by index, without repeats; all other records stand as they did. Two sheets
+ * over one library have the same canonical form if and only if they mean the same; it is accepted,
+ * never longer than the sheet, and its own canonical form. Each class keeps its rule; the record of
+ * a verdict may be another.
+ *
+ * value     the length of the form
+ * out       begins with it; the bytes after it are untouched
+ */
+kz_answer kz_canonical(const uint8_t *library, size_t library_len,
+                       const uint8_t *user, size_t user_len, size_t used,
+                       uint8_t *out, size_t out_len);
 
 /* The number of a refusal, 0 for a call that was accepted. */
 static inline unsigned kz_refusal_number(uint64_t status) { return (unsigned)(status & 0xFF); }

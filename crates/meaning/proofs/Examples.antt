@@ -8,4 +8,4 @@ use Rattle.meaning.specs.Examples.{examples, AllHold}
 
 pub examples-hold : AllHold examples
 unfolding examples isSet bodyNumber insert ascend arranged canonicalGroup canonical evaluation
-examples-hold = refl also refl also refl also refl also refl also tt
+examples-hold = refl also refl also refl also refl also refl also refl also tt

@@ -11,6 +11,12 @@ A = class 0 0 none² 0x41
 abbrev pub builds256 : List ℕ
 builds256 = 6 ∷ 0 ∷ 6 ∷ 0 ∷ 0 ∷ 1 ∷ []
 
+abbrev pub implements : ℕ → List ℕ
+implements t = 6 ∷ 0 ∷ 2 ∷ 0 ∷ t ∷ 0 ∷ []
+
+abbrev pub refers : ℕ → ℕ → List ℕ
+refers t i = 8 ∷ 0 ∷ 8 ∷ 0 ∷ t ∷ 0 ∷ i ∷ 0 ∷ []
+
 -- a sheet and its canonical form
 pub record Example : Type 0 where
   pub sheet : List ℕ
@@ -30,6 +36,8 @@ examples =
     -- by class, then by index
     ∷ record { sheet = A ++ (uses 2 0 ++ (uses 1 1 ++ uses 1 0)); form = A ++ (uses 1 0 ++ (uses 1 1 ++ uses 2 0)) }
     ∷ record { sheet = A ++ (builds256 ++ builds 2); form = A ++ (builds 2 ++ builds256) }
+    -- IMPLEMENTS and REFERS are sets too
+    ∷ record { sheet = A ++ (implements 2 ++ (implements 1 ++ (refers 0 1 ++ (refers 0 0 ++ refers 0 1)))); form = A ++ (implements 1 ++ (implements 2 ++ (refers 0 0 ++ refers 0 1))) }
     -- FIELDs keep their order, and groups stay apart
     ∷ record { sheet = A ++ (x 5 0 0 0 ++ (x 1 0 4 0 ++ (builds 1 ++ (A ++ builds 0)))); form = A ++ (x 5 0 0 0 ++ (x 1 0 4 0 ++ (builds 1 ++ (A ++ builds 0)))) }
     ∷ record { sheet = []; form = [] }
