@@ -10,7 +10,7 @@ use native.Mathlib.Nat.{add-zero, add-suc, suc-add, le_of_suc-le-suc, not-suc-le
 use native.Mathlib.Omega.{arith}
 use lib.Dec.{T}
 use lib.ListN.{length, get_or, take, drop, set}
-use Rattle.spec.specs.Lists.{any, all, keep, gather, numbered, span}
+use Rattle.spec.specs.Lists.{any, all, concat, keep, gather, numbered, span}
 use Rattle.laws.proofs.Bools.{and_l, and_r, t-and, not-or, not-or-l, not-or-r}
 
 module _ {A : Type 0} (P : A → Type 0) where
@@ -125,6 +125,19 @@ pub all-parts : {A B : Type 0} (Q : B → Type 0) (f : A → List B) (xs : List 
 unfolding gather
 all-parts Q f [] h = tt
 all-parts Q f (x ∷ xs) h = (all_left Q (f x) (gather f xs) h, all-parts Q f xs (all_right Q (f x) (gather f xs) h))
+
+-- ---- lists end to end
+
+module _ {A : Type 0} (P : A → Type 0) where
+  pub all-concat : (xs : List (List A)) → All (All P) xs → All P (concat xs)
+  unfolding concat
+  all-concat [] h = tt
+  all-concat (x ∷ xs) h = all_append P x (concat xs) h.0 (all-concat xs h.1)
+
+  pub each-concat : (xs : List (List A)) → All P (concat xs) → All (All P) xs
+  unfolding concat
+  each-concat [] h = tt
+  each-concat (x ∷ xs) h = (all_left P x (concat xs) h, each-concat xs (all_right P x (concat xs) h))
 
 -- ---- functions that agree on a list's elements
 

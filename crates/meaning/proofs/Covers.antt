@@ -158,17 +158,6 @@ target-named {g} {b} {d} m e q = record { bytes = b; member = m; names = subst (
 
 -- ---- groups that mean the same
 
-meaning-back : {g h : Group} → SameMeaning g h → SameMeaning h g
-meaning-back m = record {
-  class = sym m.class;
-  fields = sym m.fields;
-  locals = sym m.locals;
-  implements = λ t. ((m.implements t).1, (m.implements t).0);
-  uses = λ d i. ((m.uses d i).1, (m.uses d i).0);
-  builds = λ t. ((m.builds t).1, (m.builds t).0);
-  refers = λ d i. ((m.refers d i).1, (m.refers d i).0);
-}
-
 module _ (g h : Group) (u : UserGroup g) (v : UserGroup h) (m : SameMeaning g h) where
   same-first : {r : List ℕ} → At g 0 r → At h 0 r
   same-first {r} a = subst (At h 0) (sym m.class ∙ first-record a) (at-class h v.one)
@@ -229,12 +218,6 @@ module _ (g h : Group) (u : UserGroup g) (v : UserGroup h) (m : SameMeaning g h)
 
 -- ---- two user sheets, group by group
 
-groups-back : (gs hs : List Group) → SameGroups gs hs → SameGroups hs gs
-groups-back [] [] m = tt
-groups-back [] (h ∷ hs) m = absurd m
-groups-back (g ∷ gs) [] m = absurd m
-groups-back (g ∷ gs) (h ∷ hs) m = (meaning-back m.0, groups-back gs hs m.1)
-
 groups-count : (gs hs : List Group) → SameGroups gs hs → length gs ≡ length hs
 groups-count [] [] m = refl
 groups-count [] (h ∷ hs) m = absurd m
@@ -257,10 +240,6 @@ behind-cover (l ∷ ls) gs hs f (suc c) = behind-cover ls gs hs f c
 pub sheets-cover : (library s t : List ℕ) → All UserGroup (groupsOf s) → All UserGroup (groupsOf t) → MeanSame s t → (c : ℕ) → Covers (group library s c) (group library t c)
 unfolding group MeanSame
 sheets-cover library s t u v m = behind-cover (groupsOf library) (groupsOf s) (groupsOf t) (groups-cover (groupsOf s) (groupsOf t) u v m)
-
-pub sheets-back : (s t : List ℕ) → MeanSame s t → MeanSame t s
-unfolding MeanSame
-sheets-back s t m = groups-back (groupsOf s) (groupsOf t) m
 
 pub sheets-count : (library s t : List ℕ) → MeanSame s t → total library s ≡ total library t
 unfolding MeanSame total classCount

@@ -21,7 +21,8 @@ use Rattle.laws.proofs.Members.{at_in}
 use Rattle.theory.proofs.Form.{accepted-sound}
 use Rattle.theory.proofs.Demand2.{demand2}
 use Rattle.meaning.specs.Claims.{SameRules}
-use Rattle.meaning.proofs.Covers.{Covers, member-place, user-groups, sheets-cover, sheets-back, sheets-count}
+use Rattle.meaning.proofs.Same.{mean-turn}
+use Rattle.meaning.proofs.Covers.{Covers, member-place, user-groups, sheets-cover, sheets-count}
 use Rattle.meaning.proofs.Relations.{flag-over, marked-over, satisfies-over, root-over, slot-over}
 
 -- ---- what a class breaks
@@ -110,7 +111,7 @@ same-rules library user used a user' used' b m c hl hc =
     let u = user-groups (classCount library) s (accepted-sound library user used a.unrefused).userSheet in
     let v = user-groups (classCount library) t (accepted-sound library user' used' b.unrefused).userSheet in
     let over = sheets-cover library s t u v m in
-    let back = sheets-cover library t s v u (sheets-back s t m) in
+    let back = sheets-cover library t s v u (mean-turn s t m) in
     let h : c < total library t = subst (λ (n : ℕ). c < n) (sheets-count library s t m) hc in
     rule-same (Breaks (classCount library) (group library s) c) (Breaks (classCount library) (group library t) c)
     (λ r k. breaks-over (classCount library) (group library s) (group library t) over back)

@@ -14,7 +14,7 @@ use Rattle.spec.specs.Lists.{any, concat}
 use Rattle.spec.specs.Record.{u16, isClass}
 use Rattle.spec.specs.Sheet.{Group, wholeFirst, recordsIn, recordsOf, wholeEnd, Split, splitGroups, groupsOf, classCount}
 use Rattle.spec.specs.Refusals.{oneClass, wholeGroup}
-use Rattle.laws.proofs.All.{All, all_append, all_left, all_right, all_map}
+use Rattle.laws.proofs.All.{All, all_right, all_map, all-concat, each-concat}
 use Rattle.laws.proofs.Parts.{u16-take}
 use Rattle.laws.proofs.Bools.{t-and, t_true, t-false, true-t, and_l, and_r, not-or-l, not-or-r}
 
@@ -278,16 +278,11 @@ pub regroup : (gs : List (List ℕ)) → All IsGroup gs → map concat (map reco
 regroup [] h = refl
 regroup (g ∷ gs) h = ap₂ (λ (a : List ℕ) (b : List (List ℕ)). a ∷ b) (group-end g h.0) (regroup gs h.1)
 
-all-concat : (xs : List Group) → All (All Whole) xs → All Whole (concat xs)
-unfolding concat
-all-concat [] h = tt
-all-concat (x ∷ xs) h = all_append Whole x (concat xs) h.0 (all-concat xs h.1)
-
 pub records-of-groups : (gs : List (List ℕ)) → All IsGroup gs → recordsOf (concat gs) ≡ concat (map recordsOf gs)
 records-of-groups gs h =
     ap (λ (l : List (List ℕ)). recordsOf (concat l)) (sym (regroup gs h))
     ∙ ap recordsOf (concat-concat (map recordsOf gs))
-    ∙ records-of-join (concat (map recordsOf gs)) (all-concat (map recordsOf gs) (all_map IsGroup (All Whole) recordsOf (λ g q. records-of-whole g) gs h))
+    ∙ records-of-join (concat (map recordsOf gs)) (all-concat Whole (map recordsOf gs) (all_map IsGroup (All Whole) recordsOf (λ g q. records-of-whole g) gs h))
 
 -- whole groups end to end are split into the same groups
 pub groups-of-join : (gs : List (List ℕ)) → All IsGroup gs → groupsOf (concat gs) ≡ map recordsOf gs
@@ -301,15 +296,10 @@ unfolding classCount
 count-of-join gs h = ap length (groups-of-join gs h) ∙ length-map gs recordsOf
 
 -- what holds of the records of a sheet holds of those of each group
-parts : (P : List ℕ → Type 0) (xs : List Group) → All P (concat xs) → All (All P) xs
-unfolding concat
-parts P [] h = tt
-parts P (x ∷ xs) h = (all_left P x (concat xs) h, parts P xs (all_right P x (concat xs) h))
-
 pub in-groups : (P : List ℕ → Type 0) (s : List ℕ) → All P (recordsOf s) → All (All P) (groupsOf s)
 unfolding groupsOf
 in-groups P s h =
-    parts P (splitGroups (recordsOf s)).groups
+    each-concat P (splitGroups (recordsOf s)).groups
     (all_right P (splitGroups (recordsOf s)).loose (concat (splitGroups (recordsOf s)).groups) (subst (All P) (split_parts (recordsOf s)).joined h))
 
 -- a sheet of whole records that begins with a CLASS record, or is empty, is its groups end to end, and each is whole

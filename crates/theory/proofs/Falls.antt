@@ -7,7 +7,7 @@ use mathlib.Core.List.{List, Memᴰ}
 use Prim.Native.Nat.{ℕ, ◌<◌}
 use lib.Dec.{T, eqb, leb, ltb, eqb→eq, ltb→lt}
 use Rattle.spec.specs.Record.{bit, none16, flags, superclass, encloser, target}
-use Rattle.spec.specs.Sheet.{Group, ofKind, isInterface}
+use Rattle.spec.specs.Sheet.{Group, isInterface}
 use Rattle.spec.specs.Relations.{Superclass, Encloser, Implements}
 use Rattle.spec.specs.Refusals.{superclassFits, encloserFits, implementsFits}
 use Rattle.laws.proofs.Bools.{true-t, and_l, and_r}

@@ -38,11 +38,10 @@ accepted-sound library user used e = sound library (take used user) (first-none 
 
 -- ---- bytes
 
-Byte : ℕ → Type 0
+abbrev pub Byte : ℕ → Type 0
 Byte b = b < 256
 
-bytes-all : (s : List ℕ) → Bytes s → All Byte s
-unfolding Byte
+pub bytes-all : (s : List ℕ) → Bytes s → All Byte s
 bytes-all [] h = tt
 bytes-all (b ∷ s) h = (h.0, bytes-all s h.1)
 
@@ -61,7 +60,7 @@ unfolding recordsOf
 group-bytes s h = in-groups (All Byte) s (records-bytes (length s) s h)
 
 markers-low : (library user : List ℕ) → All Byte library → All Byte user → (c : ℕ) → ownMarkers (classRecord (group library user c)) < 256
-unfolding group classRecord ownMarkers u8 Byte
+unfolding group classRecord ownMarkers u8
 markers-low library user hl hu c =
     let g : Group = get_or (groupsOf library ++ groupsOf user) c [] in
     let h : All (All Byte) g =

@@ -10,10 +10,9 @@ use native.Mathlib.Nat.{le_refl, not-suc-le-zero}
 use native.Mathlib.Omega.{arith}
 use lib.Dec.{T, ltb, ltb→lt, nltb→le, lt→ltb}
 use Rattle.spec.specs.Lists.{gather}
-use Rattle.spec.specs.Record.{superclass, encloser}
 use Rattle.spec.specs.Sheet.{Group}
 use Rattle.spec.specs.Classes.{superclasses, enclosing, enclosersIn, enclosers, inside, lineageIn, lineage, rootIn, root}
-use Rattle.spec.specs.Relations.{Superclass, Encloser, self, above, Lineage, up, Root, Inside, direct, deeper, start}
+use Rattle.spec.specs.Relations.{Superclass, Encloser, self, Lineage, up, Root, Inside, direct, deeper}
 use Rattle.laws.proofs.Bools.{decide, nltb, false-t, t_true, t-false}
 use Rattle.laws.proofs.All.{All, of_members, gather_cong}
 use Rattle.laws.proofs.Members.{elem_mem, mem-elem, gather-mem, mem-gather}

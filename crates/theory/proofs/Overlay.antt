@@ -11,7 +11,7 @@ use native.Mathlib.Omega.{arith}
 use lib.Dec.{T, T_not, eqb, eqb→eq, lit<}
 use lib.Bits.{or_lt}
 use Rattle.spec.specs.Lists.{keep}
-use Rattle.spec.specs.Record.{bit, IMPLEMENTS, ownMarkers, superclass}
+use Rattle.spec.specs.Record.{bit, IMPLEMENTS, ownMarkers}
 use Rattle.spec.specs.Sheet.{Group, classRecord}
 use Rattle.spec.specs.Markers.{gives, union, unionAll}
 use Rattle.spec.specs.Classes.{superclasses, targets, supertypes, gathered, overlay, hasMarker}

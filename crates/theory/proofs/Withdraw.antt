@@ -27,7 +27,7 @@ use Rattle.laws.proofs.All.{All, all_take, weaken, weaken₂, any-cong, all-part
 use Rattle.laws.proofs.Members.{elem_mem, mem-elem}
 use Rattle.theory.proofs.Answers.{Fails, first-none, none_first, none-if, plain-none, none-plain, passing, unrefused}
 use Rattle.theory.proofs.Cut.{IsGroup, concat-append, map-take, split-join, split_parts, records-of-groups, groups-of-join, sheet-grouped, sheet-groups, whole_join}
-use Rattle.theory.proofs.Accept.{locateIf, RecordFits, Clear, Sound, sound, references-below, by-class}
+use Rattle.theory.proofs.Accept.{locateIf, RecordFits, Sound, sound, references-below, by-class}
 use Rattle.theory.proofs.Local.{enclosers-same, overlay-same}
 use Rattle.theory.proofs.References.{references-uses, references-refers}
 use Rattle.theory.proofs.Groups.{reference-is}
