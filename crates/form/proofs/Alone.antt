@@ -12,16 +12,12 @@ use lib.ListN.{get_or-append, replicate}
 use lib.Seq.{ext_get_or}
 use borrow.Author.Tests.{lt-ltb}
 use Rattle.spec.specs.Lists.{concat, span}
-use Rattle.spec.specs.Record.{ownMarkers}
-use Rattle.spec.specs.Sheet.{Group, recordsOf, recordsIn, splitGroups, groupsOf, wholeEnd, classCount, total, group, classRecord, locate, locatedIn}
+use Rattle.spec.specs.Sheet.{Group, recordsOf, recordsIn, splitGroups, groupsOf, wholeEnd, classCount, total, group, locate, locatedIn}
 use Rattle.spec.specs.Relations.{Says, Superclass, Encloser, Implements}
-use Rattle.spec.specs.Markers.{closure, union, unionAll}
-use Rattle.spec.specs.Classes.{supertypes, gathered, overlay}
-use Rattle.laws.proofs.All.{weaken, map-cong}
 use Rattle.theory.proofs.Accept.{Clear}
 use Rattle.laws.proofs.Bools.{decide}
 use Rattle.theory.proofs.Falls.{Falls}
-use Rattle.theory.proofs.Overlay.{supertypes-lower}
+use Rattle.theory.proofs.Lower.{gathered-same, overlay-same}
 use Rattle.laws.proofs.Rows.{length-values, getD-values}
 use Rattle.groups.specs.Groups.{startOf, Indexed}
 use Rattle.theory.proofs.Form.{group-past}
@@ -84,24 +80,11 @@ module _ {library user : List ℕ} {nlib n : ℕ} {starts : List ℕ} (x : Index
       implements = λ c i h. f.implements c i (subst (λ (g : Group). Implements g i) (sym (same c (below c h))) h);
     }
 
-    gathered-same : (k c : ℕ) → c < nlib → gathered (group library user) k c ≡ gathered (group library []) k c
-    unfolding gathered
-    gathered-same zero c h = refl
-    gathered-same (suc k) c h =
-        rw (← same c h)
-        (ap (λ (ms : List ℕ). union (ownMarkers (classRecord (group library user c))) (unionAll ms))
-        (map-cong (λ d. d < nlib) (gathered (group library user) k) (gathered (group library []) k) (gathered-same k) (supertypes (group library user c))
-        (weaken (λ d. d < c) (λ d. d < nlib) (λ d l. omega arith) (supertypes (group library user c)) (supertypes-lower (group library user) f c))))
-
-    overlay-same : (c : ℕ) → c < nlib → overlay (group library user) c ≡ overlay (group library []) c
-    unfolding overlay
-    overlay-same c h = ap closure (gathered-same (suc c) c h)
-
     from-same : (k c : ℕ) → c + k ≤ nlib → deemedFrom (group library []) c k ≡ deemedFrom (group library user) c k
     unfolding deemedFrom
     from-same zero c h = refl
     from-same (suc k) c h =
-        ap₂ (λ (b : Bool) (m : ℕ). elim b as (λ (x : Bool). ℕ) [ true ↦ c | false ↦ m ]) (ap (deemedBreaks c) (sym (overlay-same c (omega arith)))) (from-same k (c + 1) (omega arith))
+        ap₂ (λ (b : Bool) (m : ℕ). elim b as (λ (x : Bool). ℕ) [ true ↦ c | false ↦ m ]) (ap (deemedBreaks c) (sym (overlay-same nlib (group library user) (group library []) f same c (omega arith)))) (from-same k (c + 1) (omega arith))
 
     pub alone-deemed : firstDeemed (group library []) nlib ≡ firstDeemed (group library user) nlib
     unfolding firstDeemed
@@ -114,7 +97,7 @@ module _ {library user : List ℕ} {nlib n : ℕ} {starts : List ℕ} (x : Index
         let b = raw (group library user) in
         ext_get_or 0 _ _ (length-values a k ∙ sym (length-values b k)) (λ i l.
         let m : i < k = omega (arith, length-values a k) in
-        getD-values a k 0 i m ∙ sym (gathered-same (suc i) i (omega arith)) ∙ sym (getD-values b k 0 i m))
+        getD-values a k 0 i m ∙ sym (gathered-same nlib (group library user) (group library []) f same (suc i) i (omega arith)) ∙ sym (getD-values b k 0 i m))
 
     pub alone-memo : {k : ℕ} → k ≤ nlib → memoOf (group library []) k ≡ memoOf (group library user) k
     unfolding memoOf

@@ -3,6 +3,10 @@ pub mod Ascend
 pub mod Shaped
 pub mod Grouped
 pub mod Same
+pub mod Kept
+pub mod Passing
+pub mod Accepted
+pub mod Canonicals
 pub mod Covers
 pub mod Relations
 pub mod Rules

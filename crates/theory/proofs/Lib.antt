@@ -12,6 +12,8 @@ pub mod Overlay
 pub mod Lines
 pub mod Capture
 pub mod Form
+pub mod Few
+pub mod Lower
 pub mod Slots
 pub mod Local
 pub mod Lowest

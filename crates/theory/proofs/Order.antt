@@ -25,7 +25,7 @@ use Rattle.theory.proofs.Cut.{split-class, split-other}
 use Rattle.theory.proofs.Accept.{Passed, locateIf, sound}
 
 -- the kinds never fall, from kind b on
-abbrev Ascends : ℕ → Group → Type 0
+abbrev pub Ascends : ℕ → Group → Type 0
 Ascends b [] = Unit {0}
 Ascends b (r ∷ rs) = (b ≤ kind r) × Ascends (kind r) rs
 
