@@ -40,7 +40,7 @@ fn bytes_of<'a>(
 }
 
 // Class i as seen from class c: what is gathered for it if it is lower, else nothing.
-#[cycle(gathered_interfaces_lower)]
+#[cycle(supertypes)]
 fn lower<'a>(
     library: &'a [u8],
     user: &'a [u8],
@@ -64,7 +64,7 @@ fn lower<'a>(
 }
 
 // The own markers of class c and of all its supertypes, unless the memo has them.
-#[cycle(gathered_interfaces_lower)]
+#[cycle(supertypes)]
 fn gathered<'a>(
     library: &'a [u8],
     user: &'a [u8],
@@ -94,7 +94,7 @@ fn gathered<'a>(
 }
 
 // The set `mine` joined with what is gathered for the interfaces that class c lists.
-#[cycle(gathered_interfaces_lower)]
+#[cycle(supertypes)]
 fn interfaces<'a>(
     library: &'a [u8],
     user: &'a [u8],

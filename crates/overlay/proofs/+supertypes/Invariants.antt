@@ -2,7 +2,7 @@
 use Rattle.std.proofs.Common.{◌+◌, ◌*◌, ◌-◌, length}
 use Rattle.spec.specs.Sheet.{group as groupOf}
 use Rattle.overlay.proofs.Walking.{Walking}
-use Rattle.overlay.proofs.+gathered_interfaces_lower.Given as goal
+use Rattle.overlay.proofs.+supertypes.Given as goal
 
 abbrev pub decreases-gathered : goal.decreases-gathered
 decreases-gathered l = 3 * l.c + 2

@@ -8,8 +8,8 @@ use Rattle.records.proofs.Carried.{class-within, class-byte-in, class-word-in}
 use Rattle.records.proofs.Walks.{walk-on}
 use Rattle.overlay.proofs.Recursion.{lower-none, lower-is, raw-is}
 use Rattle.overlay.proofs.Walking.{walk-begin, asks-room, walk-asks, walk-passes, walk_end}
-use Rattle.overlay.proofs.+gathered_interfaces_lower.Goals as goal
-use Rattle.overlay.proofs.+gathered_interfaces_lower.Goals.{interfaces-then-kind-eq-IMPLEMENTS, interfaces-else-kind-eq-IMPLEMENTS}
+use Rattle.overlay.proofs.+supertypes.Goals as goal
+use Rattle.overlay.proofs.+supertypes.Goals.{interfaces-then-kind-eq-IMPLEMENTS, interfaces-else-kind-eq-IMPLEMENTS}
 
 pub gathered-bounds-bytes-6 : goal.gathered-bounds-bytes-6
 gathered-bounds-bytes-6 t c = omega (arith, class-within c.bytes_of-bytes.ensures (class-long c.requires.indexed c.requires.there))
