@@ -24,6 +24,8 @@ use Rattle.theory.proofs.Answers.{first-none, first_some, first-append, skip-non
 use Rattle.theory.proofs.Accept.{sound}
 use Rattle.theory.proofs.Refused.{gives-if, refusals-hold}
 use Rattle.theory.proofs.Promised.{told-fine, told-refused}
+use Rattle.meaning.specs.Canonical.{canonicalRefusal, WritesCanonical}
+use Rattle.meaning.proofs.Accepted.{canonical-refuses}
 use Rattle.form.proofs.Unrefused.{sheet-fine}
 
 -- ---- the blamed byte lies in its sheet
@@ -135,6 +137,11 @@ query-low library user used c x q f = told-low library user used _ x q ((refusal
 pub withdraws-low : (library : List ℕ) {before : State flat} {a : Answer ℕ} {after : State flat} → Withdraws flat library before a after → {r : Refusal} → a ≡ refused r → r.byte ≤ 32768
 unfolding withdrawal withdrawRefusal
 withdraws-low library p f = told-low _ _ _ _ _ p.answered ((refusals-hold _ _ _).withdraw _).place f
+
+pub canonical-low : {library user : List ℕ} {used : ℕ} {out : List ℕ} {a : Answer ℕ} {out' : List ℕ} → WritesCanonical library user used out a out' → {r : Refusal}
+    → a ≡ refused r → r.byte ≤ 32768
+unfolding canonicalRefusal
+canonical-low p f = told-low _ _ _ _ _ p.answered (canonical-refuses _ _ _ _).place f
 
 module _ (library g : List ℕ) {before : State flat} {scratch : List ℕ} {a : Answer ℕ} {after : State flat} {scratch' : List ℕ} {r : Refusal} where
   pub adds-low : Adds flat library g before scratch a after scratch' → a ≡ refused r → r.byte ≤ 32768

@@ -5,6 +5,7 @@ ghost use Rattle.std.specs.Prelude.{◌≡◌, ◌≤◌};
 ghost use Rattle.spec.specs.Promises.{refused, Judges, Adds, Replaces, Withdraws, Marks, Places};
 ghost use Rattle.spec.specs.Verdicts.{flat};
 ghost use Rattle.form.specs.Form.{refusalOf, outcomeAnswer};
+ghost use Rattle.meaning.specs.Canonical.{WritesCanonical};
 ghost use Rattle.kerdzhusi.specs.Codes.{plainValue, countsValue, partValue, replyOf, Codable, Replies};
 
 use verifier::{Outcome, Judged, Marked, Placed, Refusal};
@@ -140,4 +141,16 @@ pub extern "C" fn kz_marks<'a>(
             value: set as u64,
         },
     }
+}
+
+#[unsafe(no_mangle)]
+pub extern "C" fn kz_canonical<'a>(
+    library: &'a [u8],
+    user: &'a [u8],
+    used: usize,
+    out: &mut [u8],
+) -> Reply
+    ensures { Replies plainValue (λ a. WritesCanonical library.now user.now used out.old a out.new) result }
+{
+    outcome(verifier::canonical(library, user, used, out))
 }

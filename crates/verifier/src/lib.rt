@@ -13,6 +13,7 @@ ghost use Rattle.verifier.specs.Answers.{judgedAnswer};
 ghost use Rattle.verifier.specs.Changing.{Touched, Puts, putting, CutOf};
 
 use admit::{admit, short};
+pub use canonical::canonical;
 use edit::write;
 use flat::{faulted, marked, rejudge};
 pub use form::{Outcome, Refusal};
