@@ -9,7 +9,7 @@ use lib.Dec.{T}
 use lib.ListN.{length, take, drop}
 use Rattle.spec.specs.Lists.{concat}
 use Rattle.spec.specs.Record.{lengthFits}
-use Rattle.spec.specs.Sheet.{group}
+use Rattle.spec.specs.Sheet.{Group, group}
 use Rattle.theory.specs.Claims.{sheetOf}
 use Rattle.laws.proofs.All.{All}
 use Rattle.laws.proofs.Parts.{part_length}
@@ -19,7 +19,8 @@ use Rattle.records.proofs.Between.{placed}
 use Rattle.groups.specs.Groups.{sheetNumber, startOf, endOf, Indexed}
 use Rattle.groups.proofs.Held.{in-library, in-user, group-lengths, group-tiled, group-between, end-small, class-there}
 
-tiled-bytes : {s : List ℕ} {at end : ℕ} → Tiled s at end → concat (between s at end) ≡ take (end - at) (drop at s)
+-- whole records are the bytes that they stand in
+pub tiled-bytes : {s : List ℕ} {at end : ℕ} → Tiled s at end → concat (between s at end) ≡ take (end - at) (drop at s)
 unfolding between
 tiled-bytes {s} {at} {end} h = join-records (take (end - at) (drop at s)) (h.whole ∙ sym (part_length s at (end - at) (omega (arith, h.within, h.ordered))))
 
@@ -45,13 +46,12 @@ module _ {library user : List ℕ} {nlib n : ℕ} {row : List ℕ} (x : Indexed 
 
 -- ---- bytes that are a class's records end to end
 
+pub carries-records : {bytes : List ℕ} {g : Group} → All Whole g → All (λ r. T (lengthFits r)) g → length bytes ≤ 32768 → bytes ≡ concat g → Carries bytes g
+carries-records {bytes} {g} w f l e =
+    let p = placed bytes [] g [] 0 (length bytes) w (e ∙ sym (append-nil (concat g))) refl (zero-add (length (concat g)) ∙ ap length (sym e)) in
+    record { place = record { tiled = p.0; small = l; sizes = subst (All (λ r. T (lengthFits r))) (sym p.1) f }; records = p.1 }
+
 pub carries : {library user : List ℕ} {nlib n : ℕ} {row : List ℕ} → Indexed library user nlib n row → {c : ℕ} → c < n
     → {bytes : List ℕ} → bytes ≡ concat (group library user c) → Carries bytes (group library user c)
 carries {library} {user} x {c} h {bytes} e =
-    let g = group library user c in
-    let w : All Whole g = subst (All Whole) (group-between x h) (unfold between in records-of-whole _) in
-    let p = placed bytes [] g [] 0 (length bytes) w (e ∙ sym (append-nil (concat g))) refl (zero-add (length (concat g)) ∙ ap length (sym e)) in
-    record {
-      place = record { tiled = p.0; small = (unfold endOf in omega (arith, end-small x h, ap length e)); sizes = subst (All (λ r. T (lengthFits r))) (sym p.1) (group-lengths x c) };
-      records = p.1;
-    }
+    carries-records (subst (All Whole) (group-between x h) (unfold between in records-of-whole _)) (group-lengths x c) (unfold endOf in omega (arith, end-small x h, ap length e)) e

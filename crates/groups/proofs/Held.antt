@@ -49,7 +49,7 @@ module _ {sheet n : ℕ} {s : List ℕ} (clear : Clear sheet n s) where
   unfolding locatedIn
   record-lengths = each-record (λ r. T (lengthFits r)) sheet (λ l e p. p.lengthFits) 0 n 0 0 (recordsOf s) clear.passed
 
-  sheet-lengths : All (All (λ r. T (lengthFits r))) (groupsOf s)
+  pub sheet-lengths : All (All (λ r. T (lengthFits r))) (groupsOf s)
   sheet-lengths = in-groups (λ r. T (lengthFits r)) s record-lengths
 
   module _ (i : ℕ) (h : i < classCount s) where

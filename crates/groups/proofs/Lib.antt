@@ -2,3 +2,4 @@ pub mod Held
 pub mod Bytes
 pub mod Few
 pub mod Fitting
+pub mod Sheets

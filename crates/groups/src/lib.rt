@@ -4,10 +4,12 @@
 ghost use Rattle.std.specs.Prelude.{◌≡◌, ℕ, ◌≤◌, ◌<◌, length};
 ghost use Rattle.spec.specs.Record.{u16};
 ghost use Rattle.spec.specs.Sheet.{Group, group as groupOf, classRecord};
+ghost use Rattle.theory.specs.Claims.{firstLength};
 ghost use Rattle.records.specs.Records.{Carries};
 ghost use Rattle.groups.specs.Groups.{sheetNumber, Indexed, EndOf};
+ghost use Rattle.groups.specs.Sheets.{AtGroup};
 
-use records::{wide, word_in};
+use records::{CLASS, nth_in, wide, word_in};
 
 // How many classes the library has, and both sheets together.
 #[derive(Clone, Copy)]
@@ -76,4 +78,12 @@ pub fn class_word<'a>(
     ensures { result ≡ u16 (classRecord (g c)) j }
 {
     word_in(class_bytes(library, user, starts, classes, c), j)
+}
+
+// How long the group is that these bytes begin with. They are handed over from its first byte on, so nothing before it is asked.
+pub fn group_length(rest: &[u8]) -> usize
+    requires { AtGroup rest.now }
+    ensures { result ≡ firstLength rest.now }
+{
+    nth_in(rest, CLASS, 1)
 }

@@ -8,7 +8,7 @@ ghost use Rattle.form.specs.Form.{refusalOf, outcomeAnswer};
 ghost use Rattle.meaning.specs.Canonical.{WritesCanonical};
 ghost use Rattle.kerdzhusi.specs.Codes.{plainValue, countsValue, partValue, replyOf, Codable, Replies};
 
-use verifier::{Outcome, Judged, Marked, Placed, Refusal};
+use verifier::{Judged, Marked, Outcome, Placed, Refusal};
 
 // Status 0 and a value, or the refusal's status and 0.
 #[repr(C)]

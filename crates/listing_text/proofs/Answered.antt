@@ -18,6 +18,7 @@ use Rattle.theory.proofs.Form.{accepted-sound}
 use Rattle.theory.proofs.Unrefused.{present-facts, facts-present}
 use Rattle.theory.proofs.FlatRow.{read-new, rewritten-length}
 use Rattle.text.specs.Text.{overlaid}
+use Rattle.text.specs.Written.{Written}
 use Rattle.text.proofs.Digits.{decimal-length}
 use Rattle.form.specs.Form.{refusalOf}
 use Rattle.form.specs.declared.Refusal.{Refusal}
@@ -26,8 +27,8 @@ use Rattle.verifier.specs.declared.Judged.{Judged}
 use Rattle.verifier.specs.declared.Judged.TheVariants.{Fine, Refused}
 use Rattle.theory.proofs.Promised.{told-fine, told-refused}
 use Rattle.listing_text.specs.Listing.{classesWord, faultedWord, countsText, refusalText, lineText, listedLines, listingText}
-use Rattle.listing_text.specs.Written.{Written, RowHolds}
-use Rattle.listing_text.proofs.Texts.{then, same_text, from_start}
+use Rattle.listing_text.specs.Rows.{RowHolds}
+use Rattle.text.proofs.Texts.{then, same_text, from_start}
 
 -- the line of the counts is short
 pub counts-short : (c : Counts) → length (countsText c) ≤ 58

@@ -4,7 +4,6 @@ use mathlib.Core.Path.{◌≡◌, refl, sym, ap, ◌∙◌, subst}
 use mathlib.Core.List.{List, [], ◌++◌, append_assoc, append-nil}
 use Prim.Native.Nat.{ℕ, zero, suc, ◌+◌, ◌*◌, ◌≤◌, ◌<◌}
 use native.Mathlib.Nat.{add-zero, add-suc, suc-add, zero-add}
-use native.Mathlib.Decide.{ℕ_discrete}
 use native.Mathlib.Omega.{arith}
 use lib.ListN.{length, get_or, length-append, length-drop}
 use lib.Seq.{get_or-append-add}
@@ -13,14 +12,16 @@ use Rattle.spec.specs.Record.{className}
 use Rattle.spec.specs.Sheet.{groupsOf, classCount, groupStart, group, classRecord}
 use Rattle.spec.specs.Verdicts.{userVerdict, flatAt}
 use Rattle.theory.specs.Claims.{running}
-use Rattle.theory.proofs.Running.{begins, group-last}
-use Rattle.groups.proofs.Held.{first-within, group-placed, class-fits}
+use Rattle.theory.proofs.Running.{begins}
+use Rattle.groups.proofs.Held.{class-fits}
+use Rattle.groups.proofs.Sheets.{none-left}
 use Rattle.text.specs.Text.{decimal}
+use Rattle.text.specs.Written.{Written}
 use Rattle.text.proofs.Digits.{decimal-length}
 use Rattle.listing_text.specs.Listing.{lineOf, lineText, space, newline}
-use Rattle.listing_text.specs.Sheets.{UserSheet}
-use Rattle.listing_text.specs.Written.{Written, RowHolds}
-use Rattle.listing_text.proofs.Texts.{then, no_text, same_text}
+use Rattle.groups.specs.Sheets.{UserSheet}
+use Rattle.listing_text.specs.Rows.{RowHolds}
+use Rattle.text.proofs.Texts.{then, no_text, same_text}
 
 -- ---- one line
 
@@ -77,14 +78,6 @@ module _ {library sheet out₀ : List ℕ} {at : ℕ} where
     pub begins-there : start ≡ groupStart sheet i
     begins-there = f.reached ∙ begins u.clear i f.high
 
-    -- before the sheet's end there is a class
-    pub class-left : start < length sheet → i < classCount sheet
-    class-left l = go (ℕ_discrete i (classCount sheet))
-      where
-        go : Dec (i ≡ classCount sheet) → i < classCount sheet
-        go (yes e) = absurd (omega (arith, begins-there, ap (groupStart sheet) e, group-last u.clear))
-        go (no n) = omega (arith, f.high)
-
     pub lines_next : i < classCount sheet → {out' : List ℕ} {p' start' : ℕ} → Written out p (lineText library sheet i) out' p' → start' ≡ running sheet (i + 1)
         → Lines library sheet out₀ at out' (i + 1) start' p'
     lines_next h w r =
@@ -100,12 +93,6 @@ module _ {library sheet out₀ : List ℕ} {at : ℕ} where
           text = same_text g (then f.text w);
         }
 
-    -- and at its end none
+    -- at the sheet's end there are no more
     pub lines_end : length sheet ≤ start → Written out₀ at (gather (lineText library sheet) (span 0 (classCount sheet))) out p
-    lines_end l = go (ℕ_discrete i (classCount sheet))
-      where
-        go : Dec (i ≡ classCount sheet) → Written out₀ at (gather (lineText library sheet) (span 0 (classCount sheet))) out p
-        go (yes e) = subst (λ (k : ℕ). Written out₀ at (gather (lineText library sheet) (span 0 k)) out p) e f.text
-        go (no n) =
-            let h : i < classCount sheet = omega (arith, f.high) in
-            absurd (omega (arith, begins-there, (class-fits u.clear i h).0, first-within (get_or (groupsOf sheet) i []), (group-placed u.clear i h).0.within))
+    lines_end l = subst (λ (k : ℕ). Written out₀ at (gather (lineText library sheet) (span 0 k)) out p) (none-left u i f.high f.reached l) f.text

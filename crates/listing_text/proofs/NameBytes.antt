@@ -9,7 +9,7 @@ use Rattle.spec.specs.Record.{u16, className}
 use Rattle.spec.specs.Sheet.{Group, groupsOf, classCount, groupStart, classRecord}
 use Rattle.laws.proofs.Parts.{part-rest}
 use Rattle.groups.proofs.Held.{first-within, group-placed, class-fits, class-here, class-long-here}
-use Rattle.listing_text.specs.Sheets.{UserSheet}
+use Rattle.groups.specs.Sheets.{UserSheet}
 
 -- the CLASS record of class i begins at `at`, is `size` bytes long, and its name is the sheet's bytes from its byte 12 on
 pub record NameAt (sheet : List ℕ) (i at size : ℕ) : Type 0 where

@@ -1,3 +1,2 @@
 pub mod Listing
-pub mod Sheets
-pub mod Written
+pub mod Rows

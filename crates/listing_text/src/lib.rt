@@ -9,15 +9,16 @@ ghost use Rattle.spec.specs.Sheet.{groupsOf, classCount, groupStart, classRecord
 ghost use Rattle.spec.specs.Verdicts.{flatAt};
 ghost use Rattle.spec.specs.Refusals.{presentRefusal, judgeRefusal};
 ghost use Rattle.spec.specs.Promises.{afterwards, cleared};
-ghost use Rattle.theory.specs.Claims.{firstLength};
+ghost use Rattle.groups.specs.Sheets.{UserSheet};
 ghost use Rattle.form.specs.Form.{refusalOf};
 ghost use Rattle.text.specs.Text.{decimal, overlaid};
+ghost use Rattle.text.specs.Written.{Written};
 ghost use Rattle.listing_text.specs.Listing.{countsText, refusalText, lineOf, lineText, listedLines, listingText, space, newline};
-ghost use Rattle.listing_text.specs.Sheets.{UserSheet, AtGroup};
-ghost use Rattle.listing_text.specs.Written.{Written, RowHolds};
+ghost use Rattle.listing_text.specs.Rows.{RowHolds};
 
 use form::Refusal;
-use records::{CLASS, CLASS_LIMIT, NAME_AT, count_in, nth_in, wide, word_in};
+use groups::group_length;
+use records::{CLASS, CLASS_LIMIT, NAME_AT, count_in, wide, word_in};
 use text::{put, put_number, put_part};
 use verifier::{Judged, VERDICT_BYTES, judge};
 
@@ -96,14 +97,6 @@ fn class_line(
     let named = put_part(out, spaced, sheet, start + NAME_AT, end);
     let parted = put(out, named, b' ');
     put_verdict(out, parted, rule, place)
-}
-
-// How long the group is that these bytes begin with. They are handed over from its first byte on, so nothing before it is asked.
-fn group_length(rest: &[u8]) -> usize
-    requires { AtGroup rest.now }
-    ensures { result ≡ firstLength rest.now }
-{
-    nth_in(rest, CLASS, 1)
 }
 
 // The lines of all user classes; `start` runs along from one group to the next, up to the sheet's end.

@@ -1,3 +1,4 @@
 pub mod Buffer
 pub mod Digits
 pub mod Numbers
+pub mod Texts

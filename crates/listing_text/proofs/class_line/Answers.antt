@@ -1,7 +1,7 @@
 -- What is read of the class, and its texts one after another.
 use Rattle.std.proofs.Common.{refl, ◌∙◌, ◌+◌, ◌≤◌, arith}
 use Rattle.text.proofs.Digits.{decimal-length}
-use Rattle.listing_text.proofs.Texts.{one_byte, a-number, a-part, same_text, then}
+use Rattle.text.proofs.Texts.{one_byte, a-number, a-part, same_text, then}
 use Rattle.listing_text.proofs.NameBytes.{NameAt, name-at}
 use Rattle.listing_text.proofs.ClassText.{line_read}
 use Rattle.listing_text.proofs.class_line.Goals as goal

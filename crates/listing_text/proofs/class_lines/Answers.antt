@@ -1,10 +1,10 @@
 use Rattle.std.proofs.Common.{◌≡◌, ◌+◌, ◌≤◌, ◌<◌, length, arith}
 use Rattle.spec.specs.Sheet.{classCount}
 use Rattle.theory.specs.Claims.{running}
-use Rattle.listing_text.specs.Sheets.{UserSheet}
-use Rattle.listing_text.proofs.Texts.{same_text}
-use Rattle.listing_text.proofs.Groups.{library-place, library-count, user-sheet, at-group, further}
-use Rattle.listing_text.proofs.ClassText.{line-is, lines_start, begins-there, class-left, lines_next, lines_end}
+use Rattle.groups.specs.Sheets.{UserSheet}
+use Rattle.text.proofs.Texts.{same_text}
+use Rattle.groups.proofs.Sheets.{library-place, library-count, user-sheet, at-group, further, class-left}
+use Rattle.listing_text.proofs.ClassText.{line-is, lines_start, begins-there, lines_next, lines_end}
 use Rattle.listing_text.proofs.class_lines.Goals as goal
 use Rattle.listing_text.proofs.class_lines.Goals.{After-count_in-nlib, In-loop-start, After-group_length-start}
 
@@ -19,7 +19,7 @@ sheet-is c = user-sheet c.args.library.now c.args.sheet.now c.requires.accepted 
 -- a class begins at the position
 module _ (c : In-loop-start) (u : UserSheet c.count_in-nlib.result c.args.sheet.now) where
   class-there : c.loop-start.i < classCount c.args.sheet.now
-  class-there = class-left u c.loop-start.invariant c.loop-start-test.true
+  class-there = class-left u c.loop-start.i c.loop-start.invariant.high c.loop-start.invariant.reached c.loop-start-test.true
 
 next : (c : After-group_length-start) → UserSheet c.count_in-nlib.result c.args.sheet.now → c.loop-start.i < classCount c.args.sheet.now
     → (c.loop-start.start + c.group_length-start.result ≡ running c.args.sheet.now (c.loop-start.i + 1)) × (1 ≤ c.group_length-start.result)

@@ -2,7 +2,7 @@
 use Rattle.std.proofs.Common.{arith}
 use Rattle.listing_text.specs.Listing.{classesWord, faultedWord, countsText}
 use Rattle.text.proofs.Digits.{decimal-length}
-use Rattle.listing_text.proofs.Texts.{one_byte, a-number, then}
+use Rattle.text.proofs.Texts.{one_byte, a-number, then}
 use Rattle.listing_text.proofs.counts_line.Goals as goal
 
 -- ---- how far each text reaches

@@ -1,7 +1,7 @@
 -- Its four texts one after another.
 use Rattle.std.proofs.Common.{arith}
 use Rattle.text.proofs.Digits.{decimal-length}
-use Rattle.listing_text.proofs.Texts.{one_byte, a-number, then}
+use Rattle.text.proofs.Texts.{one_byte, a-number, then}
 use Rattle.listing_text.proofs.put_verdict.Goals as goal
 
 -- ---- how far each text reaches

@@ -3,7 +3,7 @@ use Rattle.std.proofs.Common.{ap, arith, ◌≤◌}
 use Rattle.listing_text.specs.Listing.{refusedWord, sheetWord, byteWord, refusalText}
 use Rattle.text.specs.Text.{decimal}
 use Rattle.text.proofs.Digits.{decimal-length}
-use Rattle.listing_text.proofs.Texts.{one_byte, a-number, same_text, then}
+use Rattle.text.proofs.Texts.{one_byte, a-number, same_text, then}
 use Rattle.listing_text.proofs.refusal_line.Goals as goal
 use Rattle.listing_text.proofs.refusal_line.Goals.{After-put_number-second}
 

@@ -1,5 +1,5 @@
 -- A refused group changes nothing; an admitted one is written, and what it touches is judged in the buffer.
-use Rattle.std.proofs.Common.{◌≡◌, refl, ◌∙◌, ◌-◌, ◌<◌, List, ℕ, length, take, arith}
+use Rattle.std.proofs.Common.{◌≡◌, refl, ◌∙◌, ◌-◌, ◌<◌, length, take, arith}
 use Rattle.spec.specs.Verdicts.{flatLines}
 use Rattle.view.specs.View.{spliced}
 use Rattle.form.proofs.Accepting.{turned}

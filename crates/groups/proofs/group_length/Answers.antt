@@ -1,6 +1,6 @@
 -- The second CLASS record stands behind the first group.
-use Rattle.listing_text.proofs.Groups.{group-length}
-use Rattle.listing_text.proofs.group_length.Goals as goal
+use Rattle.groups.proofs.Sheets.{group-length}
+use Rattle.groups.proofs.group_length.Goals as goal
 
 pub returns : goal.returns
 returns c = group-length c.requires c.nth_in.ensures

@@ -1,11 +1,12 @@
 -- The bytes from the start of a group on, how long that group is, and how many classes a sheet has.
 -- Assumes nothing.
-use mathlib.Core.Path.{◌≡◌, refl, sym, ap, ◌∙◌, subst}
+use mathlib.Core.Path.{◌≡◌, refl, sym, ap, ap₂, ◌∙◌, subst}
 use mathlib.Core.Bool.{Bool, true, false}
 use mathlib.Core.List.{List, [], ◌∷◌}
 use mathlib.Core.Option.{none}
 use Prim.Native.Nat.{ℕ, ◌+◌, ◌-◌, ◌≤◌, ◌<◌}
 use native.Mathlib.Nat.{add-zero, sub-zero}
+use native.Mathlib.Decide.{ℕ_discrete}
 use native.Mathlib.Omega.{arith}
 use lib.Dec.{T}
 use lib.ListN.{length, get_or, take, drop, length-append, length-drop}
@@ -15,16 +16,17 @@ use Rattle.spec.specs.Record.{isClass, lengthFits, CLASS}
 use Rattle.spec.specs.Sheet.{Group, Split, recordsOf, wholeEnd, splitGroups, groupsOf, classCount, groupStart, total, ofKind}
 use Rattle.spec.specs.Refusals.{presentRefusal}
 use Rattle.theory.specs.Claims.{firstLength, running}
-use Rattle.laws.proofs.All.{All, keep-yes, keep-no}
-use Rattle.theory.proofs.Cut.{split-class, split-other}
+use Rattle.laws.proofs.All.{All, all-get, keep-yes, keep-no}
+use Rattle.theory.proofs.Cut.{Whole, records-of-whole, split-class, split-other}
 use Rattle.theory.proofs.Accept.{Clear, Sound}
 use Rattle.theory.proofs.Form.{accepted-sound}
 use Rattle.theory.proofs.Unrefused.{present-facts}
-use Rattle.theory.proofs.Running.{group-next, running-next, begins, rest_all, rest-bytes, rest-records, rest-loose}
-use Rattle.records.specs.Records.{between, nthByte, AtRecord}
+use Rattle.theory.proofs.Running.{group-next, running-next, begins, group-last, rest_all, rest-bytes, rest-records, rest-loose}
+use Rattle.records.specs.Records.{between, nthByte, AtRecord, Carries}
 use Rattle.records.proofs.Nth.{nth-found, nth-passed, nth-other}
-use Rattle.groups.proofs.Held.{first-within, record-lengths, group-placed, class-fits}
-use Rattle.listing_text.specs.Sheets.{UserSheet, AtGroup}
+use Rattle.groups.proofs.Held.{first-within, record-lengths, sheet-lengths, group-placed, class-fits}
+use Rattle.groups.proofs.Bytes.{tiled-bytes, carries-records}
+use Rattle.groups.specs.Sheets.{UserSheet, AtGroup}
 
 -- ---- CLASS records and groups
 
@@ -132,3 +134,36 @@ module _ {nlib : ℕ} {sheet : List ℕ} (u : UserSheet nlib sheet) (i : ℕ) {s
       ap (λ (k : ℕ). start + k) (el ∙ ap firstLength (rest_part sheet start)) ∙ ap (λ (k : ℕ). k + firstLength (drop k sheet)) es ∙ sym (running-next sheet i) in
       let n : start + len ≡ groupStart sheet i + length (concat g) = r ∙ begins u.clear (i + 1) (omega arith) ∙ group-next sheet i h in
       (r, omega (arith, es, b, n, first-within g, (class-fits u.clear i h).0), omega (arith, n, (group-placed u.clear i h).0.within))
+
+  -- and the bytes up to there are the group's records
+  pub group-carries : i < classCount sheet → start ≡ running sheet i → {len : ℕ} → len ≡ firstLength (take (length sheet - start) (drop start sheet))
+      → Carries (take (start + len - start) (drop start sheet)) (get_or (groupsOf sheet) i [])
+  group-carries h es {len} el =
+      let g : Group = get_or (groupsOf sheet) i [] in
+      let at : ℕ = groupStart sheet i in
+      let p = group-placed u.clear i h in
+      let b : start ≡ at = es ∙ begins u.clear i (omega arith) in
+      let n : start + len ≡ at + length (concat g) = (further h es el).0 ∙ begins u.clear (i + 1) (omega arith) ∙ group-next sheet i h in
+      let e : take (start + len - start) (drop start sheet) ≡ concat g =
+      ap₂ (λ (x y : ℕ). take (x - y) (drop y sheet)) n b ∙ sym (tiled-bytes p.0) ∙ ap concat p.1 in
+      let l : length (take (start + len - start) (drop start sheet)) ≤ 32768 = omega (arith, ap length e, p.0.within, u.size) in
+      carries-records (subst (All Whole) p.1 (unfold between in records-of-whole _))
+      (all-get {A = Group} (All (λ r. T (lengthFits r))) [] (groupsOf sheet) (sheet-lengths u.clear) tt i) l e
+
+  -- before the sheet's end there is a class, and at its end none
+  module _ (high : i ≤ classCount sheet) (e : start ≡ running sheet i) where
+    pub class-left : start < length sheet → i < classCount sheet
+    class-left l = go (ℕ_discrete i (classCount sheet))
+      where
+        go : Dec (i ≡ classCount sheet) → i < classCount sheet
+        go (yes q) = absurd (omega (arith, e, begins u.clear i high, ap (groupStart sheet) q, group-last u.clear))
+        go (no n) = omega arith
+
+    pub none-left : length sheet ≤ start → i ≡ classCount sheet
+    none-left l = go (ℕ_discrete i (classCount sheet))
+      where
+        go : Dec (i ≡ classCount sheet) → i ≡ classCount sheet
+        go (yes q) = q
+        go (no n) =
+            let h : i < classCount sheet = omega arith in
+            absurd (omega (arith, e, begins u.clear i high, (class-fits u.clear i h).0, first-within (get_or (groupsOf sheet) i []), (group-placed u.clear i h).0.within))

@@ -4,11 +4,11 @@ use mathlib.Core.Path.{◌≡◌, sym, ap, ◌∙◌, subst}
 use mathlib.Core.List.{List, [], ◌∷◌, ◌++◌}
 use Prim.Native.Nat.{ℕ, ◌+◌, ◌-◌, ◌≤◌}
 use native.Mathlib.Omega.{arith}
-use lib.ListN.{length, set, take, drop, length-append}
+use lib.ListN.{length, set, take, drop, length-append, length-drop}
+use lib.Seq.{length-take-le}
 use Rattle.text.specs.Text.{decimal, putAll, overlaid}
+use Rattle.text.specs.Written.{Written}
 use Rattle.text.proofs.Buffer.{put-length, put-append, put-nothing, put-text}
-use Rattle.laws.proofs.Parts.{part_length}
-use Rattle.listing_text.specs.Written.{Written}
 
 module _ {out : List ℕ} {at : ℕ} {out' : List ℕ} {after : ℕ} where
   -- what the functions of `text` promise
@@ -22,7 +22,7 @@ module _ {out : List ℕ} {at : ℕ} {out' : List ℕ} {after : ℕ} where
   pub a-part : (text : List ℕ) (from to : ℕ) → from ≤ to → to ≤ length text → after ≡ at + (to - from) → out' ≡ putAll out at (take (to - from) (drop from text))
       → Written out at (take (to - from) (drop from text)) out' after
   a-part text from to l h e f =
-      record { place = e ∙ ap (λ (k : ℕ). at + k) (sym (part_length text from (to - from) (omega arith))); bytes = f }
+      record { place = e ∙ ap (λ (k : ℕ). at + k) (sym (length-take-le (to - from) (drop from text) (omega (arith, length-drop from text)))); bytes = f }
 
   -- the buffer's length stays
   pub same_size : {text : List ℕ} → Written out at text out' after → length out' ≡ length out
