@@ -67,47 +67,50 @@ fn table() {
     println!("|:--|:--|--:|--:|--:|--:|");
     let mut full = None;
     for family in families() {
-        let judged = time_judge(&family, full.filter(|_| family.hostile));
+        let beside = full.filter(|_| family.hostile);
+        let judged = time_judge(&family, beside);
         if family.name == "full" {
             full = Some(judged);
         }
-        time_others(&family);
+        time_others(&family, beside);
     }
 }
 
-/// Gives back the library's time.
+/// Gives back the library's time. That of the full sheets' judging stands beside it, if given.
 fn time_judge(family: &Family, full: Option<f64>) -> f64 {
     let times = measure(|verifier| operations::judge(verifier, family));
-    let times_full = full.map_or(String::new(), |full| format!("{:.2}", times.ours / full));
-    print_row(family, "judge", times, &times_full);
+    print_row(family, "judge", times, full);
     times.ours
 }
 
-fn time_others(family: &Family) {
+fn time_others(family: &Family, full: Option<f64>) {
     let times = measure(|verifier| operations::add(verifier, family));
-    print_row(family, "add", times, "");
+    print_row(family, "add", times, None);
     let (class, dependents) = most_needed(family);
     let times = measure(|verifier| operations::replace(verifier, family, class));
     let operation = format!("replace, dependents {dependents}");
-    print_row(family, &operation, times, "");
+    print_row(family, &operation, times, None);
     let times = measure(|verifier| operations::withdraw(verifier, family));
-    print_row(family, "withdraw", times, "");
+    print_row(family, "withdraw", times, None);
+    let times = measure(|verifier| operations::canonical(verifier, family));
+    print_row(family, "canonical", times, full);
     let times = measure(|verifier| operations::name(verifier, family));
-    print_row(family, "name", times, "");
+    print_row(family, "name", times, None);
     let times = measure(|verifier| operations::marks(verifier, family));
-    print_row(family, "marks", times, "");
+    print_row(family, "marks", times, None);
 }
 
 fn measure<'a>(calls: impl Fn(&'static Verifier) -> Box<Workload<'a>>) -> Times {
     compare(&mut *calls(&KERDZHUSI), &mut *calls(&REFERENCE))
 }
 
-fn print_row(family: &Family, operation: &str, times: Times, times_full: &str) {
+fn print_row(family: &Family, operation: &str, times: Times, full: Option<f64>) {
     let Times {
         ours,
         theirs,
         ratio,
     } = times;
     let name = family.name;
+    let times_full = full.map_or(String::new(), |full| format!("{:.2}", ours / full));
     println!("| {name} | {operation} | {ours:.2} | {theirs:.2} | {ratio:.2} | {times_full} |");
 }

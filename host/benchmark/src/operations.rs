@@ -34,6 +34,11 @@ pub fn withdraw<'a>(verifier: &'a Verifier, family: &'a Family) -> Calls<'a> {
     undone(desk, group, |desk, _| desk.withdraw(), Desk::put_back)
 }
 
+pub fn canonical<'a>(verifier: &'a Verifier, family: &'a Family) -> Calls<'a> {
+    let mut desk = Desk::judged(verifier, family);
+    repeated(move || desk.canonical())
+}
+
 /// Asks for the last class.
 pub fn name<'a>(verifier: &'a Verifier, family: &'a Family) -> Calls<'a> {
     let desk = Desk::judged(verifier, family);

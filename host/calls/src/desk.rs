@@ -16,6 +16,8 @@ pub struct Desk<'a> {
     used: usize,
     verdicts: Vec<u8>,
     scratch: Vec<u8>,
+    /// As long as the user sheet, so that its canonical form fits.
+    out: Vec<u8>,
 }
 
 impl<'a> Desk<'a> {
@@ -51,6 +53,7 @@ impl<'a> Desk<'a> {
             used,
             verdicts,
             scratch,
+            out: vec![0; used],
         }
     }
 
@@ -109,6 +112,15 @@ impl<'a> Desk<'a> {
         let start = self.used;
         self.used += group.len();
         self.user[start..self.used].copy_from_slice(group);
+    }
+
+    pub fn canonical(&mut self) {
+        accepted((self.verifier.canonical)(
+            self.library,
+            &self.user,
+            self.used,
+            &mut self.out,
+        ));
     }
 
     pub fn name(&self, class: usize) {

@@ -5,6 +5,8 @@ pub type Judge = fn(&[u8], &[u8], usize, &mut [u8], &mut [u8]) -> bool;
 pub type Add = fn(&[u8], &mut [u8], &mut usize, &[u8], &mut [u8], &mut [u8]) -> bool;
 pub type Replace = fn(&[u8], &mut [u8], &mut usize, usize, &[u8], &mut [u8], &mut [u8]) -> bool;
 pub type Withdraw = fn(&[u8], &mut [u8], &mut usize, &mut [u8]) -> bool;
+/// The output comes last.
+pub type Canonical = fn(&[u8], &[u8], usize, &mut [u8]) -> bool;
 pub type LookUp = fn(&[u8], &[u8], usize, usize) -> bool;
 
 pub struct Verifier {
@@ -12,6 +14,7 @@ pub struct Verifier {
     pub add: Add,
     pub replace: Replace,
     pub withdraw: Withdraw,
+    pub canonical: Canonical,
     pub name: LookUp,
     pub marks: LookUp,
 }
@@ -30,6 +33,9 @@ macro_rules! verifier {
             },
             withdraw: |library, user, used, verdicts| {
                 $name::withdraw(library, user, used, verdicts).is_ok()
+            },
+            canonical: |library, user, used, out| {
+                $name::canonical(library, user, used, out).is_ok()
             },
             name: |library, user, used, class| $name::name(library, user, used, class).is_ok(),
             marks: |library, user, used, class| $name::marks(library, user, used, class).is_ok(),

@@ -13,22 +13,36 @@ pub enum Call {
     Add,
     Replace(usize),
     Withdraw,
+    Canonical,
     Name(usize),
     Marks(usize),
 }
 
 /// The operations, in the order of their numbers.
-pub const OPERATIONS: [&str; 6] = ["judge", "add", "replace", "withdraw", "name", "marks"];
+pub const OPERATIONS: [&str; 7] = [
+    "judge",
+    "add",
+    "replace",
+    "withdraw",
+    "canonical",
+    "name",
+    "marks",
+];
 
 impl Call {
+    pub fn changes_sheets(self) -> bool {
+        matches!(self, Call::Add | Call::Replace(_) | Call::Withdraw)
+    }
+
     pub fn operation(self) -> usize {
         match self {
             Call::Judge => 0,
             Call::Add => 1,
             Call::Replace(_) => 2,
             Call::Withdraw => 3,
-            Call::Name(_) => 4,
-            Call::Marks(_) => 5,
+            Call::Canonical => 4,
+            Call::Name(_) => 5,
+            Call::Marks(_) => 6,
         }
     }
 }
@@ -102,6 +116,7 @@ macro_rules! answer {
             group,
             verdicts,
             scratch,
+            out,
         } = $side;
         let (library, group) = (library.part(), group.part());
         let (verdicts, scratch) = (verdicts.part_mut(), scratch.part_mut());
@@ -120,6 +135,9 @@ macro_rules! answer {
             }
             Call::Withdraw => {
                 $verifier::withdraw(library, user.part_mut(), used, verdicts).map(Value::from)
+            }
+            Call::Canonical => {
+                $verifier::canonical(library, user.part(), *used, out.part_mut()).map(Value::from)
             }
             Call::Name(class) => {
                 $verifier::name(library, user.part(), *used, class).map(Value::from)

@@ -55,10 +55,14 @@ impl Desk {
     /// with a judging from nothing.
     pub fn call(&mut self, call: Call) -> Result<Answer, Box<Difference>> {
         self.before.copy(&self.theirs);
-        self.compare(call).map_err(|what| {
-            let before = self.before.clone();
-            Box::new(Difference { what, call, before })
-        })
+        self.compare(call)
+            .map_err(|what| self.difference(call, what))
+    }
+
+    /// Something that went wrong with the last call.
+    pub fn difference(&self, call: Call, what: String) -> Box<Difference> {
+        let before = self.before.clone();
+        Box::new(Difference { what, call, before })
     }
 
     fn compare(&mut self, call: Call) -> Result<Answer, String> {
@@ -73,7 +77,8 @@ impl Desk {
         match (call, ours.0) {
             (_, Err(_)) => self.require_unchanged()?,
             (Call::Judge, Ok(_)) => self.judged = true,
-            (Call::Add | Call::Replace(_) | Call::Withdraw, Ok(_)) => self.judge_from_nothing()?,
+            (Call::Canonical, Ok(Value::Number(length))) => self.require_written(length)?,
+            _ if call.changes_sheets() => self.judge_from_nothing()?,
             _ => {}
         }
         self.follow_addition(call, ours)?;
@@ -104,14 +109,34 @@ impl Desk {
         }
     }
 
+    /// An output holds what it held past the bytes that were written.
+    fn require_written(&self, length: usize) -> Result<(), String> {
+        if self.ours.out.keeps_all_but(length, &self.before.out) {
+            Ok(())
+        } else {
+            Err(format!(
+                "of the output more than {length} bytes are written"
+            ))
+        }
+    }
+
     /// Both judge the sheets anew, and agree with the verdicts that were kept up to date.
     fn judge_from_nothing(&mut self) -> Result<(), String> {
+        let fresh = self.judge_anew(self.ours.verdicts.part().len())?;
+        if self.judged && self.ours.verdicts.part()[..fresh.len()] != fresh {
+            return Err("the verdicts are not those of a judging from nothing".to_string());
+        }
+        Ok(())
+    }
+
+    /// Both judge the sheets from nothing, in a row of so many bytes; gives back the verdicts.
+    pub fn judge_anew(&mut self, row: usize) -> Result<Vec<u8>, String> {
         let (ours, theirs) = (&self.ours, &self.theirs);
         let (library, user, used) = (ours.library.part(), ours.user.part(), ours.used);
-        let mut our_row = vec![0xEE; ours.verdicts.part().len()];
+        let mut our_row = vec![0xEE; row];
         let our_counts = kerdzhusi::judge(library, user, used, &mut our_row, &mut self.scratch);
         let (library, user, used) = (theirs.library.part(), theirs.user.part(), theirs.used);
-        let mut their_row = vec![0xEE; theirs.verdicts.part().len()];
+        let mut their_row = vec![0xEE; row];
         let their_counts = reference::judge(library, user, used, &mut their_row, &mut self.scratch);
         let (Ok(ours), Ok(theirs)) = (our_counts, their_counts) else {
             return Err("judging from nothing is refused".to_string());
@@ -119,11 +144,8 @@ impl Desk {
         if Value::from(ours) != Value::from(theirs) || our_row != their_row {
             return Err("judgings from nothing differ".to_string());
         }
-        let lines = VERDICT_BYTES * ours.classes;
-        if self.judged && self.ours.verdicts.part()[..lines] != our_row[..lines] {
-            return Err("the verdicts are not those of a judging from nothing".to_string());
-        }
-        Ok(())
+        our_row.truncate(VERDICT_BYTES * ours.classes);
+        Ok(our_row)
     }
 
     /// Puts both sides back to what they were.

@@ -5,8 +5,10 @@ use sheets::{
     broken_group, damage, edited_group, fitting_group, groups, random_group, varied_pair, Random,
 };
 
-use crate::call::{Answer, Call};
+use crate::call::{Answer, Call, Value};
 use crate::desk::{Desk, Difference};
+use crate::examiner::Examiner;
+use crate::forms::{form_length, Forms};
 use crate::lent::Side;
 use crate::stock::Stock;
 use crate::tally::Tally;
@@ -24,6 +26,8 @@ pub struct History<'a> {
     desk: Desk,
     /// Were the sheets accepted so far?
     sound: bool,
+    /// Is their canonical form still to be written?
+    fresh: bool,
 }
 
 /// How many classes there are.
@@ -43,17 +47,46 @@ impl<'a> History<'a> {
             stock,
             desk,
             sound,
+            fresh: true,
         }
     }
 
     /// Makes all calls of the history.
-    pub fn run(&mut self, tally: &mut Tally) -> Result<(), Box<Difference>> {
+    pub fn run(
+        &mut self,
+        examiner: &mut Examiner,
+        tally: &mut Tally,
+    ) -> Result<(), Box<Difference>> {
         for _ in 0..self.draw_length() {
             let (call, answer) = self.step()?;
             tally.count(call, answer, self.desk.side());
             tally.undone += self.desk.undone as u64;
+            self.look_at_form(call, answer, examiner, &mut tally.forms)?;
         }
         Ok(())
+    }
+
+    /// Has the form of each pair of sheets that is accepted written, and looks closely at those
+    /// that a call wrote.
+    fn look_at_form(
+        &mut self,
+        call: Call,
+        answer: Answer,
+        examiner: &mut Examiner,
+        forms: &mut Forms,
+    ) -> Result<(), Box<Difference>> {
+        let (random, sheets) = (&mut self.random, self.desk.side());
+        if answer.0.is_ok() && self.fresh {
+            self.fresh = false;
+            examiner.write(random, sheets, forms)?;
+        }
+        match (call, answer.0) {
+            (Call::Canonical, Ok(Value::Number(length))) => {
+                let form = &sheets.out.part()[..length];
+                examiner.examine(random, sheets, form, forms)
+            }
+            _ => Ok(()),
+        }
     }
 
     fn draw_length(&mut self) -> usize {
@@ -83,13 +116,12 @@ impl<'a> History<'a> {
         let judged = self.desk.judged;
         self.desk.judged &= before.is_none();
         let answer = self.desk.call(call)?;
-        if let Some(before) = before {
-            if answer.0.is_ok() {
-                self.sound = true;
-            } else {
-                self.desk.restore(before);
-                self.desk.judged = judged;
-            }
+        if answer.0.is_ok() {
+            self.fresh |= before.is_some() || call.changes_sheets();
+            self.sound |= before.is_some();
+        } else if let Some(before) = before {
+            self.desk.restore(before);
+            self.desk.judged = judged;
         }
         Ok((call, answer))
     }
@@ -122,7 +154,8 @@ impl<'a> History<'a> {
                 Call::Replace(class)
             }
             68..=75 => Call::Withdraw,
-            76..=87 => Call::Name(self.draw_class(&classes)),
+            76..=82 => Call::Canonical,
+            83..=91 => Call::Name(self.draw_class(&classes)),
             _ => Call::Marks(self.draw_class(&classes)),
         }
     }
@@ -192,16 +225,45 @@ impl<'a> History<'a> {
         let classes = self.classes();
         let verdicts = classes.all - classes.library + (call == Call::Add) as usize;
         let row = self.draw_row_length(verdicts * VERDICT_BYTES);
-        let scratch = self.draw_scratch_length();
         let user = self.draw_user_length(call, &classes);
-        let length = SCRATCH_BYTES + 2 * MARGIN;
-        let content = self.stock.bytes(&mut self.random, length);
         self.desk.change(|side| {
             side.verdicts.lend(row);
-            side.scratch.overwrite(content);
-            side.scratch.lend(scratch);
             side.user.lend(user);
         });
+        match call {
+            Call::Judge | Call::Add | Call::Replace(_) => self.lend_scratch(),
+            Call::Canonical => self.lend_output(),
+            _ => {}
+        }
+    }
+
+    fn lend_scratch(&mut self) {
+        let length = self.draw_scratch_length();
+        let random = &mut self.random;
+        let content = self.stock.bytes(random, SCRATCH_BYTES + 2 * MARGIN);
+        self.desk.change(|side| {
+            side.scratch.overwrite(content);
+            side.scratch.lend(length);
+        });
+    }
+
+    /// Junk to write over, as much as the canonical form takes or about so.
+    fn lend_output(&mut self) {
+        let side = self.desk.side();
+        let (used, form) = (side.used, form_length(side).unwrap_or(side.used));
+        let random = &mut self.random;
+        let length = match random.below(12) {
+            0 => 0,
+            1 | 2 => form.saturating_sub(1),
+            3..=6 => form,
+            7 => used,
+            8 => random.below(form + 1),
+            9 => SHEET_BYTES + random.below(300),
+            _ => form + 1 + random.below(300),
+        };
+        let junk = self.stock.bytes(random, length);
+        let lent = self.stock.lend(random, junk);
+        self.desk.change(|side| side.out.copy(&lent));
     }
 
     fn draw_row_length(&mut self, needed: usize) -> usize {
@@ -327,6 +389,7 @@ fn lay_out(random: &mut Random, stock: &Stock, library: &[u8], user: &[u8]) -> S
         group: stock.lend(random, &[]),
         verdicts: stock.lend(random, &row),
         scratch: stock.lend(random, &scratch),
+        out: stock.lend(random, &[]),
     }
 }
 

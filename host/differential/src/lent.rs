@@ -1,7 +1,7 @@
 //! What a call borrows.
 
 /// Bytes of which a part is lent. Those around it show what is written past its ends.
-#[derive(Clone, PartialEq)]
+#[derive(Clone, Default, PartialEq)]
 pub struct Lent {
     bytes: Vec<u8>,
     start: usize,
@@ -23,7 +23,7 @@ impl Lent {
     }
 
     /// Takes over another's bytes, in the memory that is there.
-    fn copy(&mut self, other: &Lent) {
+    pub fn copy(&mut self, other: &Lent) {
         self.bytes.clone_from(&other.bytes);
         (self.start, self.room, self.length) = (other.start, other.room, other.length);
     }
@@ -47,6 +47,15 @@ impl Lent {
         self.bytes.copy_from_slice(&content[..length]);
     }
 
+    /// Are these another's bytes, but for the first ones of the part?
+    pub fn keeps_all_but(&self, written: usize, before: &Lent) -> bool {
+        let lent = |lent: &Lent| (lent.start, lent.room, lent.length);
+        let end = self.start + written;
+        lent(self) == lent(before)
+            && self.bytes[..self.start] == before.bytes[..self.start]
+            && self.bytes[end..] == before.bytes[end..]
+    }
+
     /// Where two of them differ, if they do: the byte counted from the start of the lent part.
     pub fn difference(&self, other: &Lent) -> Option<isize> {
         if self == other {
@@ -59,7 +68,7 @@ impl Lent {
 }
 
 /// Everything that a call can borrow, for one of the two verifiers.
-#[derive(Clone, PartialEq)]
+#[derive(Clone, Default, PartialEq)]
 pub struct Side {
     pub library: Lent,
     pub user: Lent,
@@ -67,6 +76,7 @@ pub struct Side {
     pub group: Lent,
     pub verdicts: Lent,
     pub scratch: Lent,
+    pub out: Lent,
 }
 
 impl Side {
@@ -84,6 +94,7 @@ impl Side {
         self.group.copy(&other.group);
         self.verdicts.copy(&other.verdicts);
         self.scratch.copy(&other.scratch);
+        self.out.copy(&other.out);
     }
 
     /// The first difference between two sides, in words.
@@ -94,6 +105,7 @@ impl Side {
             ("group", &self.group, &other.group),
             ("verdicts", &self.verdicts, &other.verdicts),
             ("scratch", &self.scratch, &other.scratch),
+            ("output", &self.out, &other.out),
         ];
         if self.used != other.used {
             return Some(format!("used length {} and {}", self.used, other.used));

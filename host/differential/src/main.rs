@@ -8,6 +8,8 @@
 mod addition;
 mod call;
 mod desk;
+mod examiner;
+mod forms;
 mod history;
 mod lent;
 mod report;
@@ -22,6 +24,7 @@ use std::sync::atomic::{AtomicU64, Ordering};
 use std::time::Instant;
 use std::{env, thread};
 
+use examiner::Examiner;
 use history::History;
 use stock::Stock;
 use tally::Tally;
@@ -101,20 +104,21 @@ impl Work {
     /// Runs one history after the other until none is left.
     fn take(&self) -> Option<Tally> {
         let mut tally = Tally::new();
+        let mut examiner = Examiner::new(&self.stock);
         loop {
             let number = self.next.fetch_add(1, Ordering::Relaxed);
             if number >= self.end {
                 return Some(tally);
             }
-            if !self.run(number, &mut tally) {
+            if !self.run(number, &mut examiner, &mut tally) {
                 self.next.store(self.end, Ordering::Relaxed);
                 return None;
             }
         }
     }
 
-    fn run(&self, number: u64, tally: &mut Tally) -> bool {
-        let history = || History::new(self.seed, number, &self.stock).run(tally);
+    fn run(&self, number: u64, examiner: &mut Examiner, tally: &mut Tally) -> bool {
+        let history = || History::new(self.seed, number, &self.stock).run(examiner, tally);
         match catch_unwind(AssertUnwindSafe(history)) {
             Ok(Ok(())) => true,
             Ok(Err(difference)) => {

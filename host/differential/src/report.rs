@@ -22,7 +22,7 @@ fn describe(seed: u64, history: u64, difference: &Difference) -> String {
     format!(
         "difference: seed {seed}, history {history}\n\
          call {call:?}: {what}\n\
-         lengths: library {}, user {}, used {}, group {}, verdicts {}, scratch {}\n\
+         lengths: library {}, user {}, used {}, group {}, verdicts {}, scratch {}, output {}\n\
          again: cargo run --release -p differential -- {seed} {history}\n",
         before.library.part().len(),
         before.user.part().len(),
@@ -30,6 +30,7 @@ fn describe(seed: u64, history: u64, difference: &Difference) -> String {
         before.group.part().len(),
         before.verdicts.part().len(),
         before.scratch.part().len(),
+        before.out.part().len(),
     )
 }
 
@@ -42,5 +43,6 @@ fn keep(place: &Path, text: &str, difference: &Difference) -> io::Result<()> {
     fs::write(place.join("user.buffer"), before.user.part())?;
     fs::write(place.join("group.bytes"), before.group.part())?;
     fs::write(place.join("verdicts.bytes"), before.verdicts.part())?;
-    fs::write(place.join("scratch.bytes"), before.scratch.part())
+    fs::write(place.join("scratch.bytes"), before.scratch.part())?;
+    fs::write(place.join("output.bytes"), before.out.part())
 }

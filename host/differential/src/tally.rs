@@ -8,6 +8,7 @@ use sheets::build::{FINAL, IMMUTABLE, POWERLESS};
 use sheets::{groups, number, records};
 
 use crate::call::{Answer, Call, Value, OPERATIONS};
+use crate::forms::{form_length, Forms};
 use crate::lent::Side;
 
 /// The numbers of refusals.
@@ -23,6 +24,13 @@ const IMMUTABLE_CONSTANTS: &str = "rule 5 at constants of Immutable types that a
 const UNDONE: &str = "additions that were withdrawn at once";
 /// What C-13 is about.
 const OUT_OF_ORDER: usize = 16;
+/// What C-15 is about. The first two are refused.
+const OUTPUTS: [&str; 4] = [
+    "no output for a canonical form",
+    "outputs one byte shorter than a canonical form",
+    "outputs as long as a canonical form",
+    "outputs longer than a canonical form",
+];
 
 const LEAST_CALLS: u64 = 1_000_000;
 const LEAST_ACCEPTED_IN_100: u64 = 30;
@@ -33,6 +41,7 @@ const LEAST_WITH_SEVERAL: u64 = 10_000;
 const LEAST_CONSTANTS: u64 = 1_000;
 const LEAST_WITHDRAWALS: u64 = 10_000;
 const LEAST_UNDONE: u64 = 10_000;
+const LEAST_OF_AN_OUTPUT: u64 = 1_000;
 
 pub struct Tally {
     /// By operation, then by refusal, 0 for accepted calls.
@@ -48,6 +57,9 @@ pub struct Tally {
     pub undone: u64,
     /// User classes of accepted judgings by their own markers.
     own_markers: [u64; 256],
+    /// Outputs that were lent for canonical forms, by length.
+    outputs: [u64; OUTPUTS.len()],
+    pub forms: Forms,
 }
 
 impl Tally {
@@ -60,6 +72,8 @@ impl Tally {
             immutable_constants: 0,
             undone: 0,
             own_markers: [0; 256],
+            outputs: [0; OUTPUTS.len()],
+            forms: Forms::default(),
         }
     }
 
@@ -71,6 +85,7 @@ impl Tally {
             (_, Err(Refusal { sheet, .. })) if number == OUT_OF_ORDER => {
                 self.out_of_order[sheet as usize] += 1;
             }
+            (Call::Canonical, answer) => self.count_output(answer, after),
             (Call::Judge, Ok(Value::Counts { classes, .. })) => self.count_verdicts(after, classes),
             (Call::Replace(_), Ok(Value::Number(SEVERAL..))) => self.with_several += 1,
             _ => {}
@@ -89,6 +104,18 @@ impl Tally {
         }
     }
 
+    fn count_output(&mut self, answer: Result<Value, Refusal>, after: &Side) {
+        let room = after.out.part().len();
+        let output = match answer.map_err(|refusal| refusal.number) {
+            Err(15) if room == 0 => 0,
+            Err(15) if form_length(after) == Some(room + 1) => 1,
+            Ok(Value::Number(length)) if length == room => 2,
+            Ok(_) => 3,
+            Err(_) => return,
+        };
+        self.outputs[output] += 1;
+    }
+
     pub fn add(&mut self, other: &Tally) {
         add_rows(
             self.answers.as_flattened_mut(),
@@ -100,6 +127,8 @@ impl Tally {
         self.with_several += other.with_several;
         self.immutable_constants += other.immutable_constants;
         self.undone += other.undone;
+        add_rows(&mut self.outputs, &other.outputs);
+        self.forms.add(&other.forms);
     }
 
     pub fn calls(&self) -> u64 {
@@ -155,6 +184,10 @@ impl Tally {
         require("accepted withdrawals".into(), accepted, LEAST_WITHDRAWALS);
         require(UNDONE.into(), self.undone, LEAST_UNDONE);
         require("own marker sets".into(), self.marker_sets() as u64, 256);
+        for (output, met) in OUTPUTS.iter().zip(self.outputs) {
+            require(output.to_string(), met, LEAST_OF_AN_OUTPUT);
+        }
+        self.forms.require(&mut require);
         short
     }
 }
@@ -176,6 +209,7 @@ fn refusals_of(operation: &str) -> impl Iterator<Item = usize> {
         "add" => &[12, 14, 15],
         "replace" => &[12, 13, 14, 15],
         "withdraw" => &[12, 13, 17],
+        "canonical" => &[15],
         _ => &[13],
     };
     (1..=11).chain([OUT_OF_ORDER]).chain(more.iter().copied())
@@ -193,6 +227,7 @@ impl fmt::Display for Tally {
         writeln!(f)?;
         self.write_rules(f)?;
         writeln!(f)?;
+        writeln!(f, "{}", self.forms)?;
         let (calls, accepted) = (self.calls(), self.accepted_in_100());
         writeln!(f, "calls {calls}, {accepted} in 100 accepted")?;
         let several = self.with_several;
@@ -205,7 +240,11 @@ impl fmt::Display for Tally {
         for (sheet, met) in SHEETS.iter().zip(self.out_of_order) {
             writeln!(f, "refusal {OUT_OF_ORDER} in the {sheet} sheet {met}")?;
         }
-        writeln!(f, "own marker sets {} of 256", self.marker_sets())
+        writeln!(f, "own marker sets {} of 256", self.marker_sets())?;
+        for (output, met) in OUTPUTS.iter().zip(self.outputs) {
+            writeln!(f, "{output} {met}")?;
+        }
+        Ok(())
     }
 }
 
@@ -213,13 +252,13 @@ impl Tally {
     fn write_answers(&self, f: &mut fmt::Formatter) -> fmt::Result {
         write!(f, "| answer   |")?;
         for operation in OPERATIONS {
-            write!(f, " {operation:>8} |")?;
+            write!(f, " {operation:>9} |")?;
         }
-        writeln!(f, " {:>8} |", "all")?;
+        writeln!(f, " {:>9} |", "all")?;
         writeln!(
             f,
             "|:---------|{}",
-            "---------:|".repeat(OPERATIONS.len() + 1)
+            "----------:|".repeat(OPERATIONS.len() + 1)
         )?;
         for number in [0].into_iter().chain(REFUSALS) {
             let name = match number {
@@ -228,9 +267,9 @@ impl Tally {
             };
             write!(f, "| {name:8} |")?;
             for row in &self.answers {
-                write!(f, " {:8} |", row[number])?;
+                write!(f, " {:9} |", row[number])?;
             }
-            writeln!(f, " {:8} |", self.answered(number))?;
+            writeln!(f, " {:9} |", self.answered(number))?;
         }
         Ok(())
     }

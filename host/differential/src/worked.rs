@@ -9,12 +9,14 @@ use crate::lent::{Lent, Side};
 const CASES: &str = include_str!("../worked_cases.txt");
 /// In each byte of a line before the first call; no rule has this number.
 const UNTOUCHED: u8 = 0x77;
+/// In each byte of an output before the call.
+const UNWRITTEN: u8 = 0xEE;
 
 #[test]
 fn worked_cases() {
     let blocks = CASES.split("\n\n");
     let cases: Vec<_> = blocks.filter(|block| block.contains("\n= ")).collect();
-    assert_eq!(cases.len(), 16);
+    assert_eq!(cases.len(), 22);
     for case in cases {
         let (expected, given): (Vec<&str>, Vec<&str>) =
             case.lines().partition(|line| line.starts_with("= "));
@@ -77,17 +79,30 @@ impl Run {
                 (Call::Replace(number(class)), group)
             }
             "withdraw" => (Call::Withdraw, ""),
+            "tidy" => (Call::Canonical, ""),
             "name" => (Call::Name(number(rest)), ""),
             "marks" => (Call::Marks(number(rest)), ""),
             _ => panic!("no call: {word} {rest}"),
         };
         let mut desk = self.desk.take().unwrap_or_else(|| Desk::new(self.side()));
-        desk.change(|side| side.group = lent(&hex(group)));
+        let room = if call == Call::Canonical {
+            number(rest)
+        } else {
+            0
+        };
+        desk.change(|side| {
+            side.group = lent(&hex(group));
+            side.out = lent(&vec![UNWRITTEN; room]);
+        });
         let answer = desk.call(call);
         let answer = answer.unwrap_or_else(|difference| panic!("{}", difference.what));
         let mut found = vec![format!("= {}", shown(answer))];
-        if !matches!(call, Call::Name(_) | Call::Marks(_)) {
-            found.push(format!("= state {}", state(desk.side())));
+        match call {
+            Call::Canonical if answer.0.is_ok() => {
+                found[0] += &format!(" {}", digits(desk.side().out.part()));
+            }
+            Call::Canonical | Call::Name(_) | Call::Marks(_) => {}
+            _ => found.push(format!("= state {}", state(desk.side()))),
         }
         self.desk = Some(desk);
         found
@@ -101,6 +116,7 @@ impl Run {
             group: lent(&[]),
             verdicts: lent(&vec![UNTOUCHED; self.lines * VERDICT_BYTES]),
             scratch: lent(&vec![UNTOUCHED; self.scratch]),
+            out: lent(&[]),
         }
     }
 }

@@ -118,6 +118,27 @@ pub fn withdraw(
     answer.accepted().map(|value| value as usize)
 }
 
+/// Writes the user sheet in canonical form and gives back its length.
+pub fn canonical(
+    library: &[u8],
+    user: &[u8],
+    used: usize,
+    out: &mut [u8],
+) -> Result<usize, Refusal> {
+    let answer = unsafe {
+        raw::kz_canonical(
+            library.as_ptr(),
+            library.len(),
+            user.as_ptr(),
+            user.len(),
+            used,
+            out.as_mut_ptr(),
+            out.len(),
+        )
+    };
+    answer.accepted().map(|value| value as usize)
+}
+
 /// Where a class's name stands.
 pub fn name(library: &[u8], user: &[u8], used: usize, class: usize) -> Result<Part, Refusal> {
     let answer = unsafe {

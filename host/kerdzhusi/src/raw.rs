@@ -60,6 +60,16 @@ extern "C" {
         verdicts_len: usize,
     ) -> Answer;
 
+    pub fn kz_canonical(
+        library: *const u8,
+        library_len: usize,
+        user: *const u8,
+        user_len: usize,
+        used: usize,
+        out: *mut u8,
+        out_len: usize,
+    ) -> Answer;
+
     pub fn kz_name(
         library: *const u8,
         library_len: usize,

@@ -14,6 +14,12 @@ const BUILDER: [u8; 19] = *b"\x0D\0\x01\0\0\0\0\0\0\0\xFF\xFFB\x06\0\x06\0\x02\0
 const OUT_OF_ORDER: [u8; 28] =
     *b"\x0D\0\x01\0\0\0\0\0\0\0\xFF\xFFA\x06\0\x06\0\x01\0\x09\0\x04\0\0\x04\0\0v";
 
+/// A class that builds class 0 three times and itself before that.
+const BUSY: [u8; 37] = *b"\x0D\0\x01\0\0\0\0\0\0\0\xFF\xFFA\x06\0\x06\0\x01\0\
+    \x06\0\x06\0\0\0\x06\0\x06\0\0\0\x06\0\x06\0\0\0";
+/// The same in canonical form.
+const TIDY: [u8; 25] = *b"\x0D\0\x01\0\0\0\0\0\0\0\xFF\xFFA\x06\0\x06\0\0\0\x06\0\x06\0\x01\0";
+
 const CLEAN: Verdict = Verdict { rule: 0, record: 0 };
 const NOT_FINAL: Verdict = Verdict { rule: 7, record: 1 };
 
@@ -92,6 +98,27 @@ fn refusals_of_withdraw() {
 }
 
 #[test]
+fn canonical_forms() {
+    let write = |user: &[u8], room| {
+        let mut out = vec![0xEE; room];
+        (canonical(&LIBRARY, user, user.len(), &mut out), out)
+    };
+    for sheet in [&BUSY[..], &TIDY] {
+        assert_eq!(write(sheet, 25), (Ok(25), TIDY.to_vec()));
+        let longer = [&TIDY[..], &[0xEE; 3]].concat();
+        assert_eq!(write(sheet, 28), (Ok(25), longer));
+        assert_eq!(write(sheet, 24), (Err(refusal(15, 0, 0)), vec![0xEE; 24]));
+    }
+    assert_eq!(write(&POINT, 25), (Ok(25), POINT.to_vec()));
+    assert_eq!(write(&[], 2), (Ok(0), vec![0xEE; 2]));
+    let mut out = [0xEE; 40];
+    let answer = canonical(&LIBRARY, &BUSY, 38, &mut out);
+    assert_eq!((answer, out), (Err(refusal(1, 1, 0)), [0xEE; 40]));
+    let answer = canonical(&LIBRARY, &BUSY, 36, &mut out);
+    assert_eq!((answer, out), (Err(refusal(2, 1, 31)), [0xEE; 40]));
+}
+
+#[test]
 fn names_and_markers() {
     let name_of = |class| name(&LIBRARY, &POINT, 25, class);
     let text = |class| name_of(class).map(|part| part.bytes(&LIBRARY, &POINT));
@@ -127,6 +154,7 @@ fn every_call_refuses_records_out_of_order() {
     assert_eq!(replaced, Err(refused));
     let withdrawn = withdraw(library, &mut user, &mut used, row);
     assert_eq!(withdrawn, Err(refused));
+    assert_eq!(canonical(library, &user, used, row), Err(refused));
     assert_eq!(name(library, &user, used, 1), Err(refused));
     assert_eq!(marks(library, &user, used, 1), Err(refused));
     used = 0;
@@ -162,6 +190,10 @@ fn null_with_length_0() {
         assert_eq!(status(replaced), (13, 0));
         let withdrawn = raw::kz_withdraw(library, length, none, 0, &mut used, none, 0);
         assert_eq!(status(withdrawn), (13, 0));
+        let written = raw::kz_canonical(library, length, null(), 0, 0, none, 0);
+        assert_eq!(status(written), (0, 0));
+        let written = raw::kz_canonical(library, length, POINT.as_ptr(), 25, 25, none, 0);
+        assert_eq!(status(written), (15, 0));
         let marked = raw::kz_marks(library, length, null(), 0, 0, 0);
         assert_eq!(status(marked), (0, 0));
         let named = raw::kz_name(library, length, null(), 0, 0, 0);

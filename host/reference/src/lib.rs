@@ -1,5 +1,6 @@
 //! An independent verifier of class sheets, written from documents 01 and 02 over byte slices.
 
+mod canonical;
 mod captures;
 mod class_set;
 mod dependents;
@@ -160,6 +161,20 @@ pub fn withdraw(
     user[start..*used].fill(0);
     *used = start;
     Ok(last)
+}
+
+/// Writes the user sheet in canonical form and gives back its length (document 02, C-15).
+pub fn canonical(
+    library: &[u8],
+    user: &[u8],
+    used: usize,
+    out: &mut [u8],
+) -> Result<usize, Refusal> {
+    let pair = check(library, user, used)?;
+    let sheet = canonical::canonical(&pair);
+    require(sheet.len() <= out.len(), 15)?;
+    out[..sheet.len()].copy_from_slice(&sheet);
+    Ok(sheet.len())
 }
 
 /// The overlay markers of a class.

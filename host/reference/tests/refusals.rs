@@ -2,7 +2,7 @@
 
 mod support;
 
-use reference::{add, judge, listing, marks, name, replace, withdraw};
+use reference::{add, canonical, judge, listing, marks, name, replace, withdraw};
 use support::*;
 
 /// The byte after a lone class named C.
@@ -381,6 +381,10 @@ fn every_call_meets_one_to_eleven_and_sixteen() {
         assert_eq!(refused.number, number);
         assert_eq!(marks(&library, &user, user.len(), 999), Err(refused));
         assert_eq!(name(&library, &user, user.len(), 999), Err(refused));
+        assert_eq!(
+            canonical(&library, &user, user.len(), &mut []),
+            Err(refused)
+        );
         assert_eq!(listing(&library, &user), format!("{refused}\n"));
         let (mut buffer, mut used) = (user.clone(), user.len());
         let (bytes, length) = (&mut buffer[..], &mut used);

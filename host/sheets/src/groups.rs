@@ -1,9 +1,10 @@
-//! Random groups that take the place of a class or come after the last.
+//! Random groups that take the place of a class or come after the last, and a sheet's groups in
+//! bytes that mean the same.
 
-use crate::build::Sheet;
+use crate::build::{Sheet, GROUP_LIMIT, SHEET_LIMIT};
 use crate::plan::{Plan, OWN};
 use crate::random::{damage, Random};
-use crate::read::{kind, ordered, records};
+use crate::read::{groups, is_of_set, kind, ordered, records};
 
 /// A new group for a user class of an accepted pair, or for the one after the last. Mostly it is
 /// accepted.
@@ -42,6 +43,39 @@ pub fn broken_group(random: &mut Random, group: &[u8]) -> Vec<u8> {
         4 => rows.iter().rev().copied().collect::<Vec<_>>().concat(),
         _ => damage(random.number(), group),
     }
+}
+
+/// An accepted user sheet in bytes that mean the same (document 02, C-15): in each group the
+/// records of the sets shuffled, some of them once more, as far as group and sheet have room.
+pub fn shuffled_sets(random: &mut Random, user: &[u8]) -> Vec<u8> {
+    let most = if random.percent(1) { GROUP_LIMIT } else { 3 };
+    let mut room = SHEET_LIMIT - user.len();
+    let mut copy = Vec::with_capacity(user.len());
+    for group in groups(user) {
+        let (mut sets, mut rows): (Vec<_>, Vec<_>) =
+            records(group).partition(|record| is_of_set(record));
+        let spare = GROUP_LIMIT - rows.len() - sets.len();
+        for _ in 0..random.below(most + 1).min(spare) {
+            if let Some(again) = repeat(random, &sets, room) {
+                room -= again.len();
+                sets.push(again);
+            }
+        }
+        random.shuffle(&mut sets);
+        rows.extend(sets);
+        // The CLASS has the lowest kind.
+        rows.sort_by_key(|record| kind(record));
+        for record in rows {
+            copy.extend_from_slice(record);
+        }
+    }
+    copy
+}
+
+/// One of the rows, if there is any and it has room.
+fn repeat<'a>(random: &mut Random, rows: &[&'a [u8]], room: usize) -> Option<&'a [u8]> {
+    let row = *rows.get(random.below(rows.len().max(1)))?;
+    (row.len() <= room).then_some(row)
 }
 
 /// The first row is the CLASS and stays there.

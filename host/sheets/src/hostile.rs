@@ -25,6 +25,7 @@ pub const ALL: &[(&str, Maker)] = &[
     ("last_member", last_member),
     ("last_local", last_local),
     ("deep_uses", deep_uses),
+    ("spread_pairs", spread_pairs),
 ];
 
 /// User classes beside a library of one class.
@@ -524,4 +525,34 @@ fn uses_of_last_local(depth: usize) -> Pair {
         }
     }
     (object_only(), user)
+}
+
+/// As many REFERS as fit, in falling order and without repeats: each group names every library
+/// class, some twice, and its canonical form is the other way round.
+fn spread_pairs() -> Pair {
+    const GROUPS: usize = SHEET_LIMIT / (12 + SHORT + 8 * (GROUP_LIMIT - 1));
+    const LIBRARY: usize = CLASS_LIMIT - GROUPS;
+    const TWICE: usize = GROUP_LIMIT - 1 - LIBRARY;
+    const MEMBERS: usize = 17;
+    let mut library = object_only();
+    for class in 0..LIBRARY {
+        if class > 0 {
+            library.class(Class::below(0).flags(ALLOWED), &short_name(class));
+        }
+        for _ in 0..MEMBERS {
+            library.member(true, b"m");
+        }
+    }
+    let mut user = Sheet::new();
+    for group in 0..GROUPS {
+        user.class(Class::below(0), &short_name(LIBRARY + group));
+        for class in (0..LIBRARY).rev() {
+            let index = (class + group) % (MEMBERS - 1);
+            if class < TWICE {
+                user.refers(class, index + 1);
+            }
+            user.refers(class, index);
+        }
+    }
+    (library, user)
 }

@@ -11,9 +11,9 @@ mod read;
 mod real;
 mod real_names;
 
-pub use groups::{broken_group, edited_group, fitting_group};
+pub use groups::{broken_group, edited_group, fitting_group, shuffled_sets};
 pub use random::{damage, random_group, random_pair, varied_pair, Random};
-pub use read::{groups, is_in_order, kind, number, records};
+pub use read::{groups, is_in_order, is_of_set, kind, number, records};
 
 use build::Sheet;
 

@@ -9,6 +9,12 @@ pub fn kind(record: &[u8]) -> usize {
     number(record, 2)
 }
 
+/// Is this an IMPLEMENTS, USES, BUILDS or REFERS? Of each a group holds a set: neither order nor
+/// repeats mean anything (document 02, C-15).
+pub fn is_of_set(record: &[u8]) -> bool {
+    [2, 5, 6, 8].contains(&kind(record))
+}
+
 /// The records of a sheet, up to the first that is not whole.
 pub fn records(mut sheet: &[u8]) -> impl Iterator<Item = &[u8]> {
     std::iter::from_fn(move || {

@@ -2,8 +2,8 @@
 
 use std::time::{Duration, Instant};
 
-use reference::{judge, Counts, SCRATCH_BYTES, SHEET_LIMIT};
-use sheets::{families, full, is_in_order, typical, Family};
+use reference::{canonical, judge, Counts, SCRATCH_BYTES, SHEET_LIMIT};
+use sheets::{families, full, groups, is_in_order, records, typical, Family};
 
 struct Buffers {
     verdicts: Vec<u8>,
@@ -90,6 +90,24 @@ fn faulted_chains_break_rule_1_and_the_classes_below_rule_10() {
     let (chain, below) = verdicts.split_at(10);
     assert!(chain.iter().all(|verdict| verdict[0] == 1), "{chain:?}");
     assert_eq!(below, vec![[10, 1]; 243]);
+}
+
+/// No group has room for another pair, and no pair stays where it is.
+#[test]
+fn spread_pairs_turn_round() {
+    let families = families();
+    let family = families.iter().find(|family| family.name == "spread_pairs");
+    let Family { library, user, .. } = family.expect("a family of this name");
+    let mut turned = Vec::new();
+    for group in groups(user) {
+        let mut rows: Vec<_> = records(group).collect();
+        assert_eq!(rows.len(), 255);
+        rows[1..].reverse();
+        turned.extend(rows.concat());
+    }
+    let mut out = vec![0xEE; user.len()];
+    let answer = canonical(library, user, user.len(), &mut out);
+    assert_eq!((answer, out), (Ok(user.len()), turned));
 }
 
 #[test]

@@ -36,6 +36,10 @@ const FUNCTIONS: &[(&str, Used)] = &[
         let (mut desk, _) = Desk::with_last_unnamed(&KERDZHUSI, family);
         stack_used(&mut || desk.withdraw())
     }),
+    ("kz_canonical", |family| {
+        let mut desk = Desk::judged(&KERDZHUSI, family);
+        stack_used(&mut || desk.canonical())
+    }),
     ("kz_name", |family| {
         let desk = Desk::judged(&KERDZHUSI, family);
         most(quarters(family), |class| {
