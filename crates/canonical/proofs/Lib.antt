@@ -2,7 +2,6 @@ pub mod Rows
 pub mod Gathering
 pub mod Records
 pub mod Writing
-pub mod Sizes
 pub mod Copying
 pub mod Walking
 pub mod Answered

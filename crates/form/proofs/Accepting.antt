@@ -214,9 +214,6 @@ module _ {library user row : List ℕ} {p : Checked} (e : (p ≡ checkedOf (pass
     all-passed : (passesRefusal library user ≡ none) × ((k.library ≡ classCount library) × (k.all ≡ total library user))
     all-passed = fine-none (passesRefusal library user) (sym f ∙ e.0)
 
-    pub check-indexed : Indexed library user k.library k.all row
-    check-indexed = rw (all-passed.1.0, all-passed.1.1) (e.1.indexed all-passed.0)
-
     pub check-later : {r : Checked} {memo : List ℕ} → (r ≡ checkedOf (laterRefusal library user) k.library k.all) × Ready (laterRefusal library user) library user row memo
         → Checks (sheetRefusal library user) library user r row memo
     check-later {r} h =

@@ -225,9 +225,6 @@ module _ {library user : List ℕ} {nlib n : ℕ} {row : List ℕ} (x : Indexed 
   unfolding endOf
   class-room = omega (arith, first-within (group library user c))
 
-  pub class_low : startOf library user c + 13 ≤ 32768
-  class_low = omega (arith, class-long, class-room, end-small)
-
   pub class-there : startOf library user c < endOf library user c
   class-there = omega (arith, class-long, class-room)
 

@@ -1,4 +1,4 @@
--- The bytes from the start of a group on, how long that group is, and how many classes a sheet has.
+-- The bytes from the start of a group on, how long that group is and that its records are the bytes; and how many classes a sheet has.
 -- Assumes nothing.
 use mathlib.Core.Path.{◌≡◌, refl, sym, ap, ap₂, ◌∙◌, subst}
 use mathlib.Core.Bool.{Bool, true, false}

@@ -1,4 +1,4 @@
--- The user sheet that is listed, and its bytes from the start of a group on.
+-- A user sheet that passed the first pass, and its bytes from the start of a group on.
 -- Assumes nothing.
 use Rattle.std.specs.Prelude.{◌≡◌, List, [], ℕ, ◌+◌, ◌≤◌, length}
 use Rattle.spec.specs.Sheet.{recordsOf, splitGroups, classCount}

@@ -4,7 +4,6 @@ use mathlib.Core.Path.{◌≡◌, refl}
 use mathlib.Core.Bool.{Bool, true, false, ◌||◌}
 use mathlib.Core.List.{◌∷◌}
 use Prim.Native.Nat.{ℕ, zero, suc, ◌+◌, ◌-◌, ◌≤◌, ◌<◌}
-use native.Mathlib.Nat.{sub-zero}
 use native.Mathlib.Numerals.{add-one}
 use native.Mathlib.Omega.{arith}
 use Rattle.spec.specs.Lists.{any, span}
@@ -21,9 +20,6 @@ any_none p i (suc n) h = rw (h i (omega arith) (omega arith)) (any_none p (suc i
 pub record SeekingBelow (p : ℕ → Bool) (n d : ℕ) : Type 0 where
   pub within : d ≤ n
   pub rest : any p (span d (n - d)) ≡ any p (span 0 n)
-
-pub below-start : (p : ℕ → Bool) (n : ℕ) → SeekingBelow p n 0
-below-start p n = record { within = omega arith; rest = rw (sub-zero n) }
 
 module _ {p : ℕ → Bool} {n d : ℕ} (w : SeekingBelow p n d) where
   pub below_end : n ≤ d → false ≡ any p (span 0 n)

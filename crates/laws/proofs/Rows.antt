@@ -2,12 +2,12 @@
 -- Assumes nothing.
 use mathlib.Core.Path.{◌≡◌, refl, sym, ap, ◌∙◌, subst}
 use mathlib.Core.List.{List, map}
-use Prim.Native.Nat.{ℕ, zero, suc, ◌+◌, ◌≤◌, ◌<◌}
+use Prim.Native.Nat.{ℕ, zero, suc, ◌+◌, ◌<◌}
 use native.Mathlib.Nat.{zero-add}
 use native.Mathlib.Omega.{arith}
-use lib.ListN.{length, get_or, drop, set, length-map, length-set}
-use lib.Seq.{get_or-set_same, get_or-set_other, drop-set-lt}
-use borrow.Author.Count.{below_none, below_more}
+use lib.ListN.{length, get_or, drop, set, length-map}
+use lib.Seq.{get_or-set_same, get_or-set_other}
+use borrow.Author.Count.{below_more}
 use Rattle.spec.specs.Lists.{span}
 
 length-span : (i n : ℕ) → length (span i n) ≡ n
@@ -38,13 +38,3 @@ pub record Filling (f : ℕ → ℕ) (n : ℕ) (before row : List ℕ) (c : ℕ)
   pub long : length row ≡ length before
   pub new : (d : ℕ) → d < c → get_or row d 0 ≡ f d
   pub rest : drop n row ≡ drop n before
-
-pub filling-start : {f : ℕ → ℕ} (n : ℕ) (row : List ℕ) → Filling f n row row 0
-filling-start n row = record { long = refl; new = below_none _; rest = refl }
-
-pub filling-next : {f : ℕ → ℕ} {n : ℕ} {before row : List ℕ} {c : ℕ} → Filling f n before row c → n ≤ length before → c < n → {v : ℕ} → v ≡ f c → Filling f n before (set row c v) (c + 1)
-filling-next {f} {n} {row = row} {c} w room h {v} e = record {
-  long = length-set row c v ∙ w.long;
-  new = set_below (λ d x. x ≡ f d) row c v (omega (arith, w.long)) w.new e;
-  rest = drop-set-lt n row c v h ∙ w.rest;
-}

@@ -1,6 +1,6 @@
 -- A walk over the records of a class that looks for one that meets a test: what is left of the records tells of all.
 -- Assumes nothing.
-use mathlib.Core.Path.{◌≡◌, refl, ap, ◌∙◌}
+use mathlib.Core.Path.{◌≡◌, ap, ◌∙◌}
 use mathlib.Core.Bool.{Bool, true, false, ◌||◌}
 use mathlib.Core.List.{List}
 use Prim.Native.Nat.{ℕ, ◌+◌, ◌≤◌, ◌<◌}
@@ -14,9 +14,6 @@ use Rattle.records.proofs.Walks.{walk_here, walk-next}
 pub record Seeking (p : List ℕ → Bool) (bytes : List ℕ) (at : ℕ) : Type 0 where
   pub place : AtRecord bytes (length bytes) at
   pub rest : any p (between bytes 0 (length bytes)) ≡ any p (between bytes at (length bytes))
-
-pub seek-start : {p : List ℕ → Bool} {bytes : List ℕ} → AtRecord bytes (length bytes) 0 → Seeking p bytes 0
-seek-start w = record { place = w; rest = refl }
 
 module _ {p : List ℕ → Bool} {bytes : List ℕ} {at : ℕ} (w : Seeking p bytes at) where
   pub seek-end : length bytes ≤ at → any p (between bytes 0 (length bytes)) ≡ false

@@ -35,14 +35,6 @@ module _ {rule : ℕ} (h : 7 ≤ rule) where
       go (yes e) = at-nine rule a b c c e
       go (no n9) = at-ten rule a b c c h n7 n8 n9
 
-  pub all_same : {A : Type 0} (a : A) → fromSeven rule a a a a ≡ a
-  all_same a = go (ℕ_discrete rule 7) (ℕ_discrete rule 8)
-    where
-      go : Dec (rule ≡ 7) → Dec (rule ≡ 8) → fromSeven rule a a a a ≡ a
-      go (yes e) q = at-seven rule a a a a e
-      go (no n7) (yes e) = at-eight rule a a a a e
-      go (no n7) (no n8) = past-eight a a a n7 n8
-
   -- all but rule 9 ask the same of their own marker
   pub of-marker : {A : Type 0} (f : ℕ → A) (x : A) → (rule ≡ 9 → ⊥) → fromSeven rule (f 0) (f 1) x (f 7) ≡ f (ruleMarker rule)
   unfolding ruleMarker

@@ -1,4 +1,4 @@
-use Rattle.std.proofs.Common.{◌+◌, ◌≤◌, refl, ◌∙◌, true, false, length, arith, eq-eqb}
+use Rattle.std.proofs.Common.{refl, ◌∙◌, true, false, arith, eq-eqb}
 use borrow.Author.Tests.{ne_eqb}
 use Rattle.records.proofs.Between.{tiled-step, tiled-room, oneIf, counted_start, counted_step, counted-end}
 use Rattle.records.proofs.count_in.Goals as goal
