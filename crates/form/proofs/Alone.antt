@@ -84,7 +84,8 @@ module _ {library user : List ℕ} {nlib n : ℕ} {starts : List ℕ} (x : Index
     unfolding deemedFrom
     from-same zero c h = refl
     from-same (suc k) c h =
-        ap₂ (λ (b : Bool) (m : ℕ). elim b as (λ (x : Bool). ℕ) [ true ↦ c | false ↦ m ]) (ap (deemedBreaks c) (sym (overlay-same nlib (group library user) (group library []) f same c (omega arith)))) (from-same k (c + 1) (omega arith))
+        let e = sym (overlay-same nlib (group library user) (group library []) f same c (omega arith)) in
+        ap₂ (λ (b : Bool) (m : ℕ). elim b as (λ (x : Bool). ℕ) [ true ↦ c | false ↦ m ]) (ap (deemedBreaks c) e) (from-same k (c + 1) (omega arith))
 
     pub alone-deemed : firstDeemed (group library []) nlib ≡ firstDeemed (group library user) nlib
     unfolding firstDeemed
