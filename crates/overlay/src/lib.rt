@@ -34,7 +34,7 @@ fn bytes_of<'a>(
 ) -> &'a [u8]
     requires indexed { Indexed library.now user.now classes.library classes.all starts.now }
     requires there { c < classes.all }
-    ensures { let g : ℕ → Group = groupOf library.now user.now in Carries result.now (g c) }
+    ensures { Carries result.now (groupOf library.now user.now c) }
 {
     class_bytes(library, user, starts, classes, c)
 }
@@ -51,10 +51,10 @@ fn lower<'a>(
     memo: &mut [u16],
 ) -> u8
     requires indexed { Indexed library.now user.now classes.library classes.all starts.now }
-    requires falls { let g : ℕ → Group = groupOf library.now user.now in Falls g }
+    requires falls { Falls (groupOf library.now user.now) }
     requires there { c < classes.all }
-    requires knows { let g : ℕ → Group = groupOf library.now user.now in Knows g c memo.old }
-    ensures markers { let g : ℕ → Group = groupOf library.now user.now in result ≡ lowerRaw g c i }
+    requires knows { Knows (groupOf library.now user.now) c memo.old }
+    ensures markers { result ≡ lowerRaw (groupOf library.now user.now) c i }
     ensures memo { memo.new ≡ memo.old }
 {
     if c <= i {
@@ -74,11 +74,11 @@ fn gathered<'a>(
     memo: &mut [u16],
 ) -> u8
     requires indexed { Indexed library.now user.now classes.library classes.all starts.now }
-    requires falls { let g : ℕ → Group = groupOf library.now user.now in Falls g }
+    requires falls { Falls (groupOf library.now user.now) }
     requires there { c < classes.all }
-    requires knows { let g : ℕ → Group = groupOf library.now user.now in Knows g c memo.old }
-    ensures markers { let g : ℕ → Group = groupOf library.now user.now in result ≡ raw g c }
-    ensures memo { let g : ℕ → Group = groupOf library.now user.now in memo.new ≡ set memo.old c (raw g c) }
+    requires knows { Knows (groupOf library.now user.now) c memo.old }
+    ensures markers { result ≡ raw (groupOf library.now user.now) c }
+    ensures memo { memo.new ≡ set memo.old c (raw (groupOf library.now user.now) c) }
 {
     let known = memo[c];
     if known < SETS {
@@ -105,10 +105,10 @@ fn interfaces<'a>(
     memo: &mut [u16],
 ) -> u8
     requires indexed { Indexed library.now user.now classes.library classes.all starts.now }
-    requires falls { let g : ℕ → Group = groupOf library.now user.now in Falls g }
+    requires falls { Falls (groupOf library.now user.now) }
     requires there { c < classes.all }
-    requires knows { let g : ℕ → Group = groupOf library.now user.now in Knows g c memo.old }
-    ensures markers { let g : ℕ → Group = groupOf library.now user.now in result ≡ withInterfaces g c mine }
+    requires knows { Knows (groupOf library.now user.now) c memo.old }
+    ensures markers { result ≡ withInterfaces (groupOf library.now user.now) c mine }
     ensures memo { memo.new ≡ memo.old }
 {
     let bytes = bytes_of(library, user, starts, classes, c);
