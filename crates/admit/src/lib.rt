@@ -2,10 +2,10 @@
 #![tactic(auto)]
 
 ghost use Rattle.std.specs.Prelude.{◌≡◌, ◌||◌, List, ℕ, ◌-◌, ◌≤◌, ltb, length, replicate};
-ghost use Rattle.spec.specs.Refusals.{scratchLength};
+ghost use Rattle.spec.specs.Refusals.{scratch_length};
 ghost use Rattle.view.specs.View.{Sits, spliced};
 ghost use Rattle.form.specs.Form.{Checks};
-ghost use Rattle.admit.specs.Admitting.{admitRefusal, Plain};
+ghost use Rattle.admit.specs.Admitting.{admit_refusal, Plain};
 
 use form::{Checked, check, plain};
 use groups::Classes;
@@ -16,7 +16,7 @@ use whole::whole_group;
 // 12: the row has fewer lines than there are user classes, or the scratch is too short.
 pub fn short(classes: Classes, lines: usize, scratch: usize) -> bool
     requires { classes.library ≤ classes.all }
-    ensures { result ≡ (ltb lines (classes.all - classes.library) || ltb scratch scratchLength) }
+    ensures { result ≡ (ltb lines (classes.all - classes.library) || ltb scratch scratch_length) }
 {
     if lines < classes.all - classes.library {
         return true;
@@ -41,7 +41,7 @@ pub fn admit<'a>(
     requires short { length library.now ≤ 32768 }
     requires rows { (length starts.old ≡ 256) × (memo.old ≡ replicate 256 65535) }
     requires plain { Plain library.now group.now new }
-    ensures { Checks (admitRefusal library.now user.now group.now new lines scratch)
+    ensures { Checks (admit_refusal library.now user.now group.now new lines scratch)
         library.now new result starts.new memo.new }
 {
     if !whole_group(group) {

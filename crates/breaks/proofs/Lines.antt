@@ -6,24 +6,24 @@ use mathlib.Core.List.{List}
 use Prim.Native.Nat.{ℕ, ◌≤◌, ◌<◌}
 use Rattle.spec.specs.Lists.{any}
 use Rattle.spec.specs.Record.{superclass}
-use Rattle.spec.specs.Sheet.{Group, classRecord}
+use Rattle.spec.specs.Sheet.{Group, class_record}
 use Rattle.spec.specs.Classes.{lineage, root}
 use Rattle.theory.proofs.Falls.{Falls}
-use Rattle.theory.proofs.Lines.{lineage-library, root-library}
-use Rattle.theory.proofs.Form.{Super, lineage-up, root-up}
-use Rattle.breaks.specs.Breaking.{lineBreaks}
-use Rattle.slots.specs.Slots.{rootBreaks, slotsBreak}
+use Rattle.theory.proofs.Lines.{lineage_library, root_library}
+use Rattle.theory.proofs.Form.{Super, lineage_up, root_up}
+use Rattle.breaks.specs.Breaking.{line_breaks}
+use Rattle.slots.specs.Slots.{root_breaks, slots_break}
 
 module _ (nlib : ℕ) (g : ℕ → Group) (f : Falls g) (rule : ℕ) {t : ℕ} where
-  pub line-library : t < nlib → rootBreaks g rule t ≡ lineBreaks nlib g rule t
-  unfolding lineBreaks lineage root any
-  line-library h =
-      sym (or-false (rootBreaks g rule t))
-      ∙ ap₂ (λ (p q : List ℕ). any (slotsBreak g rule) p || any (rootBreaks g rule) q) (sym (lineage-library nlib g f t t h)) (sym (root-library nlib g f t t h))
+  pub line_library : t < nlib → root_breaks g rule t ≡ line_breaks nlib g rule t
+  unfolding line_breaks lineage root any
+  line_library h =
+      sym (or-false (root_breaks g rule t))
+      ∙ ap₂ (λ (p q : List ℕ). any (slots_break g rule) p || any (root_breaks g rule) q) (sym (lineage_library nlib g f t t h)) (sym (root_library nlib g f t t h))
 
-  pub line-up : nlib ≤ t → Super g t → (slotsBreak g rule t || lineBreaks nlib g rule (superclass (classRecord (g t)))) ≡ lineBreaks nlib g rule t
-  unfolding lineBreaks any
-  line-up h u =
-      let up : ℕ = superclass (classRecord (g t)) in
-      sym (or_assoc (slotsBreak g rule t) (any (slotsBreak g rule) (lineage nlib g up)) (any (rootBreaks g rule) (root nlib g up)))
-      ∙ ap₂ (λ (p q : List ℕ). any (slotsBreak g rule) p || any (rootBreaks g rule) q) (sym (lineage-up nlib g f t h u)) (sym (root-up nlib g f t h u))
+  pub line_up : nlib ≤ t → Super g t → (slots_break g rule t || line_breaks nlib g rule (superclass (class_record (g t)))) ≡ line_breaks nlib g rule t
+  unfolding line_breaks any
+  line_up h u =
+      let up : ℕ = superclass (class_record (g t)) in
+      sym (or_assoc (slots_break g rule t) (any (slots_break g rule) (lineage nlib g up)) (any (root_breaks g rule) (root nlib g up)))
+      ∙ ap₂ (λ (p q : List ℕ). any (slots_break g rule) p || any (root_breaks g rule) q) (sym (lineage_up nlib g f t h u)) (sym (root_up nlib g f t h u))

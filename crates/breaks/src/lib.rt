@@ -3,14 +3,14 @@
 #![tactic(auto)]
 
 ghost use Rattle.std.specs.Prelude.{◌≡◌, not, ◌&&◌, ◌||◌, ℕ, ◌≤◌, ◌<◌, length, replicate};
-ghost use Rattle.spec.specs.Record.{u16, bit, isKind, REFERS, target, index};
-ghost use Rattle.spec.specs.Sheet.{Group, group as groupOf};
+ghost use Rattle.spec.specs.Record.{u16, bit, is_kind, REFERS, target, index};
+ghost use Rattle.spec.specs.Sheet.{Group, group as group_of};
 ghost use Rattle.spec.specs.Markers.{Token, Throwable, Enum};
-ghost use Rattle.spec.specs.Rules.{memberAllowed, staticBreaks};
+ghost use Rattle.spec.specs.Rules.{member_allowed, static_breaks};
 ghost use Rattle.groups.specs.Groups.{Indexed};
 ghost use Rattle.overlay.specs.Types.{Known};
-ghost use Rattle.records.specs.Records.{Sized, recordAt, between, AtRecord};
-ghost use Rattle.breaks.specs.Breaking.{closedBy, closedMember, partBy, Bans, NamesForbidden, Partial, FieldBreaks, Refers, Judging, AtStep, breaksAt};
+ghost use Rattle.records.specs.Records.{Sized, record_at, between, AtRecord};
+ghost use Rattle.breaks.specs.Breaking.{closed_by, closed_member, part_by, Bans, NamesForbidden, Partial, FieldBreaks, Refers, Judging, AtStep, breaks_at};
 
 use groups::{Classes, class_bytes};
 use markers::{ENUM, POWERLESS, THROWABLE, TOKEN, clash, has};
@@ -33,7 +33,7 @@ pub const FACTS: usize = 768;
 
 // 1 for a class that is not allowed, by its flags; else 0.
 fn closed(flags: u16) -> u8
-    ensures { result ≡ closedBy flags }
+    ensures { result ≡ closed_by flags }
 {
     if flags / ALLOWED % 2 == 0 {
         return 1;
@@ -45,7 +45,7 @@ fn closed(flags: u16) -> u8
 fn closed_member(bytes: &[u8], at: usize) -> bool
     requires sized { Sized bytes.now at }
     requires short { length bytes.now ≤ 32768 }
-    ensures { result ≡ closedMember (recordAt bytes.now at) }
+    ensures { result ≡ closed_member (record_at bytes.now at) }
 {
     if word_in(bytes, at + KIND_AT) != MEMBER {
         return false;
@@ -56,7 +56,7 @@ fn closed_member(bytes: &[u8], at: usize) -> bool
 // 2 for a class with such a member, else 0.
 fn part_closed(bytes: &[u8]) -> u8
     requires { AtRecord bytes.now (length bytes.now) 0 }
-    ensures { result ≡ partBy (between bytes.now 0 (length bytes.now)) }
+    ensures { result ≡ part_by (between bytes.now 0 (length bytes.now)) }
 {
     let mut at = 0;
     while at < bytes.len() {
@@ -71,7 +71,7 @@ fn part_closed(bytes: &[u8]) -> u8
 // Writes 1 for each library class that is not allowed and 2 more for one with a member that is not, so that a record is asked by a row.
 pub fn bans<'a>(library: &'a [u8], user: &'a [u8], starts: &[u16], classes: Classes, row: &mut [u8])
     ghost g: { ℕ → Group }
-    requires groups { groupOf library.now user.now ≡ g }
+    requires groups { group_of library.now user.now ≡ g }
     requires indexed { Indexed library.now user.now classes.library classes.all starts.now }
     requires row { row.old ≡ replicate 256 0 }
     ensures { Bans classes.library g row.new }
@@ -89,7 +89,7 @@ pub fn bans<'a>(library: &'a [u8], user: &'a [u8], starts: &[u16], classes: Clas
 pub fn names_forbidden(bytes: &[u8], at: usize, banned: &[u8]) -> bool
     requires sized { Sized bytes.now at }
     requires short { length bytes.now ≤ 32768 }
-    ensures { NamesForbidden banned.now (recordAt bytes.now at) result }
+    ensures { NamesForbidden banned.now (record_at bytes.now at) result }
 {
     let first = any_named(bytes, at);
     if known(banned, first) % 2 != 0 {
@@ -120,14 +120,14 @@ pub fn refers_forbidden<'a>(
     at: usize,
 ) -> bool
     ghost g: { ℕ → Group }
-    requires groups { groupOf library.now user.now ≡ g }
+    requires groups { group_of library.now user.now ≡ g }
     requires indexed { Indexed library.now user.now classes.library classes.all starts.now }
     requires sized { Sized bytes.now at }
-    requires refers { Refers classes.all g (recordAt bytes.now at) }
+    requires refers { Refers classes.all g (record_at bytes.now at) }
     requires short { length bytes.now ≤ 32768 }
     requires bans { Bans classes.library g banned.now }
-    ensures { result ≡ (isKind REFERS (recordAt bytes.now at)
-        && not (memberAllowed g (target (recordAt bytes.now at)) (index (recordAt bytes.now at)))) }
+    ensures { result ≡ (is_kind REFERS (record_at bytes.now at)
+        && not (member_allowed g (target (record_at bytes.now at)) (index (record_at bytes.now at)))) }
 {
     if word_in(bytes, at + KIND_AT) != REFERS {
         return false;
@@ -153,7 +153,7 @@ pub fn reserved(m: u8) -> bool
 pub fn static_breaks(bytes: &[u8], at: usize, markers: &[u8]) -> bool
     requires sized { Sized bytes.now at }
     requires short { length bytes.now ≤ 32768 }
-    ensures { (g : ℕ → Group) → Known g markers.now → result ≡ staticBreaks g (recordAt bytes.now at) }
+    ensures { (g : ℕ → Group) → Known g markers.now → result ≡ static_breaks g (record_at bytes.now at) }
 {
     if word_in(bytes, at + KIND_AT) != FIELD {
         return false;
@@ -181,7 +181,7 @@ pub fn lets_out(flags: u16) -> bool
 fn field_breaks(bytes: &[u8], at: usize, markers: &[u8], rule: u8) -> bool
     requires sized { Sized bytes.now at }
     requires short { (length bytes.now ≤ 32768) × (7 ≤ rule) × (rule ≤ 10) }
-    ensures { FieldBreaks markers.now rule (recordAt bytes.now at) result }
+    ensures { FieldBreaks markers.now rule (record_at bytes.now at) result }
 {
     if word_in(bytes, at + KIND_AT) != FIELD {
         return false;
@@ -214,10 +214,10 @@ pub fn breaks<'a>(
     step: Step,
 ) -> bool
     ghost g: { ℕ → Group }
-    requires groups { groupOf library.now user.now ≡ g }
+    requires groups { group_of library.now user.now ≡ g }
     requires judging { Judging library.now user.now starts.now classes facts.now lanes.now }
     requires at_step { AtStep g classes bytes.now step }
-    ensures { result ≡ breaksAt classes.library g step.rule step.class step.asked step.number (recordAt bytes.now step.at) }
+    ensures { result ≡ breaks_at classes.library g step.rule step.class step.asked step.number (record_at bytes.now step.at) }
 {
     let rule = step.rule;
     let at = step.at;

@@ -2,12 +2,12 @@
 -- Assumes nothing.
 use Rattle.std.specs.Prelude.{◌≡◌, false, ◌⊎◌, ℕ, ◌+◌, ◌*◌, ◌≤◌, ◌<◌, T, length, get_or}
 use mathlib.Core.List.{List, [], Memᴰ}
-use Rattle.spec.specs.Record.{bit, isKind, LOCAL, USES, target, index, localTy}
-use Rattle.spec.specs.Sheet.{Group, ofKind}
+use Rattle.spec.specs.Record.{bit, is_kind, LOCAL, USES, target, index, local_ty}
+use Rattle.spec.specs.Sheet.{Group, of_kind}
 use Rattle.spec.specs.Classes.{satisfies}
 use Rattle.lanes.specs.Lanes.{Nested}
-use Rattle.reach.specs.Reach.{outerOf}
-use Rattle.captured.specs.Captured.{laneMarker}
+use Rattle.reach.specs.Reach.{outer_of}
+use Rattle.captured.specs.Captured.{lane_marker}
 
 -- Each entry of the row is kept or lowered to an owner that Q allows it, and stands above none that Q allows it.
 pub record Lowering (Q : ℕ → ℕ → Type 0) (before after : List ℕ) : Type 0 where
@@ -20,7 +20,7 @@ pub record Lowering (Q : ℕ → ℕ → Type 0) (before after : List ℕ) : Typ
 
 -- entry i is that of class m in lane k, x is d, and the lane's marker is lacking
 pub record InLane (markers k m d i x : ℕ) : Type 0 where
-  pub lacking : bit (laneMarker k) markers ≡ false
+  pub lacking : bit (lane_marker k) markers ≡ false
   pub entry : i ≡ k * 256 + m
   pub owner : x ≡ d
 
@@ -37,17 +37,17 @@ pub record InLanes (marks : List ℕ) (markers lanes m d i x : ℕ) : Type 0 whe
 pub record Wanted (g : ℕ → Group) (k m : ℕ) (rs : Group) (d : ℕ) : Type 0 where
   pub bytes : List ℕ
   pub member : Memᴰ bytes rs
-  pub uses : T (isKind USES bytes)
+  pub uses : T (is_kind USES bytes)
   pub owner : target bytes ≡ d
-  pub lacking : satisfies g k (localTy (get_or (ofKind LOCAL (g d)) (index bytes) [])) ≡ false
-  pub within : Nested (outerOf g) d m
+  pub lacking : satisfies g k (local_ty (get_or (of_kind LOCAL (g d)) (index bytes) [])) ≡ false
+  pub within : Nested (outer_of g) d m
 
 -- entry i is that of class m in one of three lanes, and x is an owner that its records make it want
 pub record ByRecords (g : ℕ → Group) (m : ℕ) (rs : Group) (i x : ℕ) : Type 0 where
   pub lane : ℕ
   pub below : lane < 3
   pub entry : i ≡ lane * 256 + m
-  pub wanted : Wanted g (laneMarker lane) m rs x
+  pub wanted : Wanted g (lane_marker lane) m rs x
 
 -- so for one of the first n classes
 pub record ByClasses (g : ℕ → Group) (n i x : ℕ) : Type 0 where

@@ -3,13 +3,13 @@
 
 ghost use Rattle.std.specs.Prelude.{◌≡◌, [], ℕ, ◌^◌, ◌≤◌, ◌<◌, ltb, length, get_or};
 ghost use Rattle.std.proofs.Math.Option.{none};
-ghost use Rattle.spec.specs.Record.{LOCAL, localTy};
-ghost use Rattle.spec.specs.Sheet.{Group, group as groupOf, ofKind};
-ghost use Rattle.spec.specs.Refusals.{formRefusal};
+ghost use Rattle.spec.specs.Record.{LOCAL, local_ty};
+ghost use Rattle.spec.specs.Sheet.{Group, group as group_of, of_kind};
+ghost use Rattle.spec.specs.Refusals.{form_refusal};
 ghost use Rattle.groups.specs.Groups.{Indexed};
-ghost use Rattle.lanes.specs.Lanes.{entryAt};
-ghost use Rattle.overlay.specs.Types.{Known, typeMarkers};
-ghost use Rattle.captured.specs.Captured.{laneMarker, Captured};
+ghost use Rattle.lanes.specs.Lanes.{entry_at};
+ghost use Rattle.overlay.specs.Types.{Known, type_markers};
+ghost use Rattle.captured.specs.Captured.{lane_marker, Captured};
 ghost use Rattle.captured.specs.Seeds.{Lowering, InLane, InLanes, ByRecords, ByClasses};
 ghost use Rattle.records.specs.Records.{Carries};
 
@@ -29,7 +29,7 @@ const OWNERS: usize = LANES * LANE;
 
 // The marker of lane k, as a set of its own.
 fn lane_set(k: usize) -> u8
-    ensures { (result ≡ 2 ^ laneMarker k) × (0 < result) }
+    ensures { (result ≡ 2 ^ lane_marker k) × (0 < result) }
 {
     if k == 0 {
         return IMMUTABLE;
@@ -51,11 +51,11 @@ fn variable_markers<'a>(
     i: usize,
 ) -> u8
     ghost g: { ℕ → Group }
-    requires groups { groupOf library.now user.now ≡ g }
+    requires groups { group_of library.now user.now ≡ g }
     requires indexed { Indexed library.now user.now classes.library classes.all starts.now }
     requires known { Known g markers.now }
-    requires there { (d < classes.all) × (i < length (ofKind LOCAL (g d))) }
-    ensures { result ≡ typeMarkers g (localTy (get_or (ofKind LOCAL (g d)) i [])) }
+    requires there { (d < classes.all) × (i < length (of_kind LOCAL (g d))) }
+    ensures { result ≡ type_markers g (local_ty (get_or (of_kind LOCAL (g d)) i [])) }
 {
     let bytes = class_bytes(library, user, starts, classes, d);
     let at = nth_in(bytes, LOCAL, i);
@@ -103,9 +103,9 @@ fn seed_records<'a>(
     row: &mut [u8],
 )
     ghost g: { ℕ → Group }
-    requires groups { groupOf library.now user.now ≡ g }
+    requires groups { group_of library.now user.now ≡ g }
     requires indexed { Indexed library.now user.now classes.library classes.all starts.now }
-    requires accepted { formRefusal library.now user.now ≡ none }
+    requires accepted { form_refusal library.now user.now ≡ none }
     requires known { Known g markers.now }
     requires carries { Carries bytes.now (g m) }
     requires there { (m < classes.all) × (768 ≤ length row.old) }
@@ -137,9 +137,9 @@ fn seed_class<'a>(
     row: &mut [u8],
 )
     ghost g: { ℕ → Group }
-    requires groups { groupOf library.now user.now ≡ g }
+    requires groups { group_of library.now user.now ≡ g }
     requires indexed { Indexed library.now user.now classes.library classes.all starts.now }
-    requires accepted { formRefusal library.now user.now ≡ none }
+    requires accepted { form_refusal library.now user.now ≡ none }
     requires known { Known g markers.now }
     requires there { (m < classes.all) × (768 ≤ length row.old) }
     ensures { Lowering (ByRecords g m (g m)) row.old row.new }
@@ -161,9 +161,9 @@ fn seed<'a>(
     row: &mut [u8],
 )
     ghost g: { ℕ → Group }
-    requires groups { groupOf library.now user.now ≡ g }
+    requires groups { group_of library.now user.now ≡ g }
     requires indexed { Indexed library.now user.now classes.library classes.all starts.now }
-    requires accepted { formRefusal library.now user.now ≡ none }
+    requires accepted { form_refusal library.now user.now ≡ none }
     requires known { Known g markers.now }
     requires long { 768 ≤ length row.old }
     ensures { Lowering (ByClasses g classes.all) row.old row.new }
@@ -185,9 +185,9 @@ pub fn captures<'a>(
     row: &mut [u8],
 )
     ghost g: { ℕ → Group }
-    requires groups { groupOf library.now user.now ≡ g }
+    requires groups { group_of library.now user.now ≡ g }
     requires indexed { Indexed library.now user.now classes.library classes.all starts.now }
-    requires accepted { formRefusal library.now user.now ≡ none }
+    requires accepted { form_refusal library.now user.now ≡ none }
     requires known { Known g markers.now }
     requires long { 768 ≤ length row.old }
     ensures { Captured g classes.all row.old row.new }
@@ -200,7 +200,7 @@ pub fn captures<'a>(
 // Whether class l has an owner in lane k.
 pub fn lacking(row: &[u8], k: usize, l: usize) -> bool
     requires { (k < 3) × (l < 256) }
-    ensures { result ≡ ltb (entryAt row.now k l) 255 }
+    ensures { result ≡ ltb (entry_at row.now k l) 255 }
 {
     entry(row, k * LANE + l) < NO_OWNER
 }

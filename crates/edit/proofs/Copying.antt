@@ -11,14 +11,14 @@ use lib.Seq.{paste, take-add, paste-suc, drop-paste, length_paste_head, length-t
 -- ---- what stands before and after the bytes put in
 
 module _ (d : List ℕ) (at : ℕ) (s : List ℕ) (n : ℕ) (room : at + n ≤ length d) (long : n ≤ length s) where
-  paste-before : (k : ℕ) → k < at → get_or (paste d at s n) k 0 ≡ get_or d k 0
-  paste-before k h =
+  paste_before : (k : ℕ) → k < at → get_or (paste d at s n) k 0 ≡ get_or d k 0
+  paste_before k h =
       let a = length_paste_head d at s n (omega arith) long in
       let b = length-take-le at d (omega arith) in
       get_or-append (take at d ++ take n s) (drop (at + n) d) 0 k (omega arith) ∙ get_or-append (take at d) (take n s) 0 k (omega arith) ∙ get_or-take at d k 0 h
 
-  paste-after : (k : ℕ) → at + n ≤ k → get_or (paste d at s n) k 0 ≡ get_or d k 0
-  paste-after k h =
+  paste_after : (k : ℕ) → at + n ≤ k → get_or (paste d at s n) k 0 ≡ get_or d k 0
+  paste_after k h =
       let e : at + n + (k - (at + n)) ≡ k = omega arith in
       ap (λ (j : ℕ). get_or (paste d at s n) j 0) (sym e)
       ∙ sym (get_or-drop (at + n) (paste d at s n) (k - (at + n)) 0)
@@ -36,11 +36,11 @@ pub record Copied (d : List ℕ) (at : ℕ) (s : List ℕ) (n : ℕ) (b : List �
   pub now : b ≡ paste d at s i
 
 module _ {d : List ℕ} {at : ℕ} {s : List ℕ} {n : ℕ} {b : List ℕ} {i : ℕ} (c : Copied d at s n b i) where
-  pub copy-ahead : (k : ℕ) → at + i ≤ k → get_or b k 0 ≡ get_or d k 0
-  copy-ahead k h = ap (λ (l : List ℕ). get_or l k 0) c.now ∙ paste-after d at s i (omega arith) (omega arith) k h
+  pub copy_ahead : (k : ℕ) → at + i ≤ k → get_or b k 0 ≡ get_or d k 0
+  copy_ahead k h = ap (λ (l : List ℕ). get_or l k 0) c.now ∙ paste_after d at s i (omega arith) (omega arith) k h
 
-  pub copy-next : i < n → {p v j : ℕ} → p ≡ at + i → v ≡ get_or s i 0 → j ≡ i + 1 → Copied d at s n (set b p v) j
-  copy-next h ep ev ej = rw (ep, ev, ej) (record {
+  pub copy_next : i < n → {p v j : ℕ} → p ≡ at + i → v ≡ get_or s i 0 → j ≡ i + 1 → Copied d at s n (set b p v) j
+  copy_next h ep ev ej = rw (ep, ev, ej) (record {
     room = c.room;
     long = c.long;
     few = omega arith;
@@ -57,9 +57,9 @@ pub record Backed (d : List ℕ) (at : ℕ) (s : List ℕ) (n : ℕ) (b : List �
   pub now : b ≡ paste d (at + i) (drop i s) (n - i)
 
 -- one more byte in front
-paste-front : (d : List ℕ) (m : ℕ) (s : List ℕ) (j n : ℕ) → m < length d → j < length s → j < n
+paste_front : (d : List ℕ) (m : ℕ) (s : List ℕ) (j n : ℕ) → m < length d → j < length s → j < n
     → set (paste d (suc m) (drop (suc j) s) (n - suc j)) m (get_or s j 0) ≡ paste d m (drop j s) (n - j)
-paste-front d m s j n hd hs h =
+paste_front d m s j n hd hs h =
     let ys : List ℕ = take (n - suc j) (drop (suc j) s) in
     let e : n - j ≡ suc (n - suc j) = omega arith in
     let k : suc m + (n - suc j) ≡ m + (n - j) = omega arith in
@@ -71,23 +71,23 @@ paste-front d m s j n hd hs h =
     ∙ ap₂ (λ (x y : List ℕ). (take m d ++ x) ++ y) (sym (ap₂ (λ (a : ℕ) (l : List ℕ). take a l) e (drop-cons s j 0 hs))) (ap (λ (a : ℕ). drop a d) k)
 
 module _ {d : List ℕ} {at : ℕ} {s : List ℕ} {n : ℕ} {b : List ℕ} {i : ℕ} (c : Backed d at s n b i) where
-  rest-long : n - i ≤ length (drop i s)
-  rest-long = omega (arith, length-drop i s)
+  rest_long : n - i ≤ length (drop i s)
+  rest_long = omega (arith, length-drop i s)
 
-  pub back-ahead : (k : ℕ) → k < at + i → get_or b k 0 ≡ get_or d k 0
-  back-ahead k h = ap (λ (l : List ℕ). get_or l k 0) c.now ∙ paste-before d (at + i) (drop i s) (n - i) (omega arith) rest-long k h
+  pub back_ahead : (k : ℕ) → k < at + i → get_or b k 0 ≡ get_or d k 0
+  back_ahead k h = ap (λ (l : List ℕ). get_or l k 0) c.now ∙ paste_before d (at + i) (drop i s) (n - i) (omega arith) rest_long k h
 
-  pub back-next : {p v j : ℕ} → i ≡ suc j → p ≡ at + j → v ≡ get_or s j 0 → Backed d at s n (set b p v) j
-  back-next {p} {v} {j} ei ep ev = rw (ep, ev) (record {
+  pub back_next : {p v j : ℕ} → i ≡ suc j → p ≡ at + j → v ≡ get_or s j 0 → Backed d at s n (set b p v) j
+  back_next {p} {v} {j} ei ep ev = rw (ep, ev) (record {
     room = c.room;
     long = c.long;
     few = omega arith;
     now =
         let m : at + suc j ≡ suc (at + j) = omega arith in
         ap (λ (l : List ℕ). set l (at + j) (get_or s j 0)) (c.now ∙ ap (λ (x : ℕ). paste d (at + x) (drop x s) (n - x)) ei ∙ ap (λ (x : ℕ). paste d x (drop (suc j) s) (n - suc j)) m)
-        ∙ paste-front d (at + j) s j n (omega arith) (omega arith) (omega arith);
+        ∙ paste_front d (at + j) s j n (omega arith) (omega arith) (omega arith);
   })
 
 -- bytes that stay where they are
-pub paste-same : (d : List ℕ) {from to : ℕ} → from ≡ to → (n : ℕ) → d ≡ paste d to (drop from d) n
-paste-same d {from} {to} e n = sym (ap (λ (k : ℕ). paste d to (drop k d) n) e ∙ ap (λ (l : List ℕ). l ++ drop (to + n) d) (sym (take-add to n d)) ∙ take-append-drop (to + n) d)
+pub paste_same : (d : List ℕ) {from to : ℕ} → from ≡ to → (n : ℕ) → d ≡ paste d to (drop from d) n
+paste_same d {from} {to} e n = sym (ap (λ (k : ℕ). paste d to (drop k d) n) e ∙ ap (λ (l : List ℕ). l ++ drop (to + n) d) (sym (take-add to n d)) ∙ take-append-drop (to + n) d)

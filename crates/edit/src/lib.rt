@@ -3,7 +3,7 @@
 
 ghost use Rattle.std.specs.Prelude.{◌≡◌, ◌+◌, ◌-◌, ◌≤◌, length, drop, replicate};
 ghost use Rattle.std.proofs.Math.Seq.{paste};
-ghost use Rattle.spec.specs.Promises.{bufferWith};
+ghost use Rattle.spec.specs.Promises.{buffer_with};
 ghost use Rattle.view.specs.View.{Fits, spliced};
 
 use view::Cut;
@@ -75,7 +75,7 @@ pub fn clear(buffer: &mut [u8], from: usize, to: usize)
 pub fn write(user: &mut [u8], group: &[u8], cut: Cut)
     requires fits { Fits cut user.old group.now }
     requires room { length (spliced user.old group.now cut) ≤ length user.old }
-    ensures { user.new ≡ bufferWith (spliced user.old group.now cut) user.old cut.used }
+    ensures { user.new ≡ buffer_with (spliced user.old group.now cut) user.old cut.used }
 {
     let later = cut.from + group.len();
     let rest = cut.used - cut.to;

@@ -11,14 +11,14 @@ use lib.ListN.{length, get_or, take, drop}
 use lib.Seq.{drop-cons}
 use borrow.Author.Tests.{eq-eqb, ne_eqb}
 use Rattle.spec.specs.Lists.{any, elem}
-use Rattle.spec.specs.Record.{className}
-use Rattle.spec.specs.Sheet.{Group, classRecord}
-use Rattle.fingerprints.specs.Fingerprints.{printOf}
+use Rattle.spec.specs.Record.{class_name}
+use Rattle.spec.specs.Sheet.{Group, class_record}
+use Rattle.fingerprints.specs.Fingerprints.{print_of}
 
 -- ---- filled
 
-abbrev pub printAt : (ℕ → Group) → ℕ → ℕ
-printAt g d = printOf (className (classRecord (g d)))
+abbrev pub print_at : (ℕ → Group) → ℕ → ℕ
+print_at g d = print_of (class_name (class_record (g d)))
 
 -- ---- searched
 
@@ -29,9 +29,9 @@ pub record Meeting (row : List ℕ) (c print : ℕ) (found : Bool) (i : ℕ) : T
   pub rest : (elem print (take (c - i) (drop i row)) || found) ≡ elem print (take c row)
 
 module _ {row : List ℕ} {c print : ℕ} {found : Bool} {i : ℕ} (w : Meeting row c print found i) where
-  pub meet-end : c ≤ i → found ≡ elem print (take c row)
+  pub meet_end : c ≤ i → found ≡ elem print (take c row)
   unfolding elem any
-  meet-end h = let e : c - i ≡ 0 = omega arith in rw e at w.rest
+  meet_end h = let e : c - i ≡ 0 = omega arith in rw e at w.rest
 
   module _ (h : i < c) where
     here : ((eqb print (get_or row i 0) || elem print (take (c - (i + 1)) (drop (i + 1) row))) || found) ≡ elem print (take c row)

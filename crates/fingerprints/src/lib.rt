@@ -3,18 +3,18 @@
 
 ghost use Rattle.std.specs.Prelude.{◌≡◌, ℕ, ◌≤◌, ◌<◌, length, take, drop};
 ghost use Rattle.spec.specs.Lists.{elem};
-ghost use Rattle.spec.specs.Record.{className};
-ghost use Rattle.spec.specs.Sheet.{Group, group as groupOf, classRecord};
+ghost use Rattle.spec.specs.Record.{class_name};
+ghost use Rattle.spec.specs.Sheet.{Group, group as group_of, class_record};
 ghost use Rattle.view.specs.View.{spliced, Views};
-ghost use Rattle.records.specs.Records.{recordAt};
-ghost use Rattle.fingerprints.specs.Fingerprints.{printWith, printOf, Opens, Printed};
+ghost use Rattle.records.specs.Records.{record_at};
+ghost use Rattle.fingerprints.specs.Fingerprints.{print_with, print_of, Opens, Printed};
 
 use records::{NAME_AT, wide, word_in};
 use view::{View, view_bytes};
 
 // The fingerprint after one byte more.
 fn print_with(print: u16, byte: u8) -> u16
-    ensures { result ≡ printWith print byte }
+    ensures { result ≡ print_with print byte }
 {
     ((31 * (print as u32) + (byte as u32)) % 65536) as u16
 }
@@ -22,7 +22,7 @@ fn print_with(print: u16, byte: u8) -> u16
 // The fingerprint of the name in the CLASS record that comes first.
 fn print_in(bytes: &[u8]) -> u16
     requires { Opens bytes.now }
-    ensures { result ≡ printOf (className (recordAt bytes.now 0)) }
+    ensures { result ≡ print_of (class_name (record_at bytes.now 0)) }
 {
     let len = wide(word_in(bytes, 0));
     let mut print = 0;
@@ -44,10 +44,10 @@ fn class_print<'a>(
     c: usize,
 ) -> u16
     ghost g: { ℕ → Group }
-    requires groups { groupOf library.now (spliced user.now group.now view.cut) ≡ g }
+    requires groups { group_of library.now (spliced user.now group.now view.cut) ≡ g }
     requires views { Views view library.now user.now group.now starts.now }
     requires there { c < view.classes.all }
-    ensures { result ≡ printOf (className (classRecord (g c))) }
+    ensures { result ≡ print_of (class_name (class_record (g c))) }
 {
     print_in(view_bytes(library, user, group, starts, view, c))
 }
@@ -62,7 +62,7 @@ pub fn prints<'a>(
     row: &mut [u16],
 )
     ghost g: { ℕ → Group }
-    requires groups { groupOf library.now (spliced user.now group.now view.cut) ≡ g }
+    requires groups { group_of library.now (spliced user.now group.now view.cut) ≡ g }
     requires views { Views view library.now user.now group.now starts.now }
     requires long { view.classes.all ≤ length row.old }
     ensures first { Printed g view.classes.all row.new }

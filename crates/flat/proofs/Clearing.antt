@@ -7,17 +7,17 @@ use native.Mathlib.Omega.{arith}
 use lib.ListN.{drop, replicate, length-drop}
 use lib.Seq.{get_or-drop, ext_get_or}
 use Rattle.spec.specs.Sheet.{Group}
-use Rattle.spec.specs.Refusals.{scratchLength}
+use Rattle.spec.specs.Refusals.{scratch_length}
 use Rattle.spec.specs.Promises.{cleared}
 use Rattle.captured.specs.Captured.{Captured}
 
 -- the search left the bytes past the cleared ones
-pub clear-is : {g : ℕ → Group} {n : ℕ} {before after end : List ℕ} → Captured g n before after
-    → end ≡ replicate scratchLength 0 ++ drop scratchLength after → end ≡ cleared before
+pub clear_is : {g : ℕ → Group} {n : ℕ} {before after end : List ℕ} → Captured g n before after
+    → end ≡ replicate scratch_length 0 ++ drop scratch_length after → end ≡ cleared before
 unfolding cleared
-clear-is {before = before} {after} c e =
+clear_is {before = before} {after} c e =
     e
-    ∙ ap (λ (l : List ℕ). replicate scratchLength 0 ++ l)
-    (ext_get_or 255 (drop scratchLength after) (drop scratchLength before)
-    (length-drop scratchLength after ∙ omega (arith, c.long, length-drop scratchLength before))
-    (λ i h. get_or-drop scratchLength after i 255 ∙ c.past (scratchLength + i) (omega arith) ∙ sym (get_or-drop scratchLength before i 255)))
+    ∙ ap (λ (l : List ℕ). replicate scratch_length 0 ++ l)
+    (ext_get_or 255 (drop scratch_length after) (drop scratch_length before)
+    (length-drop scratch_length after ∙ omega (arith, c.long, length-drop scratch_length before))
+    (λ i h. get_or-drop scratch_length after i 255 ∙ c.past (scratch_length + i) (omega arith) ∙ sym (get_or-drop scratch_length before i 255)))

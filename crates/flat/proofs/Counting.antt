@@ -10,22 +10,22 @@ use lib.Dec.{eqb}
 use lib.ListN.{length, get_or}
 use borrow.Author.Tests.{eq-eqb, ne_eqb}
 use Rattle.spec.specs.Lists.{count, span}
-use Rattle.spec.specs.Verdicts.{verdictBytes, flatLines, flatAt}
-use Rattle.laws.proofs.Count.{step, count_none, count-more}
-use Rattle.flat.specs.Row.{faultedIn, markedIn}
+use Rattle.spec.specs.Verdicts.{verdict_bytes, flat_lines, flat_at}
+use Rattle.laws.proofs.Count.{step, count_none, count_more}
+use Rattle.flat.specs.Row.{faulted_in, marked_in}
 
 module _ (row : List ℕ) (n : ℕ) where
-  pub lines-few : n < length row / verdictBytes → n ≡ min n (flatLines row)
-  unfolding flatLines
-  lines-few h = omega arith
+  pub lines_few : n < length row / verdict_bytes → n ≡ min n (flat_lines row)
+  unfolding flat_lines
+  lines_few h = omega arith
 
-  pub lines-all : length row / verdictBytes ≤ n → length row / verdictBytes ≡ min n (flatLines row)
-  unfolding flatLines
-  lines-all h = omega arith
+  pub lines_all : length row / verdict_bytes ≤ n → length row / verdict_bytes ≡ min n (flat_lines row)
+  unfolding flat_lines
+  lines_all h = omega arith
 
-  pub lines-room : {end : ℕ} → end ≡ min n (flatLines row) → verdictBytes * end ≤ length row
-  unfolding flatLines
-  lines-room e = omega arith
+  pub lines_room : {end : ℕ} → end ≡ min n (flat_lines row) → verdict_bytes * end ≤ length row
+  unfolding flat_lines
+  lines_room e = omega arith
 
 -- ---- a count along the numbers below `end`
 
@@ -34,12 +34,12 @@ pub record CountAt (p : ℕ → Bool) (end i m : ℕ) : Type 0 where
   pub few : m ≤ i
   pub now : m ≡ count p (span 0 i)
 
-pub count-start : (p : ℕ → Bool) (end : ℕ) → CountAt p end 0 0
-count-start p end = record { most = omega arith; few = omega arith; now = sym (count_none p) }
+pub count_start : (p : ℕ → Bool) (end : ℕ) → CountAt p end 0 0
+count_start p end = record { most = omega arith; few = omega arith; now = sym (count_none p) }
 
 module _ {p : ℕ → Bool} {end i m : ℕ} (f : CountAt p end i m) (h : i < end) where
   more : (b : Bool) → p i ≡ b → count p (span 0 (i + 1)) ≡ step b (count p (span 0 i))
-  more b e = ap (λ (k : ℕ). count p (span 0 k)) (add-one i) ∙ count-more p i ∙ ap (λ (x : Bool). step x (count p (span 0 i))) e
+  more b e = ap (λ (k : ℕ). count p (span 0 k)) (add-one i) ∙ count_more p i ∙ ap (λ (x : Bool). step x (count p (span 0 i))) e
 
   pub count_no : {m' : ℕ} → p i ≡ false → m' ≡ m → CountAt p end (i + 1) m'
   count_no e q = record { most = omega arith; few = omega (arith, f.few); now = q ∙ f.now ∙ sym (more false e) }
@@ -47,30 +47,30 @@ module _ {p : ℕ → Bool} {end i m : ℕ} (f : CountAt p end i m) (h : i < end
   pub count_yes : {m' : ℕ} → p i ≡ true → m' ≡ m + 1 → CountAt p end (i + 1) m'
   count_yes e q = record { most = omega arith; few = omega (arith, f.few); now = q ∙ add-one m ∙ ap suc f.now ∙ sym (more true e) }
 
-pub count-end : {p : ℕ → Bool} {end i m : ℕ} → CountAt p end i m → end ≤ i → m ≡ count p (span 0 end)
-count-end {p} f h = f.now ∙ ap (λ (k : ℕ). count p (span 0 k)) (omega (arith, f.most))
+pub count_end : {p : ℕ → Bool} {end i m : ℕ} → CountAt p end i m → end ≤ i → m ≡ count p (span 0 end)
+count_end {p} f h = f.now ∙ ap (λ (k : ℕ). count p (span 0 k)) (omega (arith, f.most))
 
 -- ---- what is counted
 
-abbrev pub faultedAt : List ℕ → ℕ → Bool
-faultedAt row i = not (eqb (flatAt row i).rule 0)
+abbrev pub faulted_at : List ℕ → ℕ → Bool
+faulted_at row i = not (eqb (flat_at row i).rule 0)
 
 module _ (row : List ℕ) (i : ℕ) where
-  pub rule-clean : {x : ℕ} → x ≡ get_or row (verdictBytes * i) 0 → x ≡ 0 → faultedAt row i ≡ false
-  unfolding flatAt
-  rule-clean e z = rw (eq-eqb (get_or row (verdictBytes * i) 0) 0 (sym e ∙ z))
+  pub rule_clean : {x : ℕ} → x ≡ get_or row (verdict_bytes * i) 0 → x ≡ 0 → faulted_at row i ≡ false
+  unfolding flat_at
+  rule_clean e z = rw (eq-eqb (get_or row (verdict_bytes * i) 0) 0 (sym e ∙ z))
 
-  pub rule-broken : {x : ℕ} → x ≡ get_or row (verdictBytes * i) 0 → (x ≡ 0 → ⊥) → faultedAt row i ≡ true
-  unfolding flatAt
-  rule-broken e z = rw (ne_eqb (get_or row (verdictBytes * i) 0) 0 (λ w. z (e ∙ w)))
+  pub rule_broken : {x : ℕ} → x ≡ get_or row (verdict_bytes * i) 0 → (x ≡ 0 → ⊥) → faulted_at row i ≡ true
+  unfolding flat_at
+  rule_broken e z = rw (ne_eqb (get_or row (verdict_bytes * i) 0) 0 (λ w. z (e ∙ w)))
 
-pub faulted-is : (row : List ℕ) {end k m : ℕ} → m ≡ count (faultedAt row) (span 0 end) → end ≡ k → m ≡ faultedIn row k
-unfolding faultedIn
-faulted-is row e q = e ∙ ap (λ (k : ℕ). count (faultedAt row) (span 0 k)) q
+pub faulted_is : (row : List ℕ) {end k m : ℕ} → m ≡ count (faulted_at row) (span 0 end) → end ≡ k → m ≡ faulted_in row k
+unfolding faulted_in
+faulted_is row e q = e ∙ ap (λ (k : ℕ). count (faulted_at row) (span 0 k)) q
 
-abbrev pub markedAt : List ℕ → ℕ → Bool
-markedAt marks c = eqb (get_or marks c 0) 0
+abbrev pub marked_at : List ℕ → ℕ → Bool
+marked_at marks c = eqb (get_or marks c 0) 0
 
-pub marked-is : (marks : List ℕ) (n : ℕ) {m : ℕ} → m ≡ count (markedAt marks) (span 0 n) → m ≡ markedIn marks n
-unfolding markedIn
-marked-is marks n e = e
+pub marked_is : (marks : List ℕ) (n : ℕ) {m : ℕ} → m ≡ count (marked_at marks) (span 0 n) → m ≡ marked_in marks n
+unfolding marked_in
+marked_is marks n e = e

@@ -16,11 +16,11 @@ module _ (first facts : List ℕ) (lf : length first ≡ 256) where
   abbrev one : List ℕ
   one = first ++ post_of 0 256 facts
 
-  one-long : length facts ≡ 768 → length one ≡ 768
-  one-long l = simp (length-append, length-drop) (omega arith)
+  one_long : length facts ≡ 768 → length one ≡ 768
+  one_long l = simp (length-append, length-drop) (omega arith)
 
-  pub zeros-left : facts ≡ replicate 768 0 → take 256 (drop 256 one) ≡ replicate 256 0
-  zeros-left z = ap (take 256) (drop_at first (drop 256 facts) 256 lf) ∙ ap (λ (xs : List ℕ). take 256 (drop 256 xs)) z
+  pub zeros_left : facts ≡ replicate 768 0 → take 256 (drop 256 one) ≡ replicate 256 0
+  zeros_left z = ap (take 256) (drop_at first (drop 256 facts) 256 lf) ∙ ap (λ (xs : List ℕ). take 256 (drop 256 xs)) z
 
   -- after the second
   module _ (second : List ℕ) (ls : length second ≡ 256) where
@@ -33,17 +33,17 @@ module _ (first facts : List ℕ) (lf : length first ≡ 256) where
     front_long : length (take 256 one) ≡ 256
     front_long = ap length front ∙ lf
 
-    two-first : take 256 two ≡ first
-    two-first = take_at (take 256 one) (second ++ post_of 256 256 one) 256 front_long ∙ front
+    two_first : take 256 two ≡ first
+    two_first = take_at (take 256 one) (second ++ post_of 256 256 one) 256 front_long ∙ front
 
-    two-second : take 256 (drop 256 two) ≡ second
-    two-second = ap (take 256) (drop_at (take 256 one) (second ++ post_of 256 256 one) 256 front_long) ∙ take_at second (post_of 256 256 one) 256 ls
+    two_second : take 256 (drop 256 two) ≡ second
+    two_second = ap (take 256) (drop_at (take 256 one) (second ++ post_of 256 256 one) 256 front_long) ∙ take_at second (post_of 256 256 one) 256 ls
 
-    two-long : length facts ≡ 768 → length two ≡ 768
-    two-long l = let o = one-long l in simp (length-append, length-drop, front_long) (omega arith)
+    two_long : length facts ≡ 768 → length two ≡ 768
+    two_long l = let o = one_long l in simp (length-append, length-drop, front_long) (omega arith)
 
     two_facts : length facts ≡ 768 → {nlib : ℕ} {g : ℕ → Group} → Known g first → Bans nlib g second → Facts nlib g two
-    two_facts l known bans = record { long = two-long l; known = rw two-first known; bans = rw two-second bans }
+    two_facts l known bans = record { long = two_long l; known = rw two_first known; bans = rw two_second bans }
 
 -- both parts, put into a row of zeros
 pub learnt : {first facts second : List ℕ} → facts ≡ replicate 768 0 → {nlib : ℕ} {g : ℕ → Group} → Known g first → Bans nlib g second

@@ -10,15 +10,15 @@ use lib.Dec.{eqb, ltb, ltb→lt, nltb→le}
 use lib.ListN.{get_or}
 use borrow.Author.Tests.{ne_eqb, lt-ltb, le-ltb}
 use Rattle.spec.specs.Rules.{Verdict}
-use Rattle.spec.specs.Verdicts.{flatLines, flatRewritten}
-use Rattle.laws.proofs.Bools.{false-t, true-t}
-use Rattle.theory.proofs.FlatRow.{rewritten-lines, rewritten-none, rewritten-same, rewritten-more}
-use Rattle.flat.specs.Row.{putAt, chosen}
+use Rattle.spec.specs.Verdicts.{flat_lines, flat_rewritten}
+use Rattle.laws.proofs.Bools.{false_t, true_t}
+use Rattle.theory.proofs.FlatRow.{rewritten_lines, rewritten_none, rewritten_same, rewritten_more}
+use Rattle.flat.specs.Row.{put_at, chosen}
 
 pub record Rewriting (nlib n : ℕ) (v : ℕ → Verdict) (marks before row : List ℕ) (c : ℕ) : Type 0 where
   pub low : nlib ≤ c
   pub high : c ≤ n
-  pub now : row ≡ flatRewritten (chosen nlib c marks) v before
+  pub now : row ≡ flat_rewritten (chosen nlib c marks) v before
 
 -- ---- which classes are chosen
 
@@ -32,8 +32,8 @@ unfolding chosen
 others nlib c marks i h = ap (λ (b : Bool). b && eqb (get_or marks (nlib + i) 0) 0) (at (ltb (nlib + i) c) refl)
   where
     at : (b : Bool) → ltb (nlib + i) c ≡ b → ltb (nlib + i) c ≡ ltb (nlib + i) (c + 1)
-    at true e = let l : nlib + i < c = ltb→lt (nlib + i) c (true-t e) in e ∙ sym (lt-ltb (nlib + i) (c + 1) (omega arith))
-    at false e = let l : c ≤ nlib + i = nltb→le (nlib + i) c (false-t e) in e ∙ sym (le-ltb (nlib + i) (c + 1) (omega arith))
+    at true e = let l : nlib + i < c = ltb→lt (nlib + i) c (true_t e) in e ∙ sym (lt-ltb (nlib + i) (c + 1) (omega arith))
+    at false e = let l : c ≤ nlib + i = nltb→le (nlib + i) c (false_t e) in e ∙ sym (le-ltb (nlib + i) (c + 1) (omega arith))
 
 here : (nlib c : ℕ) (marks : List ℕ) (i : ℕ) → nlib + i ≡ c → get_or marks c 0 ≡ 0 → chosen nlib (c + 1) marks i ≡ true
 unfolding chosen
@@ -52,33 +52,33 @@ kept nlib c marks i h = go (ℕ_discrete (nlib + i) c)
 
 -- ---- the loop
 
-pub rewrite-start : (nlib n : ℕ) (v : ℕ → Verdict) (marks row : List ℕ) → nlib ≤ n → Rewriting nlib n v marks row row nlib
-rewrite-start nlib n v marks row h = record { low = omega arith; high = h; now = rewritten-none v row (chosen nlib nlib marks) (λ i. false-t (unmarked nlib nlib marks i (omega arith))) }
+pub rewrite_start : (nlib n : ℕ) (v : ℕ → Verdict) (marks row : List ℕ) → nlib ≤ n → Rewriting nlib n v marks row row nlib
+rewrite_start nlib n v marks row h = record { low = omega arith; high = h; now = rewritten_none v row (chosen nlib nlib marks) (λ i. false_t (unmarked nlib nlib marks i (omega arith))) }
 
 module _ {nlib n : ℕ} {v : ℕ → Verdict} {marks before row : List ℕ} {c : ℕ} (f : Rewriting nlib n v marks before row c) where
-  pub lines_same : n - nlib ≤ flatLines before → n - nlib ≤ flatLines row
-  lines_same h = omega (arith, ap flatLines f.now, rewritten-lines (chosen nlib c marks) v before)
+  pub lines_same : n - nlib ≤ flat_lines before → n - nlib ≤ flat_lines row
+  lines_same h = omega (arith, ap flat_lines f.now, rewritten_lines (chosen nlib c marks) v before)
 
-  pub rewrite-passed : c < n → (get_or marks c 0 ≡ 0 → ⊥) → {row' : List ℕ} → row' ≡ row → Rewriting nlib n v marks before row' (c + 1)
-  rewrite-passed h q e = record {
+  pub rewrite_passed : c < n → (get_or marks c 0 ≡ 0 → ⊥) → {row' : List ℕ} → row' ≡ row → Rewriting nlib n v marks before row' (c + 1)
+  rewrite_passed h q e = record {
     low = omega (arith, f.low);
     high = omega arith;
-    now = e ∙ f.now ∙ rewritten-same v before (chosen nlib c marks) (chosen nlib (c + 1) marks) (λ i. kept nlib c marks i q);
+    now = e ∙ f.now ∙ rewritten_same v before (chosen nlib c marks) (chosen nlib (c + 1) marks) (λ i. kept nlib c marks i q);
   }
 
-  pub rewrite-put : c < n → get_or marks c 0 ≡ 0 → n - nlib ≤ flatLines before → {w : Verdict} → w ≡ v (c - nlib) → {row' : List ℕ} → row' ≡ putAt (c - nlib) w row
+  pub rewrite_put : c < n → get_or marks c 0 ≡ 0 → n - nlib ≤ flat_lines before → {w : Verdict} → w ≡ v (c - nlib) → {row' : List ℕ} → row' ≡ put_at (c - nlib) w row
       → Rewriting nlib n v marks before row' (c + 1)
-  unfolding putAt
-  rewrite-put h q room ew e =
+  unfolding put_at
+  rewrite_put h q room ew e =
       let z : nlib + (c - nlib) ≡ c = omega (arith, f.low) in
       record {
         low = omega (arith, f.low);
         high = omega arith;
         now =
-            e ∙ ap₂ (putAt (c - nlib)) ew f.now
-            ∙ rewritten-more v before (chosen nlib c marks) (chosen nlib (c + 1) marks) (c - nlib) (omega (arith, f.low)) (true-t (here nlib c marks (c - nlib) z q))
+            e ∙ ap₂ (put_at (c - nlib)) ew f.now
+            ∙ rewritten_more v before (chosen nlib c marks) (chosen nlib (c + 1) marks) (c - nlib) (omega (arith, f.low)) (true_t (here nlib c marks (c - nlib) z q))
             (λ k ne. others nlib c marks k (λ z. ne (omega (arith, z))));
       }
 
-  pub rewrite-end : n ≤ c → row ≡ flatRewritten (chosen nlib n marks) v before
-  rewrite-end h = let e : c ≡ n = omega (arith, f.high) in subst (λ (k : ℕ). row ≡ flatRewritten (chosen nlib k marks) v before) e f.now
+  pub rewrite_end : n ≤ c → row ≡ flat_rewritten (chosen nlib n marks) v before
+  rewrite_end h = let e : c ≡ n = omega (arith, f.high) in subst (λ (k : ℕ). row ≡ flat_rewritten (chosen nlib k marks) v before) e f.now

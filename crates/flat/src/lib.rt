@@ -3,19 +3,19 @@
 
 ghost use Rattle.std.specs.Prelude.{◌≡◌, ℕ, ◌+◌, ◌-◌, ◌≤◌, ◌<◌, min, length, replicate};
 ghost use Rattle.std.proofs.Math.Option.{none};
-ghost use Rattle.spec.specs.Sheet.{Group, group as groupOf};
-ghost use Rattle.spec.specs.Rules.{verdictOf};
-ghost use Rattle.spec.specs.Refusals.{formRefusal, scratchLength};
+ghost use Rattle.spec.specs.Sheet.{Group, group as group_of};
+ghost use Rattle.spec.specs.Rules.{verdict_of};
+ghost use Rattle.spec.specs.Refusals.{form_refusal, scratch_length};
 ghost use Rattle.spec.specs.Promises.{cleared};
-ghost use Rattle.spec.specs.Verdicts.{flatLines, flatRewritten};
+ghost use Rattle.spec.specs.Verdicts.{flat_lines, flat_rewritten};
 ghost use Rattle.groups.specs.Groups.{Indexed};
-ghost use Rattle.overlay.specs.Memo.{memoOf};
+ghost use Rattle.overlay.specs.Memo.{memo_of};
 ghost use Rattle.captured.specs.Captured.{Captured};
 ghost use Rattle.breaks.specs.Breaking.{Judging};
-ghost use Rattle.rules.specs.Line.{lineOf};
+ghost use Rattle.rules.specs.Line.{line_of};
 ghost use Rattle.rules.specs.Walk.{Kept};
-ghost use Rattle.survey.specs.Survey.{Passing, setsIn};
-ghost use Rattle.flat.specs.Row.{putAt, chosen, faultedIn, markedIn};
+ghost use Rattle.survey.specs.Survey.{Passing, sets_in};
+ghost use Rattle.flat.specs.Row.{put_at, chosen, faulted_in, marked_in};
 
 use breaks::{BANS_AT, FACTS, SETS_AT, bans};
 use captured::captures;
@@ -39,14 +39,14 @@ fn learn<'a>(
     lanes: &mut [u8],
 )
     ghost g: { ℕ → Group }
-    requires groups { groupOf library.now user.now ≡ g }
+    requires groups { group_of library.now user.now ≡ g }
     requires indexed { Indexed library.now user.now classes.library classes.all starts.now }
-    requires accepted { formRefusal library.now user.now ≡ none }
-    requires memo { memo.old ≡ memoOf g classes.library }
+    requires accepted { form_refusal library.now user.now ≡ none }
+    requires memo { memo.old ≡ memo_of g classes.library }
     requires rows { (facts.old ≡ replicate 768 0) × (768 ≤ length lanes.old) }
-    ensures memo { memo.new ≡ memoOf g classes.all }
+    ensures memo { memo.new ≡ memo_of g classes.all }
     ensures facts { Judging library.now user.now starts.now classes facts.new lanes.new }
-    ensures sets { Passing classes.library classes.all g (setsIn facts.new) }
+    ensures sets { Passing classes.library classes.all g (sets_in facts.new) }
     ensures lanes { Captured g classes.all lanes.old lanes.new }
 {
     overlays(library, user, starts, classes, memo, &mut facts[0..BANS_AT]);
@@ -69,12 +69,12 @@ fn judged<'a>(
     kept: &mut [u8],
 ) -> Verdict
     ghost g: { ℕ → Group }
-    requires groups { groupOf library.now user.now ≡ g }
+    requires groups { group_of library.now user.now ≡ g }
     requires judging { Judging library.now user.now starts.now classes facts.now lanes.now }
-    requires passing { Passing classes.library classes.all g (setsIn facts.now) }
+    requires passing { Passing classes.library classes.all g (sets_in facts.now) }
     requires user_class { (classes.library ≤ c) × (c < classes.all) }
     requires kept { Kept classes.library classes.all g kept.old }
-    ensures verdict { lineOf result ≡ verdictOf classes.library g c }
+    ensures verdict { line_of result ≡ verdict_of classes.library g c }
     ensures kept { Kept classes.library classes.all g kept.new }
 {
     if clean(library, user, starts, classes, facts, c) {
@@ -85,8 +85,8 @@ fn judged<'a>(
 
 // Writes line i of the row.
 fn put(verdicts: &mut [u8], i: usize, verdict: Verdict)
-    requires { i < flatLines verdicts.old }
-    ensures { verdicts.new ≡ putAt i (lineOf verdict) verdicts.old }
+    requires { i < flat_lines verdicts.old }
+    ensures { verdicts.new ≡ put_at i (line_of verdict) verdicts.old }
 {
     let at = VERDICT_BYTES * i;
     verdicts[at] = verdict.rule;
@@ -105,12 +105,12 @@ fn rewrite<'a>(
     verdicts: &mut [u8],
 )
     ghost g: { ℕ → Group }
-    requires groups { groupOf library.now user.now ≡ g }
+    requires groups { group_of library.now user.now ≡ g }
     requires judging { Judging library.now user.now starts.now classes facts.now lanes.now }
-    requires passing { Passing classes.library classes.all g (setsIn facts.now) }
-    requires long { (256 ≤ length marks.now) × (classes.all - classes.library ≤ flatLines verdicts.old) }
-    ensures { verdicts.new ≡ flatRewritten (chosen classes.library classes.all marks.now)
-        (λ i. verdictOf classes.library g (classes.library + i)) verdicts.old }
+    requires passing { Passing classes.library classes.all g (sets_in facts.now) }
+    requires long { (256 ≤ length marks.now) × (classes.all - classes.library ≤ flat_lines verdicts.old) }
+    ensures { verdicts.new ≡ flat_rewritten (chosen classes.library classes.all marks.now)
+        (λ i. verdict_of classes.library g (classes.library + i)) verdicts.old }
 {
     let nlib = classes.library;
     let end = classes.all;
@@ -137,15 +137,15 @@ pub fn rejudge<'a>(
     scratch: &mut [u8],
 )
     ghost g: { ℕ → Group }
-    requires groups { groupOf library.now user.now ≡ g }
+    requires groups { group_of library.now user.now ≡ g }
     requires indexed { Indexed library.now user.now classes.library classes.all starts.now }
-    requires accepted { formRefusal library.now user.now ≡ none }
-    requires memo { memo.old ≡ memoOf g classes.library }
-    requires long { (256 ≤ length marks.now) × (classes.all - classes.library ≤ flatLines verdicts.old) }
-    requires scratch { scratchLength ≤ length scratch.old }
-    ensures memo { memo.new ≡ memoOf g classes.all }
-    ensures verdicts { verdicts.new ≡ flatRewritten (chosen classes.library classes.all marks.now)
-        (λ i. verdictOf classes.library g (classes.library + i)) verdicts.old }
+    requires accepted { form_refusal library.now user.now ≡ none }
+    requires memo { memo.old ≡ memo_of g classes.library }
+    requires long { (256 ≤ length marks.now) × (classes.all - classes.library ≤ flat_lines verdicts.old) }
+    requires scratch { scratch_length ≤ length scratch.old }
+    ensures memo { memo.new ≡ memo_of g classes.all }
+    ensures verdicts { verdicts.new ≡ flat_rewritten (chosen classes.library classes.all marks.now)
+        (λ i. verdict_of classes.library g (classes.library + i)) verdicts.old }
     ensures scratch { scratch.new ≡ cleared scratch.old }
 {
     let mut facts = [0u8; FACTS];
@@ -160,7 +160,7 @@ pub fn rejudge<'a>(
 
 // How many of the first n verdicts the row has room for.
 fn lines_of(verdicts: &[u8], n: usize) -> usize
-    ensures { result ≡ min n (flatLines verdicts.now) }
+    ensures { result ≡ min n (flat_lines verdicts.now) }
 {
     let lines = verdicts.len() / VERDICT_BYTES;
     if n < lines {
@@ -171,7 +171,7 @@ fn lines_of(verdicts: &[u8], n: usize) -> usize
 
 // How many of those are faulted.
 pub fn faulted(verdicts: &[u8], n: usize) -> usize
-    ensures { result ≡ faultedIn verdicts.now (min n (flatLines verdicts.now)) }
+    ensures { result ≡ faulted_in verdicts.now (min n (flat_lines verdicts.now)) }
 {
     let end = lines_of(verdicts, n);
     let mut i = 0;
@@ -188,7 +188,7 @@ pub fn faulted(verdicts: &[u8], n: usize) -> usize
 // How many of the first n classes have the mark 0.
 pub fn marked(marks: &[u8], n: usize) -> usize
     requires { n ≤ length marks.now }
-    ensures { result ≡ markedIn marks.now n }
+    ensures { result ≡ marked_in marks.now n }
 {
     let mut i = 0;
     let mut m = 0;

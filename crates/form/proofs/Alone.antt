@@ -12,55 +12,55 @@ use lib.ListN.{get_or-append, replicate}
 use lib.Seq.{ext_get_or}
 use borrow.Author.Tests.{lt-ltb}
 use Rattle.spec.specs.Lists.{concat, span}
-use Rattle.spec.specs.Sheet.{Group, recordsOf, recordsIn, splitGroups, groupsOf, wholeEnd, classCount, total, group, locate, locatedIn}
+use Rattle.spec.specs.Sheet.{Group, records_of, records_in, split_groups, groups_of, whole_end, class_count, total, group, locate, located_in}
 use Rattle.spec.specs.Relations.{Says, Superclass, Encloser, Implements}
 use Rattle.theory.proofs.Accept.{Clear}
 use Rattle.laws.proofs.Bools.{decide}
 use Rattle.theory.proofs.Falls.{Falls}
-use Rattle.theory.proofs.Lower.{gathered-same, overlay-same}
-use Rattle.laws.proofs.Rows.{length-values, getD-values}
-use Rattle.groups.specs.Groups.{startOf, Indexed}
-use Rattle.theory.proofs.Form.{group-past}
-use Rattle.groups.proofs.Held.{in-library}
-use Rattle.overlay.specs.Memo.{raw, memoOf}
-use Rattle.form.specs.Form.{deemedBreaks, deemedFrom, firstDeemed}
+use Rattle.theory.proofs.Lower.{gathered_same, overlay_same}
+use Rattle.laws.proofs.Rows.{length_values, get_d_values}
+use Rattle.groups.specs.Groups.{start_of, Indexed}
+use Rattle.theory.proofs.Form.{group_past}
+use Rattle.groups.proofs.Held.{in_library}
+use Rattle.overlay.specs.Memo.{raw, memo_of}
+use Rattle.form.specs.Form.{deemed_breaks, deemed_from, first_deemed}
 
 -- an empty sheet passes the first pass
-empty-clear : (n : ℕ) → Clear 1 n []
-unfolding locatedIn locate recordsOf recordsIn splitGroups wholeEnd concat classCount groupsOf
-empty-clear n = record { end = refl; passed = tt; loose = refl; few = λ h. omega arith }
+empty_clear : (n : ℕ) → Clear 1 n []
+unfolding located_in locate records_of records_in split_groups whole_end concat class_count groups_of
+empty_clear n = record { end = refl; passed = tt; loose = refl; few = λ h. omega arith }
 
-none : classCount [] ≡ 0
-unfolding classCount groupsOf splitGroups recordsOf recordsIn
+none : class_count [] ≡ 0
+unfolding class_count groups_of split_groups records_of records_in
 none = refl
 
 module _ {library user : List ℕ} {nlib n : ℕ} {starts : List ℕ} (x : Indexed library user nlib n starts) where
   count : nlib ≡ total library []
   unfolding total
-  count = omega (arith, x.nlib-is, none)
+  count = omega (arith, x.nlib_is, none)
 
-  start-same : {c : ℕ} → c < nlib → startOf library user c ≡ startOf library [] c
-  unfolding startOf
-  start-same {c} h = let l : c < classCount library = omega (arith, x.nlib-is) in rw (lt-ltb c (classCount library) l, startOf)
+  start_same : {c : ℕ} → c < nlib → start_of library user c ≡ start_of library [] c
+  unfolding start_of
+  start_same {c} h = let l : c < class_count library = omega (arith, x.nlib_is) in rw (lt-ltb c (class_count library) l, start_of)
 
   pub alone : Indexed library [] nlib nlib starts
   unfolding total
   alone = record {
-    library-clear = x.library-clear;
-    user-clear = empty-clear (classCount library);
-    library-size = x.library-size;
-    user-size = omega arith;
-    nlib-is = x.nlib-is;
-    n-is = count;
+    library_clear = x.library_clear;
+    user_clear = empty_clear (class_count library);
+    library_size = x.library_size;
+    user_size = omega arith;
+    nlib_is = x.nlib_is;
+    n_is = count;
     some = x.some;
-    few = omega (arith, x.nlib-is, x.n-is, x.few);
+    few = omega (arith, x.nlib_is, x.n_is, x.few);
     long = x.long;
-    starts = λ c h. x.starts c (omega (arith, x.nlib-is, x.n-is)) ∙ start-same h;
+    starts = λ c h. x.starts c (omega (arith, x.nlib_is, x.n_is)) ∙ start_same h;
   }
 
   same : (c : ℕ) → c < nlib → group library user c ≡ group library [] c
-  unfolding group classCount
-  same c h = (in-library x h).its ∙ sym (get_or-append (groupsOf library) (groupsOf []) [] c (in-library x h).there)
+  unfolding group class_count
+  same c h = (in_library x h).its ∙ sym (get_or-append (groups_of library) (groups_of []) [] c (in_library x h).there)
 
   -- a record says it, so the class is the library's
   below : {k : ℕ} {read : List ℕ → ℕ} {t : ℕ} (c : ℕ) → Says k read (group library [] c) t → c < nlib
@@ -69,37 +69,37 @@ module _ {library user : List ℕ} {nlib n : ℕ} {starts : List ℕ} (x : Index
       go : T (ltb c nlib) ⊎ T (not (ltb c nlib)) → c < nlib
       go (inl l) = ltb→lt c nlib l
       go (inr l) =
-          let q = group-past library [] c (omega (arith, count, nltb→le c nlib l)) in
+          let q = group_past library [] c (omega (arith, count, nltb→le c nlib l)) in
           absurd (Memᴰ.not-nil (subst (λ (g : Group). Memᴰ s.bytes g) q s.member))
 
   module _ (f : Falls (group library user)) where
-    pub alone-falls : Falls (group library [])
-    alone-falls = record {
+    pub alone_falls : Falls (group library [])
+    alone_falls = record {
       superclass = λ c s h. f.superclass c s (subst (λ (g : Group). Superclass g s) (sym (same c (below c h.said))) h);
       encloser = λ c e h. f.encloser c e (subst (λ (g : Group). Encloser g e) (sym (same c (below c h.said))) h);
       implements = λ c i h. f.implements c i (subst (λ (g : Group). Implements g i) (sym (same c (below c h))) h);
     }
 
-    from-same : (k c : ℕ) → c + k ≤ nlib → deemedFrom (group library []) c k ≡ deemedFrom (group library user) c k
-    unfolding deemedFrom
-    from-same zero c h = refl
-    from-same (suc k) c h =
-        let e = sym (overlay-same nlib (group library user) (group library []) f same c (omega arith)) in
-        ap₂ (λ (b : Bool) (m : ℕ). elim b as (λ (x : Bool). ℕ) [ true ↦ c | false ↦ m ]) (ap (deemedBreaks c) e) (from-same k (c + 1) (omega arith))
+    from_same : (k c : ℕ) → c + k ≤ nlib → deemed_from (group library []) c k ≡ deemed_from (group library user) c k
+    unfolding deemed_from
+    from_same zero c h = refl
+    from_same (suc k) c h =
+        let e = sym (overlay_same nlib (group library user) (group library []) f same c (omega arith)) in
+        ap₂ (λ (b : Bool) (m : ℕ). elim b as (λ (x : Bool). ℕ) [ true ↦ c | false ↦ m ]) (ap (deemed_breaks c) e) (from_same k (c + 1) (omega arith))
 
-    pub alone-deemed : firstDeemed (group library []) nlib ≡ firstDeemed (group library user) nlib
-    unfolding firstDeemed
-    alone-deemed = from-same nlib 0 (omega arith)
+    pub alone_deemed : first_deemed (group library []) nlib ≡ first_deemed (group library user) nlib
+    unfolding first_deemed
+    alone_deemed = from_same nlib 0 (omega arith)
 
     values_same : (k : ℕ) → k ≤ nlib → map (raw (group library [])) (span 0 k) ≡ map (raw (group library user)) (span 0 k)
     unfolding raw
     values_same k h =
         let a = raw (group library []) in
         let b = raw (group library user) in
-        ext_get_or 0 _ _ (length-values a k ∙ sym (length-values b k)) (λ i l.
-        let m : i < k = omega (arith, length-values a k) in
-        getD-values a k 0 i m ∙ sym (gathered-same nlib (group library user) (group library []) f same (suc i) i (omega arith)) ∙ sym (getD-values b k 0 i m))
+        ext_get_or 0 _ _ (length_values a k ∙ sym (length_values b k)) (λ i l.
+        let m : i < k = omega (arith, length_values a k) in
+        get_d_values a k 0 i m ∙ sym (gathered_same nlib (group library user) (group library []) f same (suc i) i (omega arith)) ∙ sym (get_d_values b k 0 i m))
 
-    pub alone-memo : {k : ℕ} → k ≤ nlib → memoOf (group library []) k ≡ memoOf (group library user) k
-    unfolding memoOf
-    alone-memo {k} h = ap (λ (l : List ℕ). l ++ replicate (256 - k) 65535) (values_same k h)
+    pub alone_memo : {k : ℕ} → k ≤ nlib → memo_of (group library []) k ≡ memo_of (group library user) k
+    unfolding memo_of
+    alone_memo {k} h = ap (λ (l : List ℕ). l ++ replicate (256 - k) 65535) (values_same k h)

@@ -2,14 +2,14 @@
 #![tactic(auto)]
 
 ghost use Rattle.std.specs.Prelude.{◌≡◌, List, [], ℕ, ◌+◌, ◌≤◌, min, length, take, replicate};
-ghost use Rattle.spec.specs.Sheet.{Group, group as groupOf, classCount, total};
-ghost use Rattle.spec.specs.Refusals.{sheetRefusal, presentRefusal};
+ghost use Rattle.spec.specs.Sheet.{Group, group as group_of, class_count, total};
+ghost use Rattle.spec.specs.Refusals.{sheet_refusal, present_refusal};
 ghost use Rattle.theory.proofs.Falls.{Falls};
 ghost use Rattle.view.specs.View.{Fits, spliced, Views};
-ghost use Rattle.pass.specs.Pass.{passRefusal, passOf, Filled};
+ghost use Rattle.pass.specs.Pass.{pass_refusal, pass_of, Filled};
 ghost use Rattle.groups.specs.Groups.{Indexed};
-ghost use Rattle.overlay.specs.Memo.{memoOf};
-ghost use Rattle.form.specs.Form.{deemedBreaks, firstDeemed, passesRefusal, laterRefusal, Starts, Ready, Checks, checkedOf};
+ghost use Rattle.overlay.specs.Memo.{memo_of};
+ghost use Rattle.form.specs.Form.{deemed_breaks, first_deemed, passes_refusal, later_refusal, Starts, Ready, Checks, checked_of};
 
 use fingerprints::prints;
 use groups::Classes;
@@ -56,7 +56,7 @@ pub fn plain(number: u8) -> Refusal
 
 // Whether the deemed markers of class c are refused: they clash, or class 0 has any.
 fn deemed_breaks(c: usize, m: u8) -> bool
-    ensures { result ≡ deemedBreaks c m }
+    ensures { result ≡ deemed_breaks c m }
 {
     if clash(m) {
         return true;
@@ -71,12 +71,12 @@ fn deemed_breaks(c: usize, m: u8) -> bool
 // the library is asked beside an empty one.
 fn deemed(library: &[u8], starts: &[u16], nlib: usize, memo: &mut [u16]) -> usize
     ghost g: { ℕ → Group }
-    requires groups { groupOf library.now [] ≡ g }
+    requires groups { group_of library.now [] ≡ g }
     requires indexed { Indexed library.now [] nlib nlib starts.now }
     requires falls { Falls g }
     requires memo { memo.old ≡ replicate 256 65535 }
-    ensures class { result ≡ firstDeemed g nlib }
-    ensures memo { memo.new ≡ memoOf g (min nlib (result + 1)) }
+    ensures class { result ≡ first_deemed g nlib }
+    ensures memo { memo.new ≡ memo_of g (min nlib (result + 1)) }
 {
     let mut c = 0;
     while c < nlib {
@@ -101,8 +101,8 @@ fn view_pass<'a>(user: &'a [u8], group: &'a [u8], cut: Cut, base: usize, starts:
     requires fits { Fits cut user.now group.now }
     requires short { length view ≤ 32768 }
     requires bounds { (base ≤ 256) × (256 ≤ length starts.old) }
-    ensures answer { result ≡ passOf (passRefusal 1 base view) (base + classCount view) }
-    ensures starts { Filled (passRefusal 1 base view) base 0 view starts.old starts.new }
+    ensures answer { result ≡ pass_of (pass_refusal 1 base view) (base + class_count view) }
+    ensures starts { Filled (pass_refusal 1 base view) base 0 view starts.old starts.new }
 {
     let from = cut.from;
     let to = cut.to;
@@ -131,8 +131,8 @@ fn both_passes<'a>(
     requires fits { Fits cut user.now group.now }
     requires short { (length library.now ≤ 32768) × (length view ≤ 32768) }
     requires rows { length starts.old ≡ 256 }
-    ensures answer { result ≡ checkedOf (passesRefusal library.now view)
-        (classCount library.now) (total library.now view) }
+    ensures answer { result ≡ checked_of (passes_refusal library.now view)
+        (class_count library.now) (total library.now view) }
     ensures starts { Starts library.now view starts.new }
 {
     let first = first_pass(library, 0, 0, 0, starts);
@@ -180,8 +180,8 @@ fn later<'a>(
     requires viewed { spliced user.now group.now view.cut ≡ sheet }
     requires views { Views view library.now user.now group.now starts.now }
     requires memo { memo.old ≡ replicate 256 65535 }
-    ensures answer { result ≡ checkedOf (laterRefusal library.now sheet) view.classes.library view.classes.all }
-    ensures rows { Ready (laterRefusal library.now sheet)
+    ensures answer { result ≡ checked_of (later_refusal library.now sheet) view.classes.library view.classes.all }
+    ensures rows { Ready (later_refusal library.now sheet)
         library.now sheet starts.now memo.new }
 {
     let classes = view.classes;
@@ -231,7 +231,7 @@ pub fn check<'a>(
     requires fits { Fits cut user.now group.now }
     requires short { (length library.now ≤ 32768) × (length view ≤ 32768) }
     requires rows { (length starts.old ≡ 256) × (memo.old ≡ replicate 256 65535) }
-    ensures { Checks (sheetRefusal library.now view) library.now view result starts.new memo.new }
+    ensures { Checks (sheet_refusal library.now view) library.now view result starts.new memo.new }
 {
     let passed = both_passes(library, user, group, cut, starts);
     if let Checked::Fine(classes) = passed {
@@ -253,7 +253,7 @@ pub fn present<'a>(
     memo: &mut [u16],
 ) -> Checked
     requires { (length starts.old ≡ 256) × (memo.old ≡ replicate 256 65535) }
-    ensures { Checks (presentRefusal library.now user.now used)
+    ensures { Checks (present_refusal library.now user.now used)
         library.now (take used user.now) result starts.new memo.new }
 {
     if SHEET_LIMIT < library.len() {

@@ -12,240 +12,240 @@ use lib.ListN.{length, get_or, take, drop, length-append, get_or-append}
 use lib.Seq.{split_at, get_or-append-add}
 use borrow.Author.Tests.{eq-eqb, ne_eqb, lt-ltb, le-ltb}
 use Rattle.spec.specs.Lists.{concat}
-use Rattle.spec.specs.Record.{u16, kind, isClass, byKind, withName, lengthFits}
-use Rattle.spec.specs.Sheet.{Group, recordsOf, groupsOf, classCount, groupStart, total, group, classRecord, locatedIn}
-use Rattle.spec.specs.Refusals.{oneClass}
-use Rattle.theory.specs.Claims.{sheetOf}
-use Rattle.laws.proofs.All.{All, all_append, all-get, all-at}
+use Rattle.spec.specs.Record.{u16, kind, is_class, by_kind, with_name, length_fits}
+use Rattle.spec.specs.Sheet.{Group, records_of, groups_of, class_count, group_start, total, group, class_record, located_in}
+use Rattle.spec.specs.Refusals.{one_class}
+use Rattle.theory.specs.Claims.{sheet_of}
+use Rattle.laws.proofs.All.{All, all_append, all_get, all_at}
 use Rattle.laws.proofs.Bools.{decide, and_l, and_r, eq→eqb}
-use Rattle.laws.proofs.Parts.{part_length, part-word}
-use Rattle.theory.proofs.Cut.{Whole, records-of-whole, concat-append, in-groups, split_parts}
-use Rattle.theory.proofs.Accept.{each-record, Clear}
-use Rattle.theory.proofs.Form.{class-first}
-use Rattle.theory.proofs.Running.{joined, group-next, group-last}
-use Rattle.groups.specs.Groups.{sheetNumber, startOf, endOf, Indexed}
+use Rattle.laws.proofs.Parts.{part_length, part_word}
+use Rattle.theory.proofs.Cut.{Whole, records_of_whole, concat_append, in_groups, split_parts}
+use Rattle.theory.proofs.Accept.{each_record, Clear}
+use Rattle.theory.proofs.Form.{class_first}
+use Rattle.theory.proofs.Running.{joined, group_next, group_last}
+use Rattle.groups.specs.Groups.{sheet_number, start_of, end_of, Indexed}
 use Rattle.records.specs.Records.{between, Tiled}
-use Rattle.records.proofs.Between.{placed, tiled-step}
+use Rattle.records.proofs.Between.{placed, tiled_step}
 
 -- ---- a CLASS record
 
 -- twelve bytes and a name of at most 100
-class-sizes : (r : List ℕ) → T (isClass r) → T (lengthFits r) → (13 ≤ length r) × (length r ≤ 112)
-unfolding lengthFits byKind withName
-class-sizes r k t =
+class_sizes : (r : List ℕ) → T (is_class r) → T (length_fits r) → (13 ≤ length r) × (length r ≤ 112)
+unfolding length_fits by_kind with_name
+class_sizes r k t =
     let e : kind r ≡ 1 = eqb→eq (kind r) 1 k in
     let u = rw e at t in
     (leb→le 13 (length r) (and_l (leb 13 (length r)) (leb (length r) 112) u), leb→le (length r) 112 (and_r (leb 13 (length r)) (leb (length r) 112) u))
 
-pub first-within : (g : Group) → length (classRecord g) ≤ length (concat g)
-unfolding classRecord concat
-first-within [] = omega arith
-first-within (r ∷ rs) = omega (arith, length-append r (concat rs))
+pub first_within : (g : Group) → length (class_record g) ≤ length (concat g)
+unfolding class_record concat
+first_within [] = omega arith
+first_within (r ∷ rs) = omega (arith, length-append r (concat rs))
 
 -- ---- one sheet
 
 module _ {sheet n : ℕ} {s : List ℕ} (clear : Clear sheet n s) where
-  pub record-lengths : All (λ r. T (lengthFits r)) (recordsOf s)
-  unfolding locatedIn
-  record-lengths = each-record (λ r. T (lengthFits r)) sheet (λ l e p. p.lengthFits) 0 n 0 0 (recordsOf s) clear.passed
+  pub record_lengths : All (λ r. T (length_fits r)) (records_of s)
+  unfolding located_in
+  record_lengths = each_record (λ r. T (length_fits r)) sheet (λ l e p. p.length_fits) 0 n 0 0 (records_of s) clear.passed
 
-  pub sheet-lengths : All (All (λ r. T (lengthFits r))) (groupsOf s)
-  sheet-lengths = in-groups (λ r. T (lengthFits r)) s record-lengths
+  pub sheet_lengths : All (All (λ r. T (length_fits r))) (groups_of s)
+  sheet_lengths = in_groups (λ r. T (length_fits r)) s record_lengths
 
-  module _ (i : ℕ) (h : i < classCount s) where
-    around : concat (groupsOf s) ≡ concat (take i (groupsOf s)) ++ (get_or (groupsOf s) i [] ++ concat (drop (suc i) (groupsOf s)))
-    unfolding classCount concat
+  module _ (i : ℕ) (h : i < class_count s) where
+    around : concat (groups_of s) ≡ concat (take i (groups_of s)) ++ (get_or (groups_of s) i [] ++ concat (drop (suc i) (groups_of s)))
+    unfolding class_count concat
     around =
-        ap concat (split_at (groupsOf s) i [] h) ∙ concat-append (take i (groupsOf s)) (get_or (groupsOf s) i [] ∷ drop (suc i) (groupsOf s))
+        ap concat (split_at (groups_of s) i [] h) ∙ concat_append (take i (groups_of s)) (get_or (groups_of s) i [] ∷ drop (suc i) (groups_of s))
 
     -- a group stands where the groups before it end
-    pub group-placed : Tiled s (groupStart s i) (groupStart s i + length (concat (get_or (groupsOf s) i [])))
-        × (between s (groupStart s i) (groupStart s i + length (concat (get_or (groupsOf s) i []))) ≡ get_or (groupsOf s) i [])
-    unfolding groupStart
-    group-placed =
-        let front = concat (take i (groupsOf s)) in
-        let g : Group = get_or (groupsOf s) i [] in
-        let rest = concat (drop (suc i) (groupsOf s)) in
-        let w : All Whole g = all-get {A = Group} (All Whole) [] (groupsOf s) (in-groups Whole s (records-of-whole s)) tt i in
+    pub group_placed : Tiled s (group_start s i) (group_start s i + length (concat (get_or (groups_of s) i [])))
+        × (between s (group_start s i) (group_start s i + length (concat (get_or (groups_of s) i []))) ≡ get_or (groups_of s) i [])
+    unfolding group_start
+    group_placed =
+        let front = concat (take i (groups_of s)) in
+        let g : Group = get_or (groups_of s) i [] in
+        let rest = concat (drop (suc i) (groups_of s)) in
+        let w : All Whole g = all_get {A = Group} (All Whole) [] (groups_of s) (in_groups Whole s (records_of_whole s)) tt i in
         placed s (concat front) g (concat rest) (length (concat front)) (length (concat front) + length (concat g)) w
-        (sym (joined clear) ∙ ap concat around ∙ concat-append front (g ++ rest) ∙ ap (λ (x : List ℕ). concat front ++ x) (concat-append g rest)) refl refl
+        (sym (joined clear) ∙ ap concat around ∙ concat_append front (g ++ rest) ∙ ap (λ (x : List ℕ). concat front ++ x) (concat_append g rest)) refl refl
 
     -- its CLASS record, which comes first
-    pub class-fits : (13 ≤ length (classRecord (get_or (groupsOf s) i []))) × (length (classRecord (get_or (groupsOf s) i [])) ≤ 112)
-    unfolding classCount groupsOf
-    class-fits =
-        let g : Group = get_or (groupsOf s) i [] in
-        let a : All (λ r. T (lengthFits r)) g = all-get {A = Group} (All (λ r. T (lengthFits r))) [] (groupsOf s) sheet-lengths tt i in
-        let f = class-first (λ r. T (lengthFits r)) g (all-at (λ h. T (oneClass h)) [] (groupsOf s) (split_parts (recordsOf s)).one i h) a in
-        class-sizes (classRecord g) f.1 f.0
+    pub class_fits : (13 ≤ length (class_record (get_or (groups_of s) i []))) × (length (class_record (get_or (groups_of s) i [])) ≤ 112)
+    unfolding class_count groups_of
+    class_fits =
+        let g : Group = get_or (groups_of s) i [] in
+        let a : All (λ r. T (length_fits r)) g = all_get {A = Group} (All (λ r. T (length_fits r))) [] (groups_of s) sheet_lengths tt i in
+        let f = class_first (λ r. T (length_fits r)) g (all_at (λ h. T (one_class h)) [] (groups_of s) (split_parts (records_of s)).one i h) a in
+        class_sizes (class_record g) f.1 f.0
 
-    nonempty : groupStart s i < groupStart s i + length (concat (get_or (groupsOf s) i []))
-    nonempty = omega (arith, class-fits.0, first-within (get_or (groupsOf s) i []))
+    nonempty : group_start s i < group_start s i + length (concat (get_or (groups_of s) i []))
+    nonempty = omega (arith, class_fits.0, first_within (get_or (groups_of s) i []))
 
-    pub class-here : classRecord (get_or (groupsOf s) i []) ≡ take (u16 s (groupStart s i)) (drop (groupStart s i) s)
-    unfolding classRecord
-    class-here = ap classRecord (sym group-placed.1 ∙ (tiled-step group-placed.0 nonempty).2)
+    pub class_here : class_record (get_or (groups_of s) i []) ≡ take (u16 s (group_start s i)) (drop (group_start s i) s)
+    unfolding class_record
+    class_here = ap class_record (sym group_placed.1 ∙ (tiled_step group_placed.0 nonempty).2)
 
-    pub class-long-here : length (classRecord (get_or (groupsOf s) i [])) ≡ u16 s (groupStart s i)
-    class-long-here =
-        let at = groupStart s i in
-        ap length class-here ∙ part_length s at (u16 s at) (omega (arith, (tiled-step group-placed.0 nonempty).1, group-placed.0.within))
+    pub class_long_here : length (class_record (get_or (groups_of s) i [])) ≡ u16 s (group_start s i)
+    class_long_here =
+        let at = group_start s i in
+        ap length class_here ∙ part_length s at (u16 s at) (omega (arith, (tiled_step group_placed.0 nonempty).1, group_placed.0.within))
 
 -- ---- two sheets
 
 module _ (library user : List ℕ) (sheet : ℕ) where
-  pub library-sheet : sheet ≡ 0 → sheetOf library user sheet ≡ library
-  library-sheet e = rw (eq-eqb sheet 0 e, sheetOf)
+  pub library_sheet_lem : sheet ≡ 0 → sheet_of library user sheet ≡ library
+  library_sheet_lem e = rw (eq-eqb sheet 0 e, sheet_of)
 
-  pub user-sheet : (sheet ≡ 0 → ⊥) → sheetOf library user sheet ≡ user
-  user-sheet ne = rw (ne_eqb sheet 0 ne, sheetOf)
+  pub user_sheet_lem : (sheet ≡ 0 → ⊥) → sheet_of library user sheet ≡ user
+  user_sheet_lem ne = rw (ne_eqb sheet 0 ne, sheet_of)
 
 -- both are short
-pub sheet-low : {library user : List ℕ} {nlib n : ℕ} {row : List ℕ} → Indexed library user nlib n row → (sheet : ℕ) → length (sheetOf library user sheet) ≤ 32768
-sheet-low {library} {user} x sheet = go (decide (eqb sheet 0))
+pub sheet_low : {library user : List ℕ} {nlib n : ℕ} {row : List ℕ} → Indexed library user nlib n row → (sheet : ℕ) → length (sheet_of library user sheet) ≤ 32768
+sheet_low {library} {user} x sheet = go (decide (eqb sheet 0))
   where
-    go : T (eqb sheet 0) ⊎ T (not (eqb sheet 0)) → length (sheetOf library user sheet) ≤ 32768
-    go (inl t) = rw (library-sheet library user sheet (eqb→eq sheet 0 t)) x.library-size
-    go (inr t) = rw (user-sheet library user sheet (λ e. T_not (eqb sheet 0) t (eq→eqb e))) x.user-size
+    go : T (eqb sheet 0) ⊎ T (not (eqb sheet 0)) → length (sheet_of library user sheet) ≤ 32768
+    go (inl t) = rw (library_sheet_lem library user sheet (eqb→eq sheet 0 t)) x.library_size
+    go (inr t) = rw (user_sheet_lem library user sheet (λ e. T_not (eqb sheet 0) t (eq→eqb e))) x.user_size
 
-pub library-number : (nlib c : ℕ) → c < nlib → sheetNumber nlib c ≡ 0
-unfolding sheetNumber
-library-number nlib c h = rw (lt-ltb c nlib h, sheetNumber)
+pub library_number : (nlib c : ℕ) → c < nlib → sheet_number nlib c ≡ 0
+unfolding sheet_number
+library_number nlib c h = rw (lt-ltb c nlib h, sheet_number)
 
-pub user-number : (nlib c : ℕ) → nlib ≤ c → sheetNumber nlib c ≡ 1
-unfolding sheetNumber
-user-number nlib c h = rw (le-ltb c nlib h, sheetNumber)
+pub user_number : (nlib c : ℕ) → nlib ≤ c → sheet_number nlib c ≡ 1
+unfolding sheet_number
+user_number nlib c h = rw (le-ltb c nlib h, sheet_number)
 
 -- class c is number i of the sheet s
 pub record Held (library user : List ℕ) (nlib c : ℕ) (s : List ℕ) (i : ℕ) : Type 0 where
-  pub is : sheetOf library user (sheetNumber nlib c) ≡ s
+  pub is : sheet_of library user (sheet_number nlib c) ≡ s
   pub sheet : ℕ
   pub before : ℕ
   pub clear : Clear sheet before s
-  pub there : i < classCount s
-  pub start : startOf library user c ≡ groupStart s i
-  pub its : group library user c ≡ get_or (groupsOf s) i []
+  pub there : i < class_count s
+  pub start : start_of library user c ≡ group_start s i
+  pub its : group library user c ≡ get_or (groups_of s) i []
 
 module _ {library user : List ℕ} {nlib n : ℕ} {row : List ℕ} (x : Indexed library user nlib n row) {c : ℕ} where
-  pub in-library : c < nlib → Held library user nlib c library c
-  unfolding startOf group classCount
-  in-library h =
-      let l : c < length (groupsOf library) = omega (arith, x.nlib-is) in
+  pub in_library : c < nlib → Held library user nlib c library c
+  unfolding start_of group class_count
+  in_library h =
+      let l : c < length (groups_of library) = omega (arith, x.nlib_is) in
       record {
-        is = library-sheet library user (sheetNumber nlib c) (library-number nlib c h);
+        is = library_sheet_lem library user (sheet_number nlib c) (library_number nlib c h);
         sheet = 0;
         before = 0;
-        clear = x.library-clear;
+        clear = x.library_clear;
         there = l;
-        start = rw (lt-ltb c (length (groupsOf library)) l, startOf);
-        its = get_or-append (groupsOf library) (groupsOf user) [] c l;
+        start = rw (lt-ltb c (length (groups_of library)) l, start_of);
+        its = get_or-append (groups_of library) (groups_of user) [] c l;
       }
 
-  pub in-user : nlib ≤ c → c < n → Held library user nlib c user (c - nlib)
-  unfolding startOf group classCount total
-  in-user h l =
-      let k : length (groupsOf library) ≤ c = omega (arith, x.nlib-is) in
-      let e : length (groupsOf library) + (c - nlib) ≡ c = omega (arith, x.nlib-is) in
-      let d : c - length (groupsOf library) ≡ c - nlib = omega (arith, x.nlib-is) in
+  pub in_user : nlib ≤ c → c < n → Held library user nlib c user (c - nlib)
+  unfolding start_of group class_count total
+  in_user h l =
+      let k : length (groups_of library) ≤ c = omega (arith, x.nlib_is) in
+      let e : length (groups_of library) + (c - nlib) ≡ c = omega (arith, x.nlib_is) in
+      let d : c - length (groups_of library) ≡ c - nlib = omega (arith, x.nlib_is) in
       record {
-        is = user-sheet library user (sheetNumber nlib c) (omega (arith, user-number nlib c h));
+        is = user_sheet_lem library user (sheet_number nlib c) (omega (arith, user_number nlib c h));
         sheet = 1;
-        before = classCount library;
-        clear = x.user-clear;
-        there = omega (arith, x.nlib-is, x.n-is);
-        start = rw (le-ltb c (length (groupsOf library)) k, startOf) (ap (groupStart user) d);
-        its = ap (λ (k : ℕ). get_or (groupsOf library ++ groupsOf user) k []) (sym e) ∙ get_or-append-add (groupsOf library) (groupsOf user) (c - nlib) [];
+        before = class_count library;
+        clear = x.user_clear;
+        there = omega (arith, x.nlib_is, x.n_is);
+        start = rw (le-ltb c (length (groups_of library)) k, start_of) (ap (group_start user) d);
+        its = ap (λ (k : ℕ). get_or (groups_of library ++ groups_of user) k []) (sym e) ∙ get_or-append-add (groups_of library) (groups_of user) (c - nlib) [];
       }
 
 -- each record of a class has a length that its kind can have
-pub group-lengths : {library user : List ℕ} {nlib n : ℕ} {row : List ℕ} → Indexed library user nlib n row → (c : ℕ) → All (λ r. T (lengthFits r)) (group library user c)
+pub group_lengths : {library user : List ℕ} {nlib n : ℕ} {row : List ℕ} → Indexed library user nlib n row → (c : ℕ) → All (λ r. T (length_fits r)) (group library user c)
 unfolding group
-group-lengths {library} {user} x c =
-    all-get {A = Group} (All (λ r. T (lengthFits r))) [] (groupsOf library ++ groupsOf user)
-    (all_append (All (λ r. T (lengthFits r))) (groupsOf library) (groupsOf user) (sheet-lengths x.library-clear) (sheet-lengths x.user-clear)) tt c
+group_lengths {library} {user} x c =
+    all_get {A = Group} (All (λ r. T (length_fits r))) [] (groups_of library ++ groups_of user)
+    (all_append (All (λ r. T (length_fits r))) (groups_of library) (groups_of user) (sheet_lengths x.library_clear) (sheet_lengths x.user_clear)) tt c
 
 module _ {library user : List ℕ} {nlib c : ℕ} {s : List ℕ} {i : ℕ} (h : Held library user nlib c s i) where
-  pub held-placed : Tiled (sheetOf library user (sheetNumber nlib c)) (startOf library user c) (endOf library user c)
-      × (between (sheetOf library user (sheetNumber nlib c)) (startOf library user c) (endOf library user c) ≡ group library user c)
-  unfolding endOf
-  held-placed = rw (h.is, h.start, h.its) (group-placed h.clear i h.there)
+  pub held_placed : Tiled (sheet_of library user (sheet_number nlib c)) (start_of library user c) (end_of library user c)
+      × (between (sheet_of library user (sheet_number nlib c)) (start_of library user c) (end_of library user c) ≡ group library user c)
+  unfolding end_of
+  held_placed = rw (h.is, h.start, h.its) (group_placed h.clear i h.there)
 
-  pub held-end : endOf library user c ≡ groupStart s (i + 1)
-  unfolding endOf
-  held-end = rw (h.start, h.its) (sym (group-next s i h.there))
+  pub held_end : end_of library user c ≡ group_start s (i + 1)
+  unfolding end_of
+  held_end = rw (h.start, h.its) (sym (group_next s i h.there))
 
 module _ {library user : List ℕ} {nlib n : ℕ} {row : List ℕ} (x : Indexed library user nlib n row) {c : ℕ} (h : c < n) where
   -- what holds of a class of either sheet
-  by-sheet : (P : Type 0) → ((s : List ℕ) (i : ℕ) → Held library user nlib c s i → P) → P
-  by-sheet P f = go (decide (ltb c nlib))
+  by_sheet : (P : Type 0) → ((s : List ℕ) (i : ℕ) → Held library user nlib c s i → P) → P
+  by_sheet P f = go (decide (ltb c nlib))
     where
       go : T (ltb c nlib) ⊎ T (not (ltb c nlib)) → P
-      go (inl t) = f library c (in-library x (ltb→lt c nlib t))
-      go (inr t) = f user (c - nlib) (in-user x (nltb→le c nlib t) h)
+      go (inl t) = f library c (in_library x (ltb→lt c nlib t))
+      go (inr t) = f user (c - nlib) (in_user x (nltb→le c nlib t) h)
 
   -- ---- the group of a class in its sheet
 
-  pub group-tiled : Tiled (sheetOf library user (sheetNumber nlib c)) (startOf library user c) (endOf library user c)
-  group-tiled = by-sheet _ (λ s i k. (held-placed k).0)
+  pub group_tiled : Tiled (sheet_of library user (sheet_number nlib c)) (start_of library user c) (end_of library user c)
+  group_tiled = by_sheet _ (λ s i k. (held_placed k).0)
 
-  pub group-between : between (sheetOf library user (sheetNumber nlib c)) (startOf library user c) (endOf library user c) ≡ group library user c
-  group-between = by-sheet _ (λ s i k. (held-placed k).1)
+  pub group_between : between (sheet_of library user (sheet_number nlib c)) (start_of library user c) (end_of library user c) ≡ group library user c
+  group_between = by_sheet _ (λ s i k. (held_placed k).1)
 
-  pub end-small : endOf library user c ≤ 32768
-  end-small = omega (arith, group-tiled, sheet-low x (sheetNumber nlib c))
+  pub end_small : end_of library user c ≤ 32768
+  end_small = omega (arith, group_tiled, sheet_low x (sheet_number nlib c))
 
   -- ---- where the next group begins
 
-  pub library-end : c + 1 ≡ nlib → endOf library user c ≡ length library
-  library-end e = held-end (in-library x (omega arith)) ∙ ap (groupStart library) (e ∙ x.nlib-is) ∙ group-last x.library-clear
+  pub library_end : c + 1 ≡ nlib → end_of library user c ≡ length library
+  library_end e = held_end (in_library x (omega arith)) ∙ ap (group_start library) (e ∙ x.nlib_is) ∙ group_last x.library_clear
 
-  pub user-end : (c + 1 ≡ nlib → ⊥) → c + 1 ≡ n → endOf library user c ≡ length user
+  pub user_end : (c + 1 ≡ nlib → ⊥) → c + 1 ≡ n → end_of library user c ≡ length user
   unfolding total
-  user-end ne e =
-      let k : nlib ≤ c = omega (arith, x.nlib-is, x.n-is) in
-      let d : c - nlib + 1 ≡ classCount user = omega (arith, x.nlib-is, x.n-is) in
-      held-end (in-user x k h) ∙ ap (groupStart user) d ∙ group-last x.user-clear
+  user_end ne e =
+      let k : nlib ≤ c = omega (arith, x.nlib_is, x.n_is) in
+      let d : c - nlib + 1 ≡ class_count user = omega (arith, x.nlib_is, x.n_is) in
+      held_end (in_user x k h) ∙ ap (group_start user) d ∙ group_last x.user_clear
 
-  pub next_start : (c + 1 ≡ nlib → ⊥) → c + 1 < n → startOf library user (c + 1) ≡ endOf library user c
+  pub next_start : (c + 1 ≡ nlib → ⊥) → c + 1 < n → start_of library user (c + 1) ≡ end_of library user c
   next_start ne l = go (decide (ltb c nlib))
     where
-      go : T (ltb c nlib) ⊎ T (not (ltb c nlib)) → startOf library user (c + 1) ≡ endOf library user c
-      go (inl t) = let k : c < nlib = ltb→lt c nlib t in (in-library x {c = c + 1} (omega arith)).start ∙ sym (held-end (in-library x k))
+      go : T (ltb c nlib) ⊎ T (not (ltb c nlib)) → start_of library user (c + 1) ≡ end_of library user c
+      go (inl t) = let k : c < nlib = ltb→lt c nlib t in (in_library x {c = c + 1} (omega arith)).start ∙ sym (held_end (in_library x k))
       go (inr t) =
           let k : nlib ≤ c = nltb→le c nlib t in
           let e : c + 1 - nlib ≡ c - nlib + 1 = omega arith in
-          (in-user x {c = c + 1} (omega arith) l).start ∙ ap (groupStart user) e ∙ sym (held-end (in-user x k h))
+          (in_user x {c = c + 1} (omega arith) l).start ∙ ap (group_start user) e ∙ sym (held_end (in_user x k h))
 
   -- ---- the CLASS record, which comes first
 
-  pub class-long : 13 ≤ length (classRecord (group library user c))
-  class-long = by-sheet _ (λ s i k. rw k.its (class-fits k.clear i k.there).0)
+  pub class_long : 13 ≤ length (class_record (group library user c))
+  class_long = by_sheet _ (λ s i k. rw k.its (class_fits k.clear i k.there).0)
 
-  pub class-room : startOf library user c + length (classRecord (group library user c)) ≤ endOf library user c
-  unfolding endOf
-  class-room = omega (arith, first-within (group library user c))
+  pub class_room : start_of library user c + length (class_record (group library user c)) ≤ end_of library user c
+  unfolding end_of
+  class_room = omega (arith, first_within (group library user c))
 
-  pub class-there : startOf library user c < endOf library user c
-  class-there = omega (arith, class-long, class-room)
+  pub class_there : start_of library user c < end_of library user c
+  class_there = omega (arith, class_long, class_room)
 
-  class-record : classRecord (group library user c)
-      ≡ take (u16 (sheetOf library user (sheetNumber nlib c)) (startOf library user c)) (drop (startOf library user c) (sheetOf library user (sheetNumber nlib c)))
-  class-record = by-sheet _ (λ s i k. rw (k.is, k.start, k.its) (class-here k.clear i k.there))
+  class_record_lem : class_record (group library user c)
+      ≡ take (u16 (sheet_of library user (sheet_number nlib c)) (start_of library user c)) (drop (start_of library user c) (sheet_of library user (sheet_number nlib c)))
+  class_record_lem = by_sheet _ (λ s i k. rw (k.is, k.start, k.its) (class_here k.clear i k.there))
 
-  class-size : length (classRecord (group library user c)) ≡ u16 (sheetOf library user (sheetNumber nlib c)) (startOf library user c)
-  class-size = by-sheet _ (λ s i k. rw (k.is, k.start, k.its) (class-long-here k.clear i k.there))
+  class_size : length (class_record (group library user c)) ≡ u16 (sheet_of library user (sheet_number nlib c)) (start_of library user c)
+  class_size = by_sheet _ (λ s i k. rw (k.is, k.start, k.its) (class_long_here k.clear i k.there))
 
-  pub class-word : {sheet at : ℕ} → sheet ≡ sheetNumber nlib c → at ≡ startOf library user c → (j : ℕ) → j + 1 < length (classRecord (group library user c))
-      → u16 (sheetOf library user sheet) (at + j) ≡ u16 (classRecord (group library user c)) j
-  class-word es ea j l =
-      let s = sheetOf library user (sheetNumber nlib c) in
-      let start = startOf library user c in
-      ap₂ (λ (k i : ℕ). u16 (sheetOf library user k) (i + j)) es ea
-      ∙ sym (part-word s start (u16 s start) j (omega (arith, class-size)))
-      ∙ ap (λ (r : List ℕ). u16 r j) (sym class-record)
+  pub class_word : {sheet at : ℕ} → sheet ≡ sheet_number nlib c → at ≡ start_of library user c → (j : ℕ) → j + 1 < length (class_record (group library user c))
+      → u16 (sheet_of library user sheet) (at + j) ≡ u16 (class_record (group library user c)) j
+  class_word es ea j l =
+      let s = sheet_of library user (sheet_number nlib c) in
+      let start = start_of library user c in
+      ap₂ (λ (k i : ℕ). u16 (sheet_of library user k) (i + j)) es ea
+      ∙ sym (part_word s start (u16 s start) j (omega (arith, class_size)))
+      ∙ ap (λ (r : List ℕ). u16 r j) (sym class_record_lem)
 
   -- its own length stands first in it
-  pub size-read : {len : ℕ} → len ≡ u16 (classRecord (group library user c)) 0 → len ≡ length (classRecord (group library user c))
-  size-read e =
-      e ∙ sym (class-word refl refl 0 (omega (arith, class-long)))
-      ∙ ap (u16 (sheetOf library user (sheetNumber nlib c))) (add-zero (startOf library user c)) ∙ sym class-size
+  pub size_read : {len : ℕ} → len ≡ u16 (class_record (group library user c)) 0 → len ≡ length (class_record (group library user c))
+  size_read e =
+      e ∙ sym (class_word refl refl 0 (omega (arith, class_long)))
+      ∙ ap (u16 (sheet_of library user (sheet_number nlib c))) (add-zero (start_of library user c)) ∙ sym class_size

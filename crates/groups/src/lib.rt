@@ -3,10 +3,10 @@
 
 ghost use Rattle.std.specs.Prelude.{◌≡◌, ℕ, ◌≤◌, ◌<◌, length};
 ghost use Rattle.spec.specs.Record.{u16};
-ghost use Rattle.spec.specs.Sheet.{Group, group as groupOf, classRecord};
-ghost use Rattle.theory.specs.Claims.{firstLength};
+ghost use Rattle.spec.specs.Sheet.{Group, group as group_of, class_record};
+ghost use Rattle.theory.specs.Claims.{first_length};
 ghost use Rattle.records.specs.Records.{Carries};
-ghost use Rattle.groups.specs.Groups.{sheetNumber, Indexed, EndOf};
+ghost use Rattle.groups.specs.Groups.{sheet_number, Indexed, EndOf};
 ghost use Rattle.groups.specs.Sheets.{AtGroup};
 
 use records::{CLASS, nth_in, wide, word_in};
@@ -20,7 +20,7 @@ pub struct Classes {
 
 // The sheet that holds class c.
 pub fn sheet_of(nlib: usize, c: usize) -> u8
-    ensures { result ≡ sheetNumber nlib c }
+    ensures { result ≡ sheet_number nlib c }
 {
     if c < nlib { 0 } else { 1 }
 }
@@ -49,7 +49,7 @@ pub fn class_bytes<'a>(
     c: usize,
 ) -> &'a [u8]
     ghost g: { ℕ → Group }
-    requires groups { groupOf library.now user.now ≡ g }
+    requires groups { group_of library.now user.now ≡ g }
     requires indexed { Indexed library.now user.now classes.library classes.all starts.now }
     requires there { c < classes.all }
     ensures { Carries result.now (g c) }
@@ -72,10 +72,10 @@ pub fn class_word<'a>(
     j: usize,
 ) -> u16
     ghost g: { ℕ → Group }
-    requires groups { groupOf library.now user.now ≡ g }
+    requires groups { group_of library.now user.now ≡ g }
     requires indexed { Indexed library.now user.now classes.library classes.all starts.now }
     requires there { (c < classes.all) × (j < 12) }
-    ensures { result ≡ u16 (classRecord (g c)) j }
+    ensures { result ≡ u16 (class_record (g c)) j }
 {
     word_in(class_bytes(library, user, starts, classes, c), j)
 }
@@ -83,7 +83,7 @@ pub fn class_word<'a>(
 // How long the group is that these bytes begin with. They are handed over from its first byte on, so nothing before it is asked.
 pub fn group_length(rest: &[u8]) -> usize
     requires { AtGroup rest.now }
-    ensures { result ≡ firstLength rest.now }
+    ensures { result ≡ first_length rest.now }
 {
     nth_in(rest, CLASS, 1)
 }

@@ -7,7 +7,7 @@ use Prim.Native.Nat.{ℕ, zero, suc, ◌<◌}
 use native.Mathlib.Omega.{arith}
 use lib.Dec.{T}
 use Rattle.spec.specs.Lists.{keep, count, span}
-use Rattle.laws.proofs.Count.{step, count-more}
+use Rattle.laws.proofs.Count.{step, count_more}
 use Rattle.history.specs.Demand3.{Counted, empty, counted, skipped}
 
 module _ (p : ℕ → Bool) (P : ℕ → Type 0) where
@@ -15,7 +15,7 @@ module _ (p : ℕ → Bool) (P : ℕ → Type 0) where
   one_more n k true h c = counted c (h.0 tt)
   one_more n k false h c = skipped c h.1
 
-  pub counted-by : (n : ℕ) → ((i : ℕ) → i < n → T (p i) ↔ P i) → Counted P n (count p (span 0 n))
-  counted-by zero h = unfold count keep span in empty
-  counted-by (suc n) h =
-      subst (Counted P (suc n)) (sym (count-more p n)) (one_more n (count p (span 0 n)) (p n) (h n (omega arith)) (counted-by n (λ i k. h i (omega arith))))
+  pub counted_by : (n : ℕ) → ((i : ℕ) → i < n → T (p i) ↔ P i) → Counted P n (count p (span 0 n))
+  counted_by zero h = unfold count keep span in empty
+  counted_by (suc n) h =
+      subst (Counted P (suc n)) (sym (count_more p n)) (one_more n (count p (span 0 n)) (p n) (h n (omega arith)) (counted_by n (λ i k. h i (omega arith))))

@@ -6,52 +6,52 @@ use mathlib.Core.List.{List, []}
 use mathlib.Core.Option.{Option, none, some}
 use Prim.Native.Nat.{ℕ}
 use lib.ListN.{length, take}
-use Rattle.spec.specs.Refusals.{Refusal, judgeRefusal, queryRefusal}
+use Rattle.spec.specs.Refusals.{Refusal, judge_refusal, query_refusal}
 use Rattle.spec.specs.Verdicts.{VerdictRow}
-use Rattle.spec.specs.Promises.{accepted, State, Changes, bytesAt, noPart, Names}
+use Rattle.spec.specs.Promises.{accepted, State, Changes, bytes_at, no_part, Names}
 use Rattle.theory.specs.Claims.{InOrder}
-use Rattle.theory.proofs.Answers.{first-none}
-use Rattle.theory.proofs.Order.{sheets-in-order, order-holds}
-use Rattle.theory.proofs.Promised.{told-fine, kept-refused, sheet-left}
+use Rattle.theory.proofs.Answers.{first_none}
+use Rattle.theory.proofs.Order.{sheets_in_order, order_holds}
+use Rattle.theory.proofs.Promised.{told_fine, kept_refused, sheet_left}
 use Rattle.history.specs.Demand3.{Done, Promised}
 use Rattle.history.specs.InOrder.{HeldInOrder, ReadsInOrder}
-use Rattle.history.proofs.Made.{present-of, made-acceptable}
-use Rattle.history.proofs.Steps.{editOf, promised}
+use Rattle.history.proofs.Made.{present_of, made_acceptable}
+use Rattle.history.proofs.Steps.{edit_of, promised}
 
-changed-in-order : (row : VerdictRow) (library : List ℕ) (before : State row) (d : Done row) (n : ℕ) → Promised row library before d → d.answer ≡ accepted n
+changed_in_order : (row : VerdictRow) (library : List ℕ) (before : State row) (d : Done row) (n : ℕ) → Promised row library before d → d.answer ≡ accepted n
     → HeldInOrder row library before × HeldInOrder row library d.after
-changed-in-order row library before d n p e =
-    let edit = editOf row library before d.call (length d.scratch) in
+changed_in_order row library before d n p e =
+    let edit = edit_of row library before d.call (length d.scratch) in
     let c : Changes row edit before (accepted n) d.after =
-    subst (λ a. Changes row edit before a d.after) e (promised row library before d.call d.scratch d.answer d.after d.scratchAfter p).changes in
-    let fine = (told-fine edit.refusal edit.answer c.answered).0 in (
-      order-holds library before.user before.used (present-of row library before d.call (length d.scratch) fine),
-      subst (InOrder library) (sym (sheet-left row edit before c))
-          (sheets-in-order library edit.sheet (made-acceptable row library before d.call (length d.scratch) fine).sheets),
+    subst (λ a. Changes row edit before a d.after) e (promised row library before d.call d.scratch d.answer d.after d.scratch_after p).changes in
+    let fine = (told_fine edit.refusal edit.answer c.answered).0 in (
+      order_holds library before.user before.used (present_of row library before d.call (length d.scratch) fine),
+      subst (InOrder library) (sym (sheet_left row edit before c))
+          (sheets_in_order library edit.sheet (made_acceptable row library before d.call (length d.scratch) fine).sheets),
     )
 
 module _ (library user : List ℕ) (used c : ℕ) where
   -- a query that is not refused
-  asked-in-order : queryRefusal library user used c ≡ none → InOrder library (take used user)
-  unfolding queryRefusal
-  asked-in-order e = order-holds library user used (first-none _ e).0
+  asked_in_order : query_refusal library user used c ≡ none → InOrder library (take used user)
+  unfolding query_refusal
+  asked_in_order e = order_holds library user used (first_none _ e).0
 
-  named-in-order : (bytes : List ℕ) → Names library user used c bytes → bytes ≢ [] → InOrder library (take used user)
-  unfolding bytesAt
-  named-in-order bytes p filled = go (queryRefusal library user used c) refl
+  named_in_order : (bytes : List ℕ) → Names library user used c bytes → bytes ≢ [] → InOrder library (take used user)
+  unfolding bytes_at
+  named_in_order bytes p filled = go (query_refusal library user used c) refl
     where
-      go : (o : Option Refusal) → queryRefusal library user used c ≡ o → InOrder library (take used user)
-      go none e = asked-in-order e
-      go (some r) e = absurd (filled (p.answered ∙ ap (bytesAt library user) (sym (kept-refused noPart _ e))))
+      go : (o : Option Refusal) → query_refusal library user used c ≡ o → InOrder library (take used user)
+      go none e = asked_in_order e
+      go (some r) e = absurd (filled (p.answered ∙ ap (bytes_at library user) (sym (kept_refused no_part _ e))))
 
-pub reads-in-order : (row : VerdictRow) → ReadsInOrder row
-unfolding judgeRefusal
-reads-in-order row = record {
+pub reads_in_order : (row : VerdictRow) → ReadsInOrder row
+unfolding judge_refusal
+reads_in_order row = record {
   judge = λ library user used after a.
-      order-holds library user used
-      (first-none _ (told-fine (judgeRefusal library user used (row.lines a.before) (length a.scratch)) _ a.promised.answered).0).0;
-  change = changed-in-order row;
-  marks = λ library user used c m p. asked-in-order library user used c (told-fine (queryRefusal library user used c) _ p.answered).0;
-  place = λ library user used c m p. asked-in-order library user used c (told-fine (queryRefusal library user used c) _ p.answered).0;
-  name = named-in-order;
+      order_holds library user used
+      (first_none _ (told_fine (judge_refusal library user used (row.lines a.before) (length a.scratch)) _ a.promised.answered).0).0;
+  change = changed_in_order row;
+  marks = λ library user used c m p. asked_in_order library user used c (told_fine (query_refusal library user used c) _ p.answered).0;
+  place = λ library user used c m p. asked_in_order library user used c (told_fine (query_refusal library user used c) _ p.answered).0;
+  name = named_in_order;
 }

@@ -6,24 +6,24 @@ use Rattle.spec.specs.Promises.{Answer, refused, accepted, Counts, Part}
 use Rattle.kerdzhusi.specs.declared.Reply.{Reply}
 
 -- number | sheet << 8 | byte << 16
-unfoldable pub refusalCode : Refusal → ℕ
-refusalCode r = r.number + 256 * r.sheet + 65536 * r.byte
+unfoldable pub refusal_code : Refusal → ℕ
+refusal_code r = r.number + 256 * r.sheet + 65536 * r.byte
 
 -- a class's number, a count, a set of markers
-unfoldable pub plainValue : ℕ → ℕ
-plainValue n = n
+unfoldable pub plain_value : ℕ → ℕ
+plain_value n = n
 
 -- classes | faulted << 32
-unfoldable pub countsValue : Counts → ℕ
-countsValue c = c.classes + 4294967296 * c.faulted
+unfoldable pub counts_value : Counts → ℕ
+counts_value c = c.classes + 4294967296 * c.faulted
 
 -- sheet | offset << 8 | length << 32
-unfoldable pub partValue : Part → ℕ
-partValue p = p.sheet + 256 * p.start + 4294967296 * p.size
+unfoldable pub part_value : Part → ℕ
+part_value p = p.sheet + 256 * p.start + 4294967296 * p.size
 
-unfoldable pub replyOf : {A : Type 0} → (A → ℕ) → Answer A → Reply
-replyOf value (refused r) = record { status = refusalCode r; value = 0 }
-replyOf value (accepted a) = record { status = 0; value = value a }
+unfoldable pub reply_of : {A : Type 0} → (A → ℕ) → Answer A → Reply
+reply_of value (refused r) = record { status = refusal_code r; value = 0 }
+reply_of value (accepted a) = record { status = 0; value = value a }
 
 -- a refusal's byte has room in its code
 pub record Codable (answer : Answer ℕ) : Type 0 where
@@ -33,4 +33,4 @@ pub record Codable (answer : Answer ℕ) : Type 0 where
 pub record Replies {A : Type 0} (value : A → ℕ) (Promise : Answer A → Type 0) (reply : Reply) : Type 0 where
   pub answer : Answer A
   pub promised : Promise answer
-  pub coded : reply ≡ replyOf value answer
+  pub coded : reply ≡ reply_of value answer

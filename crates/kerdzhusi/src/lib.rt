@@ -4,9 +4,9 @@
 ghost use Rattle.std.specs.Prelude.{◌≡◌, ◌≤◌};
 ghost use Rattle.spec.specs.Promises.{refused, Judges, Adds, Replaces, Withdraws, Marks, Places};
 ghost use Rattle.spec.specs.Verdicts.{flat};
-ghost use Rattle.form.specs.Form.{refusalOf, outcomeAnswer};
+ghost use Rattle.form.specs.Form.{refusal_of, outcome_answer};
 ghost use Rattle.meaning.specs.Canonical.{WritesCanonical};
-ghost use Rattle.kerdzhusi.specs.Codes.{plainValue, countsValue, partValue, replyOf, Codable, Replies};
+ghost use Rattle.kerdzhusi.specs.Codes.{plain_value, counts_value, part_value, reply_of, Codable, Replies};
 
 use verifier::{Judged, Marked, Outcome, Placed, Refusal};
 
@@ -20,7 +20,7 @@ pub struct Reply {
 
 fn refusal(turned: Refusal) -> Reply
     requires { turned.byte ≤ 32768 }
-    ensures { result ≡ replyOf plainValue (refused (refusalOf turned)) }
+    ensures { result ≡ reply_of plain_value (refused (refusal_of turned)) }
 {
     Reply {
         status: turned.number as u64 + 256 * (turned.sheet as u64) + 65536 * (turned.byte as u64),
@@ -30,8 +30,8 @@ fn refusal(turned: Refusal) -> Reply
 
 // What an operation that changes the sheet answers.
 fn outcome(answer: Outcome) -> Reply
-    requires { Codable (outcomeAnswer answer) }
-    ensures { result ≡ replyOf plainValue (outcomeAnswer answer) }
+    requires { Codable (outcome_answer answer) }
+    ensures { result ≡ reply_of plain_value (outcome_answer answer) }
 {
     match answer {
         Outcome::Refused(turned) => refusal(turned),
@@ -50,7 +50,7 @@ pub extern "C" fn kz_judge<'a>(
     verdicts: &mut [u8],
     scratch: &mut [u8],
 ) -> Reply
-    ensures { Replies countsValue (λ a. Judges flat library.now user.now used
+    ensures { Replies counts_value (λ a. Judges flat library.now user.now used
         verdicts.old scratch.old a verdicts.new scratch.new) result }
 {
     let answer = verifier::judge(library, user, used, verdicts, scratch);
@@ -72,7 +72,7 @@ pub extern "C" fn kz_add<'a>(
     verdicts: &mut [u8],
     scratch: &mut [u8],
 ) -> Reply
-    ensures { Replies plainValue (λ a. Adds flat library.now group.now
+    ensures { Replies plain_value (λ a. Adds flat library.now group.now
         (record { user = user.old; used = used.old; verdicts = verdicts.old })
         scratch.old a (record { user = user.new; used = used.new; verdicts = verdicts.new }) scratch.new) result }
 {
@@ -89,7 +89,7 @@ pub extern "C" fn kz_replace<'a>(
     verdicts: &mut [u8],
     scratch: &mut [u8],
 ) -> Reply
-    ensures { Replies plainValue (λ a. Replaces flat library.now class group.now
+    ensures { Replies plain_value (λ a. Replaces flat library.now class group.now
         (record { user = user.old; used = used.old; verdicts = verdicts.old })
         scratch.old a (record { user = user.new; used = used.new; verdicts = verdicts.new }) scratch.new) result }
 {
@@ -103,7 +103,7 @@ pub extern "C" fn kz_withdraw<'a>(
     used: &mut usize,
     verdicts: &mut [u8],
 ) -> Reply
-    ensures { Replies plainValue (λ a. Withdraws flat library.now
+    ensures { Replies plain_value (λ a. Withdraws flat library.now
         (record { user = user.old; used = used.old; verdicts = verdicts.old }) a
         (record { user = user.new; used = used.new; verdicts = verdicts.new })) result }
 {
@@ -112,7 +112,7 @@ pub extern "C" fn kz_withdraw<'a>(
 
 #[unsafe(no_mangle)]
 pub extern "C" fn kz_name<'a>(library: &'a [u8], user: &'a [u8], used: usize, class: usize) -> Reply
-    ensures { Replies partValue (λ a. Places library.now user.now used class a) result }
+    ensures { Replies part_value (λ a. Places library.now user.now used class a) result }
 {
     let answer = verifier::name_place(library, user, used, class);
     match answer {
@@ -131,7 +131,7 @@ pub extern "C" fn kz_marks<'a>(
     used: usize,
     class: usize,
 ) -> Reply
-    ensures { Replies plainValue (λ a. Marks library.now user.now used class a) result }
+    ensures { Replies plain_value (λ a. Marks library.now user.now used class a) result }
 {
     let answer = verifier::marks(library, user, used, class);
     match answer {
@@ -150,7 +150,7 @@ pub extern "C" fn kz_canonical<'a>(
     used: usize,
     out: &mut [u8],
 ) -> Reply
-    ensures { Replies plainValue (λ a. WritesCanonical library.now user.now used out.old a out.new) result }
+    ensures { Replies plain_value (λ a. WritesCanonical library.now user.now used out.old a out.new) result }
 {
     outcome(verifier::canonical(library, user, used, out))
 }

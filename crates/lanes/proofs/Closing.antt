@@ -6,9 +6,9 @@ use Prim.Native.Nat.{ℕ, ◌+◌, ◌*◌, ◌≤◌, ◌<◌}
 use native.Mathlib.Nat.{le_refl}
 use native.Mathlib.Omega.{arith}
 use lib.ListN.{length, get_or}
-use Rattle.lanes.specs.Lanes.{Draws, own, via, entryAt, Sound, Other, Settled, Least, SettledAt, AllSettled, SeedsFit}
-use Rattle.lanes.proofs.Enclosing.{fits-lower, fits-owner}
-use Rattle.lanes.proofs.Chains.{draws-fit}
+use Rattle.lanes.specs.Lanes.{Draws, own, via, entry_at, Sound, Other, Settled, Least, SettledAt, AllSettled, SeedsFit}
+use Rattle.lanes.proofs.Enclosing.{fits_lower, fits_owner}
+use Rattle.lanes.proofs.Chains.{draws_fit}
 
 -- The row s came of the seeds in g by sweeps, of which the last answered a.
 pub record CloseAt (step : ℕ → List ℕ) (outer : ℕ → ℕ) (n lanes : ℕ) (g s : List ℕ) (a : ℕ) : Type 0 where
@@ -18,9 +18,9 @@ pub record CloseAt (step : ℕ → List ℕ) (outer : ℕ → ℕ) (n lanes : �
   pub kept : (i : ℕ) → Other n lanes i → get_or s i 255 ≡ get_or g i 255
   pub settled : a ≡ 0 → AllSettled step outer n lanes s
 
-pub close-start : (step : ℕ → List ℕ) (outer : ℕ → ℕ) (n lanes : ℕ) (g : List ℕ) → SeedsFit outer n lanes g → CloseAt step outer n lanes g g 1
+pub close_start : (step : ℕ → List ℕ) (outer : ℕ → ℕ) (n lanes : ℕ) (g : List ℕ) → SeedsFit outer n lanes g → CloseAt step outer n lanes g g 1
 unfolding Sound SeedsFit
-close-start step outer n lanes g f =
+close_start step outer n lanes g f =
     record {
       long = refl;
       sound = λ k m hk hm v. own refl (f k m hk hm v);
@@ -31,19 +31,19 @@ close-start step outer n lanes g f =
 
 module _ {step : ℕ → List ℕ} {outer : ℕ → ℕ} {n lanes : ℕ} {g s : List ℕ} (few : n ≤ 256) (f : CloseAt step outer n lanes g s 0) where
   -- Along a chain: t has an owner no higher than y, it fits m since y does, and m has taken it.
-  close-least : (k y m : ℕ) → k < lanes → m < n → Draws step outer n (entryAt g k) y m → entryAt s k m ≤ y
+  close_least : (k y m : ℕ) → k < lanes → m < n → Draws step outer n (entry_at g k) y m → entry_at s k m ≤ y
   unfolding Sound AllSettled SettledAt Settled
-  close-least k y m hk hm (own e z) = let d = f.down (k * 256 + m) in omega arith
-  close-least k y m hk hm (via {t = t} z e l d) =
-      let r = close-least k y t hk l d in
-      let b = fits-owner (omega arith) z in
-      let v : entryAt s k t < 255 = omega arith in
-      let w = f.settled refl m hm k t hk e l v (fits-lower r (draws-fit (f.sound k t hk l v)) (draws-fit d) z) in
+  close_least k y m hk hm (own e z) = let d = f.down (k * 256 + m) in omega arith
+  close_least k y m hk hm (via {t = t} z e l d) =
+      let r = close_least k y t hk l d in
+      let b = fits_owner (omega arith) z in
+      let v : entry_at s k t < 255 = omega arith in
+      let w = f.settled refl m hm k t hk e l v (fits_lower r (draws_fit (f.sound k t hk l v)) (draws_fit d) z) in
       omega arith
 
-  close-done : Least step outer n lanes g s
+  close_done : Least step outer n lanes g s
   unfolding Sound
-  close-done = record { sound = f.sound; least = λ k m y hk hm d. close-least k y m hk hm d; down = f.down; kept = f.kept }
+  close_done = record { sound = f.sound; least = λ k m y hk hm d. close_least k y m hk hm d; down = f.down; kept = f.kept }
 
-pub close-end : {step : ℕ → List ℕ} {outer : ℕ → ℕ} {n lanes : ℕ} {g s : List ℕ} {a : ℕ} → n ≤ 256 → CloseAt step outer n lanes g s a → a ≡ 0 → Least step outer n lanes g s
-close-end few f z = close-done few (rw z at f)
+pub close_end : {step : ℕ → List ℕ} {outer : ℕ → ℕ} {n lanes : ℕ} {g s : List ℕ} {a : ℕ} → n ≤ 256 → CloseAt step outer n lanes g s a → a ≡ 0 → Least step outer n lanes g s
+close_end few f z = close_done few (rw z at f)

@@ -12,111 +12,111 @@ use native.Mathlib.Omega.{arith}
 use lib.Dec.{eqb, ltb}
 use lib.ListN.{length, get_or, set, length-set}
 use borrow.Author.Tests.{eq-eqb, ne_eqb, eqb-true, lt-ltb, le-ltb, ltb-true, ltb-false}
-use Rattle.lanes.specs.Lanes.{OwnerFits, entryAt, Settled, Enclosers, fitsRow, eitherOf, lowers, drawn, drew, drawnLanes, drewLanes, lanesOf}
-use Rattle.lanes.proofs.Runs.{run_none, run-then, run-lower, Offered}
+use Rattle.lanes.specs.Lanes.{OwnerFits, entry_at, Settled, Enclosers, fits_row, either_of, lowers, drawn, drew, drawn_lanes, drew_lanes, lanes_of}
+use Rattle.lanes.proofs.Runs.{run_none, run_then, run_lower, Offered}
 
 -- ---- the row of marks says what fits
 
-false-true : {A : Type 0} {b : Bool} → b ≡ false → b ≡ true → A
-false-true p q = absurd (let z : ◌≡◌ {A = Bool} true false = cc in let y : ◌≡◌ {A = ℕ} 0 1 = cc in omega arith)
+false_true : {A : Type 0} {b : Bool} → b ≡ false → b ≡ true → A
+false_true p q = absurd (let z : ◌≡◌ {A = Bool} true false = cc in let y : ◌≡◌ {A = ℕ} 0 1 = cc in omega arith)
 
 both_true : (a b : Bool) → (a && b) ≡ true → (a ≡ true) × (b ≡ true)
 both_true true b e = (refl, e)
-both_true false b e = false-true refl e
+both_true false b e = false_true refl e
 
 module _ (marks : List ℕ) (outer : ℕ → ℕ) (m y : ℕ) (right : Enclosers outer m marks) where
-  pub fits-only : fitsRow marks y ≡ true → OwnerFits outer y m
-  unfolding fitsRow
-  fits-only h = go (ℕ_discrete y 0)
+  pub fits_only : fits_row marks y ≡ true → OwnerFits outer y m
+  unfolding fits_row
+  fits_only h = go (ℕ_discrete y 0)
     where
       go : Dec (y ≡ 0) → OwnerFits outer y m
       go (yes q) = inl q
       go (no q) = inr (right.only y (eqb-true (get_or marks y 0) 1 (rw (ne_eqb y 0 q) at h)))
 
-  pub fits-every : OwnerFits outer y m → fitsRow marks y ≡ true
-  unfolding fitsRow
-  fits-every (inl q) = rw (eq-eqb y 0 q)
-  fits-every (inr i) = rw (eq-eqb (get_or marks y 0) 1 (right.every y i)) (or-true (eqb y 0))
+  pub fits_every : OwnerFits outer y m → fits_row marks y ≡ true
+  unfolding fits_row
+  fits_every (inl q) = rw (eq-eqb y 0 q)
+  fits_every (inr i) = rw (eq-eqb (get_or marks y 0) 1 (right.every y i)) (or-true (eqb y 0))
 
 -- ---- one lane
 
 module _ (marks : List ℕ) (m t k : ℕ) (s : List ℕ) where
   -- the row and the answer, by the test
-  drawn-none : lowers marks m t k s ≡ false → (s ≡ drawn marks m t k s) × (0 ≡ drew marks m t k s)
+  drawn_none : lowers marks m t k s ≡ false → (s ≡ drawn marks m t k s) × (0 ≡ drew marks m t k s)
   unfolding drawn drew
-  drawn-none h = (rw (h, drawn), rw (h, drew))
+  drawn_none h = (rw (h, drawn), rw (h, drew))
 
-  drawn-some : lowers marks m t k s ≡ true → (set s (k * 256 + m) (entryAt s k t) ≡ drawn marks m t k s) × (1 ≡ drew marks m t k s)
+  drawn_some : lowers marks m t k s ≡ true → (set s (k * 256 + m) (entry_at s k t) ≡ drawn marks m t k s) × (1 ≡ drew marks m t k s)
   unfolding drawn drew
-  drawn-some h = (rw (h, drawn), rw (h, drew))
+  drawn_some h = (rw (h, drawn), rw (h, drew))
 
-  drawn-long : length (drawn marks m t k s) ≡ length s
-  drawn-long = go (lowers marks m t k s) refl
+  drawn_long : length (drawn marks m t k s) ≡ length s
+  drawn_long = go (lowers marks m t k s) refl
     where
       go : (b : Bool) → lowers marks m t k s ≡ b → length (drawn marks m t k s) ≡ length s
-      go true e = rw (← (drawn-some e).0) (length-set s (k * 256 + m) (entryAt s k t))
-      go false e = rw (← (drawn-none e).0)
+      go true e = rw (← (drawn_some e).0) (length-set s (k * 256 + m) (entry_at s k t))
+      go false e = rw (← (drawn_none e).0)
 
-  module _ {has new : ℕ} (eh : has ≡ entryAt s k m) (en : new ≡ entryAt s k t) where
-    pub draw-high : has ≤ new → (s ≡ drawn marks m t k s) × (0 ≡ drew marks m t k s)
+  module _ {has new : ℕ} (eh : has ≡ entry_at s k m) (en : new ≡ entry_at s k t) where
+    pub draw_high : has ≤ new → (s ≡ drawn marks m t k s) × (0 ≡ drew marks m t k s)
     unfolding lowers
-    draw-high h = drawn-none (rw (le-ltb (entryAt s k t) (entryAt s k m) (omega arith)))
+    draw_high h = drawn_none (rw (le-ltb (entry_at s k t) (entry_at s k m) (omega arith)))
 
-    pub draw-unfit : fitsRow marks new ≡ false → (s ≡ drawn marks m t k s) × (0 ≡ drew marks m t k s)
+    pub draw_unfit : fits_row marks new ≡ false → (s ≡ drawn marks m t k s) × (0 ≡ drew marks m t k s)
     unfolding lowers
-    draw-unfit h = drawn-none (rw (rw en at h) (and-false (ltb (entryAt s k t) (entryAt s k m))))
+    draw_unfit h = drawn_none (rw (rw en at h) (and-false (ltb (entry_at s k t) (entry_at s k m))))
 
-    pub draw-low : new < has → fitsRow marks new ≡ true → (set s (k * 256 + m) new ≡ drawn marks m t k s) × (1 ≡ drew marks m t k s)
+    pub draw_low : new < has → fits_row marks new ≡ true → (set s (k * 256 + m) new ≡ drawn marks m t k s) × (1 ≡ drew marks m t k s)
     unfolding lowers
-    draw-low h f = rw en (drawn-some (rw (lt-ltb (entryAt s k t) (entryAt s k m) (omega arith)) (rw en at f)))
+    draw_low h f = rw en (drawn_some (rw (lt-ltb (entry_at s k t) (entry_at s k m) (omega arith)) (rw en at f)))
 
 -- ---- all lanes
 
 module _ (marks : List ℕ) (m t : ℕ) (s : List ℕ) where
-  lanes_next : (k : ℕ) → (drawnLanes marks m t (k + 1) s ≡ drawn marks m t k (drawnLanes marks m t k s))
-      × (drewLanes marks m t (k + 1) s ≡ eitherOf (drewLanes marks m t k s) (drew marks m t k (drawnLanes marks m t k s)))
-  unfolding drawnLanes drewLanes
+  lanes_next : (k : ℕ) → (drawn_lanes marks m t (k + 1) s ≡ drawn marks m t k (drawn_lanes marks m t k s))
+      × (drew_lanes marks m t (k + 1) s ≡ either_of (drew_lanes marks m t k s) (drew marks m t k (drawn_lanes marks m t k s)))
+  unfolding drawn_lanes drew_lanes
   lanes_next k = (rw (add-one k), rw (add-one k))
 
-lanes-there : (n lanes t : ℕ) → t < n → lanesOf n lanes t ≡ lanes
-unfolding lanesOf
-lanes-there n lanes t h = rw (lt-ltb t n h, lanesOf)
+lanes_there : (n lanes t : ℕ) → t < n → lanes_of n lanes t ≡ lanes
+unfolding lanes_of
+lanes_there n lanes t h = rw (lt-ltb t n h, lanes_of)
 
-lanes-past : (n lanes t : ℕ) → n ≤ t → lanesOf n lanes t ≡ 0
-unfolding lanesOf
-lanes-past n lanes t h = rw (le-ltb t n h, lanesOf)
+lanes_past : (n lanes t : ℕ) → n ≤ t → lanes_of n lanes t ≡ 0
+unfolding lanes_of
+lanes_past n lanes t h = rw (le-ltb t n h, lanes_of)
 
 -- the row s' and the answer r of all lanes
 abbrev pub Drawn : List ℕ → ℕ → ℕ → ℕ → ℕ → List ℕ → List ℕ → ℕ → Type 0
-Drawn marks n lanes m t s s' r = (s' ≡ drawnLanes marks m t (lanesOf n lanes t) s) × (r ≡ drewLanes marks m t (lanesOf n lanes t) s)
+Drawn marks n lanes m t s s' r = (s' ≡ drawn_lanes marks m t (lanes_of n lanes t) s) × (r ≡ drew_lanes marks m t (lanes_of n lanes t) s)
 
 -- k lanes of t have been drawn from
 pub record DrawAt (marks : List ℕ) (lanes m t : ℕ) (s₀ s : List ℕ) (a k : ℕ) : Type 0 where
   pub within : k ≤ lanes
   pub long : length s ≡ length s₀
-  pub row : s ≡ drawnLanes marks m t k s₀
-  pub answer : a ≡ drewLanes marks m t k s₀
+  pub row : s ≡ drawn_lanes marks m t k s₀
+  pub answer : a ≡ drew_lanes marks m t k s₀
 
-pub draw-start : (marks : List ℕ) (lanes m t : ℕ) (s : List ℕ) → DrawAt marks lanes m t s s 0 0
-unfolding drawnLanes drewLanes
-draw-start marks lanes m t s = record { within = omega arith; long = refl; row = refl; answer = refl }
+pub draw_start : (marks : List ℕ) (lanes m t : ℕ) (s : List ℕ) → DrawAt marks lanes m t s s 0 0
+unfolding drawn_lanes drew_lanes
+draw_start marks lanes m t s = record { within = omega arith; long = refl; row = refl; answer = refl }
 
 module _ {marks : List ℕ} {lanes m t : ℕ} {s₀ s : List ℕ} {a k : ℕ} (f : DrawAt marks lanes m t s₀ s a k) where
-  pub draw-next : {s' : List ℕ} {b r : ℕ} → k < lanes → (s' ≡ drawn marks m t k s) × (b ≡ drew marks m t k s) → r ≡ eitherOf a b → length s' ≡ length s
+  pub draw_next : {s' : List ℕ} {b r : ℕ} → k < lanes → (s' ≡ drawn marks m t k s) × (b ≡ drew marks m t k s) → r ≡ either_of a b → length s' ≡ length s
       → DrawAt marks lanes m t s₀ s' r (k + 1)
-  draw-next h q e l = record {
+  draw_next h q e l = record {
     within = omega arith;
     long = l ∙ f.long;
     row = rw ((lanes_next marks m t s₀ k).0, ← f.row) q.0;
     answer = rw ((lanes_next marks m t s₀ k).1, ← f.row, ← f.answer, ← q.1) e;
   }
 
-  pub draw-end : {n : ℕ} → lanes ≤ k → t < n → Drawn marks n lanes m t s₀ s a
-  draw-end {n} h l = let e : lanesOf n lanes t ≡ k = lanes-there n lanes t l ∙ omega (arith, f.within) in rw e (f.row, f.answer)
+  pub draw_end : {n : ℕ} → lanes ≤ k → t < n → Drawn marks n lanes m t s₀ s a
+  draw_end {n} h l = let e : lanes_of n lanes t ≡ k = lanes_there n lanes t l ∙ omega (arith, f.within) in rw e (f.row, f.answer)
 
-pub draw-past : (marks : List ℕ) (n lanes m t : ℕ) (s : List ℕ) → n ≤ t → Drawn marks n lanes m t s s 0
-unfolding drawnLanes drewLanes
-draw-past marks n lanes m t s h = rw (lanes-past n lanes t h) (refl, refl)
+pub draw_past : (marks : List ℕ) (n lanes m t : ℕ) (s : List ℕ) → n ≤ t → Drawn marks n lanes m t s s 0
+unfolding drawn_lanes drew_lanes
+draw_past marks n lanes m t s h = rw (lanes_past n lanes t h) (refl, refl)
 
 -- ---- what it does for the search
 
@@ -126,18 +126,18 @@ module _ {marks : List ℕ} {n lanes m t : ℕ} (few : n ≤ 256) (hm : m < n) w
     unfolding Settled lowers
     stays h = record { run = λ step outer e g. run_none s (λ j q a b c. rw q (settled outer g (rw q at c))) }
       where
-        settled : (outer : ℕ → ℕ) → Enclosers outer m marks → OwnerFits outer (entryAt s k t) m → entryAt s k m ≤ entryAt s k t
-        settled outer g c = ltb-false (entryAt s k t) (entryAt s k m) (rw (fits-every marks outer m (entryAt s k t) g c, and-true) at h)
+        settled : (outer : ℕ → ℕ) → Enclosers outer m marks → OwnerFits outer (entry_at s k t) m → entry_at s k m ≤ entry_at s k t
+        settled outer g c = ltb-false (entry_at s k t) (entry_at s k m) (rw (fits_every marks outer m (entry_at s k t) g c, and-true) at h)
 
-    takes : lowers marks m t k s ≡ true → Offered marks n lanes m t (λ j. j ≡ k) s (set s (k * 256 + m) (entryAt s k t)) 1
+    takes : lowers marks m t k s ≡ true → Offered marks n lanes m t (λ j. j ≡ k) s (set s (k * 256 + m) (entry_at s k t)) 1
     unfolding lowers
     takes h =
-        let w = both_true (ltb (entryAt s k t) (entryAt s k m)) (fitsRow marks (entryAt s k t)) h in
+        let w = both_true (ltb (entry_at s k t) (entry_at s k m)) (fits_row marks (entry_at s k t)) h in
         record {
           run = λ step outer e g.
-              run-lower step outer n lanes s k m t few hk hm ht long (λ s. (j : ℕ) → j ≡ k → Settled outer n j m s t)
-              (ltb-true (entryAt s k t) (entryAt s k m) w.0)
-              (fits-only marks outer m (entryAt s k t) g w.1)
+              run_lower step outer n lanes s k m t few hk hm ht long (λ s. (j : ℕ) → j ≡ k → Settled outer n j m s t)
+              (ltb-true (entry_at s k t) (entry_at s k m) w.0)
+              (fits_only marks outer m (entry_at s k t) g w.1)
               e;
         }
 
@@ -145,37 +145,37 @@ module _ {marks : List ℕ} {n lanes m t : ℕ} (few : n ≤ 256) (hm : m < n) w
     one_lane = go (lowers marks m t k s) refl
       where
         go : (b : Bool) → lowers marks m t k s ≡ b → Offered marks n lanes m t (λ j. j ≡ k) s (drawn marks m t k s) (drew marks m t k s)
-        go true e = rw (← (drawn-some marks m t k s e).0, ← (drawn-some marks m t k s e).1) (takes e)
-        go false e = rw (← (drawn-none marks m t k s e).0, ← (drawn-none marks m t k s e).1) (stays e)
+        go true e = rw (← (drawn_some marks m t k s e).0, ← (drawn_some marks m t k s e).1) (takes e)
+        go false e = rw (← (drawn_none marks m t k s e).0, ← (drawn_none marks m t k s e).1) (stays e)
 
-  then-lane : {s₀ s s' : List ℕ} {k a b : ℕ} → Offered marks n lanes m t (λ j. j < k) s₀ s a → Offered marks n lanes m t (λ j. j ≡ k) s s' b
-      → Offered marks n lanes m t (λ j. j < suc k) s₀ s' (eitherOf a b)
-  then-lane {k = k} f h =
+  then_lane : {s₀ s s' : List ℕ} {k a b : ℕ} → Offered marks n lanes m t (λ j. j < k) s₀ s a → Offered marks n lanes m t (λ j. j ≡ k) s s' b
+      → Offered marks n lanes m t (λ j. j < suc k) s₀ s' (either_of a b)
+  then_lane {k = k} f h =
       record {
         run = λ step outer x g.
-            run-then (λ s. (j : ℕ) → j < suc k → Settled outer n j m s t) (f.run step outer x g) (h.run step outer x g) refl
+            run_then (λ s. (j : ℕ) → j < suc k → Settled outer n j m s t) (f.run step outer x g) (h.run step outer x g) refl
             (λ p q j l. ⊎_elim (λ z. q j z) (λ z. p j z) (eq-or-lt_of_le (le_of_suc-le-suc l)));
       }
 
   module _ (s : List ℕ) (long : lanes * 256 ≤ length s) where
-    first-lanes : t < n → (k : ℕ) → k ≤ lanes
-        → (length (drawnLanes marks m t k s) ≡ length s) × Offered marks n lanes m t (λ j. j < k) s (drawnLanes marks m t k s) (drewLanes marks m t k s)
-    unfolding drawnLanes drewLanes
-    first-lanes ht zero h = (refl, record { run = λ step outer e g. run_none s (λ j q. absurd (not-suc-le-zero q)) })
-    first-lanes ht (suc k) h =
-        let w = first-lanes ht k (omega arith) in
-        let s' = drawnLanes marks m t k s in
-        (drawn-long marks m t k s' ∙ w.0, then-lane w.1 (one_lane ht s' (omega (arith, w.0)) k (omega arith)))
+    first_lanes : t < n → (k : ℕ) → k ≤ lanes
+        → (length (drawn_lanes marks m t k s) ≡ length s) × Offered marks n lanes m t (λ j. j < k) s (drawn_lanes marks m t k s) (drew_lanes marks m t k s)
+    unfolding drawn_lanes drew_lanes
+    first_lanes ht zero h = (refl, record { run = λ step outer e g. run_none s (λ j q. absurd (not-suc-le-zero q)) })
+    first_lanes ht (suc k) h =
+        let w = first_lanes ht k (omega arith) in
+        let s' = drawn_lanes marks m t k s in
+        (drawn_long marks m t k s' ∙ w.0, then_lane w.1 (one_lane ht s' (omega (arith, w.0)) k (omega arith)))
 
     -- a number that is no class has nothing to offer
-    no-lanes : n ≤ t → Offered marks n lanes m t (λ j. j < lanes) s s 0
+    no_lanes : n ≤ t → Offered marks n lanes m t (λ j. j < lanes) s s 0
     unfolding Settled
-    no-lanes h = record { run = λ step outer e g. run_none s (λ j q a b c. absurd (omega arith)) }
+    no_lanes h = record { run = λ step outer e g. run_none s (λ j q a b c. absurd (omega arith)) }
 
     pub offered : {s' : List ℕ} {r : ℕ} → Drawn marks n lanes m t s s' r → Offered marks n lanes m t (λ j. j < lanes) s s' r
-    unfolding drawnLanes drewLanes
+    unfolding drawn_lanes drew_lanes
     offered q = rw (q.0, q.1) (go (ltb t n) refl)
       where
-        go : (b : Bool) → ltb t n ≡ b → Offered marks n lanes m t (λ j. j < lanes) s (drawnLanes marks m t (lanesOf n lanes t) s) (drewLanes marks m t (lanesOf n lanes t) s)
-        go true e = let h = ltb-true t n e in rw (lanes-there n lanes t h) (first-lanes h lanes (le_refl lanes)).1
-        go false e = let h = ltb-false t n e in rw (lanes-past n lanes t h) (no-lanes h)
+        go : (b : Bool) → ltb t n ≡ b → Offered marks n lanes m t (λ j. j < lanes) s (drawn_lanes marks m t (lanes_of n lanes t) s) (drew_lanes marks m t (lanes_of n lanes t) s)
+        go true e = let h = ltb-true t n e in rw (lanes_there n lanes t h) (first_lanes h lanes (le_refl lanes)).1
+        go false e = let h = ltb-false t n e in rw (lanes_past n lanes t h) (no_lanes h)

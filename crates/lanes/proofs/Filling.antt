@@ -19,14 +19,14 @@ get_d_replicate (suc k) x d zero h = refl
 get_d_replicate (suc k) x d (suc i) h = get_d_replicate k x d i (omega arith)
 
 module _ (k x : ℕ) (before : List ℕ) (room : k ≤ length before) where
-  pub filled-long : length (replicate k x ++ drop k before) ≡ length before
-  filled-long = length-append (replicate k x) (drop k before) ∙ omega (arith, length-replicate {A = ℕ} k x, length-drop k before)
+  pub filled_long : length (replicate k x ++ drop k before) ≡ length before
+  filled_long = length-append (replicate k x) (drop k before) ∙ omega (arith, length-replicate {A = ℕ} k x, length-drop k before)
 
-  pub filled-new : (d i : ℕ) → i < k → get_or (replicate k x ++ drop k before) i d ≡ x
-  filled-new d i h = get_or-append (replicate k x) (drop k before) d i (omega (arith, length-replicate {A = ℕ} k x)) ∙ get_d_replicate k x d i h
+  pub filled_new : (d i : ℕ) → i < k → get_or (replicate k x ++ drop k before) i d ≡ x
+  filled_new d i h = get_or-append (replicate k x) (drop k before) d i (omega (arith, length-replicate {A = ℕ} k x)) ∙ get_d_replicate k x d i h
 
-  pub filled-kept : (d i : ℕ) → k ≤ i → get_or (replicate k x ++ drop k before) i d ≡ get_or before i d
-  filled-kept d i h =
+  pub filled_kept : (d i : ℕ) → k ≤ i → get_or (replicate k x ++ drop k before) i d ≡ get_or before i d
+  filled_kept d i h =
       let j : length (replicate k x) + (i - k) ≡ i = omega (arith, length-replicate {A = ℕ} k x) in
       let e : k + (i - k) ≡ i = omega arith in
       ap (λ (m : ℕ). get_or (replicate k x ++ drop k before) m d) (sym j) ∙ get_or-append-add (replicate k x) (drop k before) (i - k) d

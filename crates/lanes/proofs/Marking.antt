@@ -10,21 +10,21 @@ use native.Mathlib.Omega.{arith}
 use lib.Dec.{ltb}
 use lib.ListN.{length, get_or, set, replicate, length-set, length-replicate}
 use borrow.Author.Tests.{lt-ltb, le-ltb, ltb-true, ltb-false}
-use Rattle.lanes.specs.Lanes.{Nested, direct, Enclosers, markedUp}
-use Rattle.lanes.proofs.Rows.{zeros, marked_by, marked-still}
-use Rattle.lanes.proofs.Enclosing.{inside-trans, inside-up, inside-none}
+use Rattle.lanes.specs.Lanes.{Nested, direct, Enclosers, marked_up}
+use Rattle.lanes.proofs.Rows.{zeros, marked_by, marked_still}
+use Rattle.lanes.proofs.Enclosing.{inside_trans, inside_up, inside_none}
 
 -- ---- the row
 
 module _ (outer : ℕ → ℕ) (c : ℕ) (row : List ℕ) where
-  up_more : (left : ℕ) → outer c < c → markedUp outer (suc left) c row ≡ markedUp outer left (outer c) (set row (outer c) 1)
-  unfolding markedUp
-  up_more left h = rw (lt-ltb (outer c) c h, markedUp)
+  up_more : (left : ℕ) → outer c < c → marked_up outer (suc left) c row ≡ marked_up outer left (outer c) (set row (outer c) 1)
+  unfolding marked_up
+  up_more left h = rw (lt-ltb (outer c) c h, marked_up)
 
-  up_none : (left : ℕ) → c ≤ outer c → markedUp outer left c row ≡ row
-  unfolding markedUp
+  up_none : (left : ℕ) → c ≤ outer c → marked_up outer left c row ≡ row
+  unfolding marked_up
   up_none zero h = refl
-  up_none (suc left) h = rw (le-ltb (outer c) c h, markedUp)
+  up_none (suc left) h = rw (le-ltb (outer c) c h, marked_up)
 
 -- The walk stands at c, whose encloser is e: what is left of it makes the whole row.
 pub record MarkAt (outer : ℕ → ℕ) (m : ℕ) (row₀ row : List ℕ) (c e : ℕ) : Type 0 where
@@ -33,16 +33,16 @@ pub record MarkAt (outer : ℕ → ℕ) (m : ℕ) (row₀ row : List ℕ) (c e :
   pub low : c ≤ m
   pub left : ℕ
   pub enough : c ≤ left
-  pub rest : markedUp outer left c row ≡ markedUp outer m m row₀
+  pub rest : marked_up outer left c row ≡ marked_up outer m m row₀
 
-pub mark-start : {outer : ℕ → ℕ} {m : ℕ} (row : List ℕ) {e : ℕ} → e ≡ outer m → MarkAt outer m row row m e
-mark-start {m = m} row q = record { long = refl; here = q; low = le_refl m; left = m; enough = le_refl m; rest = refl }
+pub mark_start : {outer : ℕ → ℕ} {m : ℕ} (row : List ℕ) {e : ℕ} → e ≡ outer m → MarkAt outer m row row m e
+mark_start {m = m} row q = record { long = refl; here = q; low = le_refl m; left = m; enough = le_refl m; rest = refl }
 
 module _ {outer : ℕ → ℕ} {m : ℕ} {row₀ row : List ℕ} {c e : ℕ} (f : MarkAt outer m row₀ row c e) where
-  pub mark-next : {e' : ℕ} → e < c → e' ≡ outer e → MarkAt outer m row₀ (set row e 1) e e'
-  mark-next {e'} h q = go f.left f.enough f.rest
+  pub mark_next : {e' : ℕ} → e < c → e' ≡ outer e → MarkAt outer m row₀ (set row e 1) e e'
+  mark_next {e'} h q = go f.left f.enough f.rest
     where
-      go : (left : ℕ) → c ≤ left → markedUp outer left c row ≡ markedUp outer m m row₀ → MarkAt outer m row₀ (set row e 1) e e'
+      go : (left : ℕ) → c ≤ left → marked_up outer left c row ≡ marked_up outer m m row₀ → MarkAt outer m row₀ (set row e 1) e e'
       go zero l r = absurd (omega arith)
       go (suc left) l r = record {
         long = length-set row e 1 ∙ f.long;
@@ -53,8 +53,8 @@ module _ {outer : ℕ → ℕ} {m : ℕ} {row₀ row : List ℕ} {c e : ℕ} (f 
         rest = rw f.here (sym (up_more outer c row left (omega (arith, f.here))) ∙ r);
       }
 
-  pub mark-end : c ≤ e → row ≡ markedUp outer m m row₀
-  mark-end h = sym (up_none outer c row f.left (omega (arith, f.here))) ∙ f.rest
+  pub mark_end : c ≤ e → row ≡ marked_up outer m m row₀
+  mark_end h = sym (up_none outer c row f.left (omega (arith, f.here))) ∙ f.rest
 
 -- ---- what is marked
 
@@ -76,7 +76,7 @@ module _ {outer : ℕ → ℕ} {m : ℕ} {row₀ row : List ℕ} {c e : ℕ} (f 
   up_next h b q =
       let l : e < length row = omega (arith, f.long, f.low) in
       let above : Nested outer e c = direct (sym f.here) h in
-      let i : Nested outer e m = ⊎_elim (λ p. subst (Nested outer e) p above) (λ j. inside-trans above j) f.chain in
+      let i : Nested outer e m = ⊎_elim (λ p. subst (Nested outer e) p above) (λ j. inside_trans above j) f.chain in
       record {
         long = length-set row e 1 ∙ f.long;
         here = q;
@@ -84,27 +84,27 @@ module _ {outer : ℕ → ℕ} {m : ℕ} {row₀ row : List ℕ} {c e : ℕ} (f 
         chain = inr i;
         only = λ x y. ⊎_elim (λ p. subst (λ (z : ℕ). Nested outer z m) (sym p) i) (λ o. f.only x o) (marked_by row e x y);
         every = λ x y.
-            ⊎_elim (λ o. inl (marked-still row e x l (inr o)))
-            (λ j. ⊎_elim (λ p. inl (marked-still row e x l (inl p))) (λ o. inr o) (inside-up f.here j))
+            ⊎_elim (λ o. inl (marked_still row e x l (inr o)))
+            (λ j. ⊎_elim (λ p. inl (marked_still row e x l (inl p))) (λ o. inr o) (inside_up f.here j))
             (f.every x y);
       }
 
-  pub up-end : c ≤ e → Enclosers outer m row
-  up-end h = record { only = f.only; every = λ x i. ⊎_elim (λ o. o) (λ j. absurd (inside-none f.here h j)) (f.every x i) }
+  pub up_end : c ≤ e → Enclosers outer m row
+  up_end h = record { only = f.only; every = λ x i. ⊎_elim (λ o. o) (λ j. absurd (inside_none f.here h j)) (f.every x i) }
 
 module _ {outer : ℕ → ℕ} {m : ℕ} {row₀ : List ℕ} (room : m ≤ length row₀) where
-  up-all : (left c : ℕ) (row : List ℕ) → c ≤ left → Up outer m row₀ row c (outer c) → Enclosers outer m (markedUp outer left c row)
-  unfolding markedUp
-  up-all zero c row l f = up-end f (omega arith)
-  up-all (suc left) c row l f = go (ltb (outer c) c) refl (up-all left (outer c) (set row (outer c) 1))
+  up_all : (left c : ℕ) (row : List ℕ) → c ≤ left → Up outer m row₀ row c (outer c) → Enclosers outer m (marked_up outer left c row)
+  unfolding marked_up
+  up_all zero c row l f = up_end f (omega arith)
+  up_all (suc left) c row l f = go (ltb (outer c) c) refl (up_all left (outer c) (set row (outer c) 1))
     where
       go : (b : Bool) → ltb (outer c) c ≡ b
-          → (outer c ≤ left → Up outer m row₀ (set row (outer c) 1) (outer c) (outer (outer c)) → Enclosers outer m (markedUp outer left (outer c) (set row (outer c) 1)))
-          → Enclosers outer m (markedUp outer (suc left) c row)
+          → (outer c ≤ left → Up outer m row₀ (set row (outer c) 1) (outer c) (outer (outer c)) → Enclosers outer m (marked_up outer left (outer c) (set row (outer c) 1)))
+          → Enclosers outer m (marked_up outer (suc left) c row)
       go true e more = let h = ltb-true (outer c) c e in rw (up_more outer c row left h) (more (omega arith) (up_next f h room refl))
-      go false e more = let h = ltb-false (outer c) c e in rw (up_none outer c row (suc left) h) (up-end f h)
+      go false e more = let h = ltb-false (outer c) c e in rw (up_none outer c row (suc left) h) (up_end f h)
 
 -- in a row of zeros just the enclosers are marked
-pub marks-enclosers : {outer : ℕ → ℕ} {m : ℕ} (k : ℕ) {row : List ℕ} → m ≤ k → row ≡ markedUp outer m m (replicate k 0) → Enclosers outer m row
-marks-enclosers {outer} {m} k h q =
-    rw q (up-all (omega (arith, length-replicate {A = ℕ} k 0)) m m (replicate k 0) (le_refl m) (up_start outer m (replicate k 0) (outer m) (zeros k) refl))
+pub marks_enclosers : {outer : ℕ → ℕ} {m : ℕ} (k : ℕ) {row : List ℕ} → m ≤ k → row ≡ marked_up outer m m (replicate k 0) → Enclosers outer m row
+marks_enclosers {outer} {m} k h q =
+    rw q (up_all (omega (arith, length-replicate {A = ℕ} k 0)) m m (replicate k 0) (le_refl m) (up_start outer m (replicate k 0) (outer m) (zeros k) refl))

@@ -9,7 +9,7 @@ use native.Mathlib.Decide.{ℕ_discrete}
 use native.Mathlib.Omega.{arith}
 use lib.ListN.{length, get_or, set, replicate}
 use lib.Seq.{get_or-set_same, get_or-set_other}
-use Rattle.lanes.specs.Lanes.{sumOf}
+use Rattle.lanes.specs.Lanes.{sum_of}
 
 -- inside a row the default does not matter
 pub get_d_any : (s : List ℕ) (i d e : ℕ) → i < length s → get_or s i d ≡ get_or s i e
@@ -31,8 +31,8 @@ marked_by s i x h = go (ℕ_discrete x i)
     go (yes q) = inl q
     go (no q) = inr (sym (get_or-set_other s i x 1 0 q) ∙ h)
 
-pub marked-still : (s : List ℕ) (i x : ℕ) → i < length s → (x ≡ i) ⊎ (get_or s x 0 ≡ 1) → get_or (set s i 1) x 0 ≡ 1
-marked-still s i x l h = go (ℕ_discrete x i) h
+pub marked_still : (s : List ℕ) (i x : ℕ) → i < length s → (x ≡ i) ⊎ (get_or s x 0 ≡ 1) → get_or (set s i 1) x 0 ≡ 1
+marked_still s i x l h = go (ℕ_discrete x i) h
   where
     go : Dec (x ≡ i) → (x ≡ i) ⊎ (get_or s x 0 ≡ 1) → get_or (set s i 1) x 0 ≡ 1
     go (yes q) h = rw q (get_or-set_same s i 1 0 l)
@@ -41,8 +41,8 @@ marked-still s i x l h = go (ℕ_discrete x i) h
 
 -- ---- an entry is written
 
-pub sum-set : (s : List ℕ) (i x : ℕ) → i < length s → sumOf (set s i x) + get_or s i 255 ≡ sumOf s + x
-unfolding sumOf
-sum-set [] i x h = absurd (not-suc-le-zero h)
-sum-set (y ∷ s) zero x h = omega arith
-sum-set (y ∷ s) (suc i) x h = let r = sum-set s i x (le_of_suc-le-suc h) in omega arith
+pub sum_set : (s : List ℕ) (i x : ℕ) → i < length s → sum_of (set s i x) + get_or s i 255 ≡ sum_of s + x
+unfolding sum_of
+sum_set [] i x h = absurd (not-suc-le-zero h)
+sum_set (y ∷ s) zero x h = omega arith
+sum_set (y ∷ s) (suc i) x h = let r = sum_set s i x (le_of_suc-le-suc h) in omega arith

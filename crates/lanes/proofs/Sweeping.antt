@@ -8,46 +8,46 @@ use Prim.Native.Nat.{ℕ, ◌+◌, ◌≤◌, ◌<◌}
 use native.Mathlib.Nat.{le_of_suc-le-suc, eq-or-lt_of_le}
 use native.Mathlib.Omega.{arith}
 use lib.ListN.{length}
-use Rattle.lanes.specs.Lanes.{Run, SettledAt, AllSettled, eitherOf, sweptOf}
-use Rattle.lanes.proofs.Runs.{run-then, run_only}
+use Rattle.lanes.specs.Lanes.{Run, SettledAt, AllSettled, either_of, swept_of}
+use Rattle.lanes.proofs.Runs.{run_then, run_only}
 
 -- ---- the order: each class has its turn
 
-place-back : (up : Bool) (n m : ℕ) → m < n → sweptOf up n (sweptOf up n m) ≡ m
-unfolding sweptOf
-place-back true n m h = refl
-place-back false n m h = omega arith
+place_back : (up : Bool) (n m : ℕ) → m < n → swept_of up n (swept_of up n m) ≡ m
+unfolding swept_of
+place_back true n m h = refl
+place_back false n m h = omega arith
 
-pub place-low : (up : Bool) (n m : ℕ) → m < n → sweptOf up n m < n
-unfolding sweptOf
-place-low true n m h = h
-place-low false n m h = omega arith
+pub place_low : (up : Bool) (n m : ℕ) → m < n → swept_of up n m < n
+unfolding swept_of
+place_low true n m h = h
+place_low false n m h = omega arith
 
 -- ---- the sweep: the first i classes of the order have drawn
 
 pub record SweepAt (step : ℕ → List ℕ) (outer : ℕ → ℕ) (n lanes : ℕ) (up : Bool) (s₀ s : List ℕ) (a i : ℕ) : Type 0 where
   pub long : length s ≡ length s₀
-  pub run : Run step outer n lanes (λ s. (j : ℕ) → j < i → SettledAt step outer n lanes (sweptOf up n j) s) s₀ s a
+  pub run : Run step outer n lanes (λ s. (j : ℕ) → j < i → SettledAt step outer n lanes (swept_of up n j) s) s₀ s a
 
 module _ {step : ℕ → List ℕ} {outer : ℕ → ℕ} {n lanes : ℕ} {up : Bool} {s₀ s : List ℕ} {a i : ℕ} (f : SweepAt step outer n lanes up s₀ s a i) where
-  pub sweep-next : {s' : List ℕ} {m b r : ℕ} → m ≡ sweptOf up n i → Run step outer n lanes (SettledAt step outer n lanes m) s s' b → r ≡ eitherOf a b
+  pub sweep_next : {s' : List ℕ} {m b r : ℕ} → m ≡ swept_of up n i → Run step outer n lanes (SettledAt step outer n lanes m) s s' b → r ≡ either_of a b
       → length s' ≡ length s → SweepAt step outer n lanes up s₀ s' r (i + 1)
-  sweep-next q h e l =
+  sweep_next q h e l =
       record {
         long = l ∙ f.long;
-        run = run-then
-            (λ s. (j : ℕ) → j < i + 1 → SettledAt step outer n lanes (sweptOf up n j) s)
+        run = run_then
+            (λ s. (j : ℕ) → j < i + 1 → SettledAt step outer n lanes (swept_of up n j) s)
             f.run
             h
             e
             (λ p w j y.
-            ⊎_elim (λ z. subst (λ (x : ℕ). SettledAt step outer n lanes x s₀) (q ∙ ap (sweptOf up n) (sym z)) w) (λ z. p j z) (eq-or-lt_of_le (le_of_suc-le-suc (omega arith))));
+            ⊎_elim (λ z. subst (λ (x : ℕ). SettledAt step outer n lanes x s₀) (q ∙ ap (swept_of up n) (sym z)) w) (λ z. p j z) (eq-or-lt_of_le (le_of_suc-le-suc (omega arith))));
       }
 
-  pub sweep-end : n ≤ i → Run step outer n lanes (AllSettled step outer n lanes) s₀ s a
+  pub sweep_end : n ≤ i → Run step outer n lanes (AllSettled step outer n lanes) s₀ s a
   unfolding AllSettled
-  sweep-end h =
+  sweep_end h =
       run_only (AllSettled step outer n lanes) f.run
       (λ p m l.
-      let b = place-low up n m l in
-      subst (λ (x : ℕ). SettledAt step outer n lanes x s₀) (place-back up n m l) (p (sweptOf up n m) (omega arith)))
+      let b = place_low up n m l in
+      subst (λ (x : ℕ). SettledAt step outer n lanes x s₀) (place_back up n m l) (p (swept_of up n m) (omega arith)))

@@ -6,8 +6,8 @@ use mathlib.Core.List.{List, [], ◌∷◌, Memᴰ}
 use mathlib.Core.Logic.{⊎_elim}
 use Prim.Native.Nat.{ℕ, ◌<◌}
 use lib.ListN.{length}
-use Rattle.lanes.specs.Lanes.{Settled, Run, SettledAt, Enclosers, eitherOf}
-use Rattle.lanes.proofs.Runs.{run_none, run-then, run_only, Offered}
+use Rattle.lanes.specs.Lanes.{Settled, Run, SettledAt, Enclosers, either_of}
+use Rattle.lanes.proofs.Runs.{run_none, run_then, run_only, Offered}
 
 -- The steps of m to the classes `rest` are still to be taken: if m is settled with these, it is settled.
 pub record VisitAt (step : ℕ → List ℕ) (outer : ℕ → ℕ) (n lanes m : ℕ) (marks s₀ s rest : List ℕ) (a : ℕ) : Type 0 where
@@ -17,10 +17,10 @@ pub record VisitAt (step : ℕ → List ℕ) (outer : ℕ → ℕ) (n lanes m : 
   pub part : (t : ℕ) → Memᴰ t rest → Memᴰ t (step m)
   pub run : Run step outer n lanes (λ s. ((k t : ℕ) → k < lanes → Memᴰ t rest → Settled outer n k m s t) → SettledAt step outer n lanes m s) s₀ s a
 
-pub visit-start : (step : ℕ → List ℕ) (outer : ℕ → ℕ) (n lanes m : ℕ) (marks s : List ℕ) → length marks ≡ 256 → Enclosers outer m marks → (rest : List ℕ)
+pub visit_start : (step : ℕ → List ℕ) (outer : ℕ → ℕ) (n lanes m : ℕ) (marks s : List ℕ) → length marks ≡ 256 → Enclosers outer m marks → (rest : List ℕ)
     → rest ≡ step m → VisitAt step outer n lanes m marks s s rest 0
 unfolding SettledAt
-visit-start step outer n lanes m marks s w g rest q =
+visit_start step outer n lanes m marks s w g rest q =
     record {
       long = refl;
       wide = w;
@@ -30,15 +30,15 @@ visit-start step outer n lanes m marks s w g rest q =
     }
 
 module _ {step : ℕ → List ℕ} {outer : ℕ → ℕ} {n lanes m : ℕ} {marks s₀ s rest : List ℕ} {a : ℕ} (f : VisitAt step outer n lanes m marks s₀ s rest a) where
-  pub visit-next : {s' rest' : List ℕ} {t b r : ℕ} → rest ≡ t ∷ rest' → Offered marks n lanes m t (λ j. j < lanes) s s' b → r ≡ eitherOf a b → length s' ≡ length s
+  pub visit_next : {s' rest' : List ℕ} {t b r : ℕ} → rest ≡ t ∷ rest' → Offered marks n lanes m t (λ j. j < lanes) s s' b → r ≡ either_of a b → length s' ≡ length s
       → VisitAt step outer n lanes m marks s₀ s' rest' r
-  visit-next {s'} {rest'} {t} q o e l =
+  visit_next {s'} {rest'} {t} q o e l =
       record {
         long = l ∙ f.long;
         wide = f.wide;
         right = f.right;
         part = λ u x. f.part u (rw q (Memᴰ.tail x));
-        run = run-then
+        run = run_then
             (λ s. ((k t : ℕ) → k < lanes → Memᴰ t rest' → Settled outer n k m s t) → SettledAt step outer n lanes m s)
             f.run
             (o.run step outer (f.part t (rw q (Memᴰ.head refl))) f.right)
@@ -46,5 +46,5 @@ module _ {step : ℕ → List ℕ} {outer : ℕ → ℕ} {n lanes m : ℕ} {mark
             (λ p w h. p (λ k u kl x. ⊎_elim (λ z. subst (Settled outer n k m s₀) (sym z) (w k kl)) (λ y. h k u kl y) (Memᴰ.cases_cons (rw q at x))));
       }
 
-  pub visit-end : rest ≡ [] → Run step outer n lanes (SettledAt step outer n lanes m) s₀ s a
-  visit-end q = run_only (SettledAt step outer n lanes m) f.run (λ p. p (λ k t l x. absurd (Memᴰ.not-nil (rw q at x))))
+  pub visit_end : rest ≡ [] → Run step outer n lanes (SettledAt step outer n lanes m) s₀ s a
+  visit_end q = run_only (SettledAt step outer n lanes m) f.run (λ p. p (λ k t l x. absurd (Memᴰ.not-nil (rw q at x))))

@@ -24,23 +24,23 @@ pub record Enclosers (outer : ℕ → ℕ) (m : ℕ) (marks : List ℕ) : Type 0
   pub every : (x : ℕ) → Nested outer x m → get_or marks x 0 ≡ 1
 
 -- the row with 1 written at each class that a walk up from class c comes to, in at most `left` steps
-unfoldable pub markedUp : (ℕ → ℕ) → ℕ → ℕ → List ℕ → List ℕ
-markedUp outer zero c row = row
-markedUp outer (suc left) c row = elim (ltb (outer c) c) [ true ↦ markedUp outer left (outer c) (set row (outer c) 1) | false ↦ row ]
+unfoldable pub marked_up : (ℕ → ℕ) → ℕ → ℕ → List ℕ → List ℕ
+marked_up outer zero c row = row
+marked_up outer (suc left) c row = elim (ltb (outer c) c) [ true ↦ marked_up outer left (outer c) (set row (outer c) 1) | false ↦ row ]
 
 -- m may have the owner y: an encloser of m, or 0, which any class may have: it is the mark in a search for dependents
 abbrev pub OwnerFits : (ℕ → ℕ) → ℕ → ℕ → Type 0
 OwnerFits outer y m = (y ≡ 0) ⊎ Nested outer y m
 
 -- the same, asked of a row of marks
-unfoldable pub fitsRow : List ℕ → ℕ → Bool
-fitsRow marks y = eqb y 0 || eqb (get_or marks y 0) 1
+unfoldable pub fits_row : List ℕ → ℕ → Bool
+fits_row marks y = eqb y 0 || eqb (get_or marks y 0) 1
 
 -- ---- what is to be found
 
 -- the owner of class m in lane k
-abbrev pub entryAt : List ℕ → ℕ → ℕ → ℕ
-entryAt s k m = get_or s (k * 256 + m) 255
+abbrev pub entry_at : List ℕ → ℕ → ℕ → ℕ
+entry_at s k m = get_or s (k * 256 + m) 255
 
 -- a chain of steps leads from m to a class whose seed is y, and y fits each class on it
 pub data Draws (step : ℕ → List ℕ) (outer : ℕ → ℕ) (n : ℕ) (seed : ℕ → ℕ) (y : ℕ) : ℕ → Type 0 where
@@ -49,11 +49,11 @@ pub data Draws (step : ℕ → List ℕ) (outer : ℕ → ℕ) (n : ℕ) (seed :
 
 -- each seed in the row g fits its class
 unfoldable pub SeedsFit : (ℕ → ℕ) → ℕ → ℕ → List ℕ → Type 0
-SeedsFit outer n lanes g = (k m : ℕ) → k < lanes → m < n → entryAt g k m < 255 → OwnerFits outer (entryAt g k m) m
+SeedsFit outer n lanes g = (k m : ℕ) → k < lanes → m < n → entry_at g k m < 255 → OwnerFits outer (entry_at g k m) m
 
 -- each owner in the row s is drawn from the seeds in the row g
 unfoldable pub Sound : (ℕ → List ℕ) → (ℕ → ℕ) → ℕ → ℕ → List ℕ → List ℕ → Type 0
-Sound step outer n lanes g s = (k m : ℕ) → k < lanes → m < n → entryAt s k m < 255 → Draws step outer n (entryAt g k) (entryAt s k m) m
+Sound step outer n lanes g s = (k m : ℕ) → k < lanes → m < n → entry_at s k m < 255 → Draws step outer n (entry_at g k) (entry_at s k m) m
 
 -- place i of a row is no entry that counts
 unfoldable pub Other : ℕ → ℕ → ℕ → Type 0
@@ -61,8 +61,8 @@ Other n lanes i = (k m : ℕ) → k < lanes → m < n → i ≡ k * 256 + m → 
 
 -- the row s holds, for each class and lane, the least owner that the class draws from the seeds in g, and 255 where it draws none
 pub record Least (step : ℕ → List ℕ) (outer : ℕ → ℕ) (n lanes : ℕ) (g s : List ℕ) : Type 0 where
-  pub sound : (k m : ℕ) → k < lanes → m < n → entryAt s k m < 255 → Draws step outer n (entryAt g k) (entryAt s k m) m
-  pub least : (k m y : ℕ) → k < lanes → m < n → Draws step outer n (entryAt g k) y m → entryAt s k m ≤ y
+  pub sound : (k m : ℕ) → k < lanes → m < n → entry_at s k m < 255 → Draws step outer n (entry_at g k) (entry_at s k m) m
+  pub least : (k m y : ℕ) → k < lanes → m < n → Draws step outer n (entry_at g k) y m → entry_at s k m ≤ y
   pub down : (i : ℕ) → get_or s i 255 ≤ get_or g i 255
   pub kept : (i : ℕ) → Other n lanes i → get_or s i 255 ≡ get_or g i 255
 
@@ -70,7 +70,7 @@ pub record Least (step : ℕ → List ℕ) (outer : ℕ → ℕ) (n lanes : ℕ)
 
 -- m has taken what t has for it in lane k
 unfoldable pub Settled : (ℕ → ℕ) → ℕ → ℕ → ℕ → List ℕ → ℕ → Type 0
-Settled outer n k m s t = t < n → entryAt s k t < 255 → OwnerFits outer (entryAt s k t) m → entryAt s k m ≤ entryAt s k t
+Settled outer n k m s t = t < n → entry_at s k t < 255 → OwnerFits outer (entry_at s k t) m → entry_at s k m ≤ entry_at s k t
 
 -- m has taken what any class that it draws from has for it
 unfoldable pub SettledAt : (ℕ → List ℕ) → (ℕ → ℕ) → ℕ → ℕ → ℕ → List ℕ → Type 0
@@ -80,50 +80,50 @@ unfoldable pub AllSettled : (ℕ → List ℕ) → (ℕ → ℕ) → ℕ → ℕ
 AllSettled step outer n lanes s = (m : ℕ) → m < n → SettledAt step outer n lanes m s
 
 -- the sum of a row: each change lowers it, so the search ends
-unfoldable pub sumOf : List ℕ → ℕ
-sumOf [] = 0
-sumOf (x ∷ xs) = x + sumOf xs
+unfoldable pub sum_of : List ℕ → ℕ
+sum_of [] = 0
+sum_of (x ∷ xs) = x + sum_of xs
 
 -- A part of the search leads from the row s₀ to the row s. Its answer r is 0 only where it changed nothing, and then P holds of the row.
 pub record Run (step : ℕ → List ℕ) (outer : ℕ → ℕ) (n lanes : ℕ) (P : List ℕ → Type 0) (s₀ s : List ℕ) (r : ℕ) : Type 0 where
   pub keeps : (g : List ℕ) → Sound step outer n lanes g s₀ → Sound step outer n lanes g s
   pub down : (i : ℕ) → get_or s i 255 ≤ get_or s₀ i 255
   pub kept : (i : ℕ) → Other n lanes i → get_or s i 255 ≡ get_or s₀ i 255
-  pub less : sumOf s + r ≤ sumOf s₀
+  pub less : sum_of s + r ≤ sum_of s₀
   pub still : r ≡ 0 → s ≡ s₀
   pub closed : r ≡ 0 → P s₀
 
 -- the answer for two parts of a search: the first one's, but the second's where the first changed nothing
-unfoldable pub eitherOf : ℕ → ℕ → ℕ
-eitherOf a b = elim (eqb a 0) [ true ↦ b | false ↦ a ]
+unfoldable pub either_of : ℕ → ℕ → ℕ
+either_of a b = elim (eqb a 0) [ true ↦ b | false ↦ a ]
 
 -- ---- one class draws from one other
 
 -- in lane k class t has an owner that is lower than that of m and fits m
 unfoldable pub lowers : List ℕ → ℕ → ℕ → ℕ → List ℕ → Bool
-lowers marks m t k row = ltb (entryAt row k t) (entryAt row k m) && fitsRow marks (entryAt row k t)
+lowers marks m t k row = ltb (entry_at row k t) (entry_at row k m) && fits_row marks (entry_at row k t)
 
 -- then m takes it, and nothing else changes; the answer says whether it did
 unfoldable pub drawn : List ℕ → ℕ → ℕ → ℕ → List ℕ → List ℕ
-drawn marks m t k row = elim (lowers marks m t k row) [ true ↦ set row (k * 256 + m) (entryAt row k t) | false ↦ row ]
+drawn marks m t k row = elim (lowers marks m t k row) [ true ↦ set row (k * 256 + m) (entry_at row k t) | false ↦ row ]
 
 unfoldable pub drew : List ℕ → ℕ → ℕ → ℕ → List ℕ → ℕ
 drew marks m t k row = elim (lowers marks m t k row) [ true ↦ 1 | false ↦ 0 ]
 
 -- the same in the first `lanes` lanes, one after another
-unfoldable pub drawnLanes : List ℕ → ℕ → ℕ → ℕ → List ℕ → List ℕ
-drawnLanes marks m t zero row = row
-drawnLanes marks m t (suc k) row = drawn marks m t k (drawnLanes marks m t k row)
+unfoldable pub drawn_lanes : List ℕ → ℕ → ℕ → ℕ → List ℕ → List ℕ
+drawn_lanes marks m t zero row = row
+drawn_lanes marks m t (suc k) row = drawn marks m t k (drawn_lanes marks m t k row)
 
-unfoldable pub drewLanes : List ℕ → ℕ → ℕ → ℕ → List ℕ → ℕ
-drewLanes marks m t zero row = 0
-drewLanes marks m t (suc k) row = eitherOf (drewLanes marks m t k row) (drew marks m t k (drawnLanes marks m t k row))
+unfoldable pub drew_lanes : List ℕ → ℕ → ℕ → ℕ → List ℕ → ℕ
+drew_lanes marks m t zero row = 0
+drew_lanes marks m t (suc k) row = either_of (drew_lanes marks m t k row) (drew marks m t k (drawn_lanes marks m t k row))
 
 -- a number that is no class offers nothing in any lane
-unfoldable pub lanesOf : ℕ → ℕ → ℕ → ℕ
-lanesOf n lanes t = elim (ltb t n) [ true ↦ lanes | false ↦ 0 ]
+unfoldable pub lanes_of : ℕ → ℕ → ℕ → ℕ
+lanes_of n lanes t = elim (ltb t n) [ true ↦ lanes | false ↦ 0 ]
 
 -- the i-th class of a sweep upwards or downwards
-unfoldable pub sweptOf : Bool → ℕ → ℕ → ℕ
-sweptOf true n i = i
-sweptOf false n i = n - 1 - i
+unfoldable pub swept_of : Bool → ℕ → ℕ → ℕ
+swept_of true n i = i
+swept_of false n i = n - 1 - i

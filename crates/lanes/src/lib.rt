@@ -2,7 +2,7 @@
 #![tactic(auto)]
 
 ghost use Rattle.std.specs.Prelude.{◌≡◌, ◌≤◌, ◌<◌, ◌++◌, length, get_or, drop, replicate};
-ghost use Rattle.lanes.specs.Lanes.{Room, eitherOf, fitsRow, drawn, drew, drawnLanes, drewLanes, lanesOf, sweptOf};
+ghost use Rattle.lanes.specs.Lanes.{Room, either_of, fits_row, drawn, drew, drawn_lanes, drew_lanes, lanes_of, swept_of};
 
 // The entries of a lane, one a class.
 pub const LANE: usize = 256;
@@ -43,7 +43,7 @@ pub fn entry(row: &[u8], i: usize) -> usize
 
 // Joins the answers of two parts of a search: 0 only where neither changed anything. A sum would say the same, but might grow too large.
 pub fn either(a: usize, b: usize) -> usize
-    ensures { result ≡ eitherOf a b }
+    ensures { result ≡ either_of a b }
 {
     if a == 0 { b } else { a }
 }
@@ -51,7 +51,7 @@ pub fn either(a: usize, b: usize) -> usize
 // 0 needs no mark: as an owner it only says that a class is reached, and any class may be.
 fn fits(marks: &[u8], y: usize) -> bool
     requires { y < length marks.now }
-    ensures { result ≡ fitsRow marks.now y }
+    ensures { result ≡ fits_row marks.now y }
 {
     if y == 0 {
         return true;
@@ -82,8 +82,8 @@ fn draw(marks: &[u8], n: usize, lanes: usize, k: usize, m: usize, t: usize, row:
 pub fn draw_lanes(marks: &[u8], n: usize, lanes: usize, m: usize, t: usize, row: &mut [u8]) -> usize
     requires room { Room n lanes row.old }
     requires long { (256 ≤ length marks.now) × (m < n) }
-    ensures row { row.new ≡ drawnLanes marks.now m t (lanesOf n lanes t) row.old }
-    ensures answer { result ≡ drewLanes marks.now m t (lanesOf n lanes t) row.old }
+    ensures row { row.new ≡ drawn_lanes marks.now m t (lanes_of n lanes t) row.old }
+    ensures answer { result ≡ drew_lanes marks.now m t (lanes_of n lanes t) row.old }
 {
     if n <= t {
         return 0;
@@ -101,7 +101,7 @@ pub fn draw_lanes(marks: &[u8], n: usize, lanes: usize, m: usize, t: usize, row:
 // The i-th class of a sweep. A sweep upwards follows a whole chain of steps to lower classes but one step to a higher class, so sweeps go up and down by turns.
 pub fn swept(up: bool, n: usize, i: usize) -> usize
     requires { i < n }
-    ensures { (result ≡ sweptOf up n i) × (result < n) }
+    ensures { (result ≡ swept_of up n i) × (result < n) }
 {
     if up { i } else { n - 1 - i }
 }

@@ -11,7 +11,7 @@ use native.Mathlib.Omega.{arith}
 use lib.Dec.{T}
 use lib.ListN.{length, get_or, take, drop, set}
 use Rattle.spec.specs.Lists.{any, all, concat, keep, gather, numbered, span}
-use Rattle.laws.proofs.Bools.{and_l, and_r, t-and, not-or, not-or-l, not-or-r}
+use Rattle.laws.proofs.Bools.{and_l, and_r, t_and, not_or, not_or_l, not_or_r}
 
 module _ {A : Type 0} (P : A → Type 0) where
   abbrev pub All : List A → Type 0
@@ -53,32 +53,32 @@ module _ {A : Type 0} (P : A → Type 0) where
   all_drop (suc n) [] h = tt
   all_drop (suc n) (x ∷ xs) h = all_drop n xs h.1
 
-  pub all-if : (b : Bool) (xs ys : List A) → All xs → All ys → All (elim b as (λ (c : Bool). List A) [ true ↦ xs | false ↦ ys ])
-  all-if true xs ys h k = h
-  all-if false xs ys h k = k
+  pub all_if : (b : Bool) (xs ys : List A) → All xs → All ys → All (elim b as (λ (c : Bool). List A) [ true ↦ xs | false ↦ ys ])
+  all_if true xs ys h k = h
+  all_if false xs ys h k = k
 
   pub of_members : (xs : List A) → ((x : A) → Memᴰ x xs → P x) → All xs
   of_members [] h = tt
   of_members (x ∷ xs) h = (h x (Memᴰ.head refl), of_members xs (λ y m. h y (Memᴰ.tail m)))
 
-  pub at-member : {x : A} (xs : List A) → All xs → Memᴰ x xs → P x
-  at-member [] h m = absurd (mathlib.Core.List.Memᴰ.not-nil m)
-  at-member {x} (y ∷ xs) h m = go (Memᴰ.cases_cons m) (at-member xs h.1)
+  pub at_member : {x : A} (xs : List A) → All xs → Memᴰ x xs → P x
+  at_member [] h m = absurd (mathlib.Core.List.Memᴰ.not-nil m)
+  at_member {x} (y ∷ xs) h m = go (Memᴰ.cases_cons m) (at_member xs h.1)
     where
       go : (x ≡ y) ⊎ Memᴰ x xs → (Memᴰ x xs → P x) → P x
       go (inl e) ih = subst P (sym e) h.0
       go (inr k) ih = ih k
 
   -- past the end a list reads as the default
-  pub all-get : (d : A) (xs : List A) → All xs → P d → (i : ℕ) → P (get_or xs i d)
-  all-get d [] h k i = k
-  all-get d (x ∷ xs) h k zero = h.0
-  all-get d (x ∷ xs) h k (suc i) = all-get d xs h.1 k i
+  pub all_get : (d : A) (xs : List A) → All xs → P d → (i : ℕ) → P (get_or xs i d)
+  all_get d [] h k i = k
+  all_get d (x ∷ xs) h k zero = h.0
+  all_get d (x ∷ xs) h k (suc i) = all_get d xs h.1 k i
 
-  pub all-at : (d : A) (xs : List A) → All xs → (i : ℕ) → i < length xs → P (get_or xs i d)
-  all-at d [] h i k = absurd (not-suc-le-zero k)
-  all-at d (x ∷ xs) h zero k = h.0
-  all-at d (x ∷ xs) h (suc i) k = all-at d xs h.1 i (le_of_suc-le-suc k)
+  pub all_at : (d : A) (xs : List A) → All xs → (i : ℕ) → i < length xs → P (get_or xs i d)
+  all_at d [] h i k = absurd (not-suc-le-zero k)
+  all_at d (x ∷ xs) h zero k = h.0
+  all_at d (x ∷ xs) h (suc i) k = all_at d xs h.1 i (le_of_suc-le-suc k)
 
 pub weaken : {A : Type 0} (P Q : A → Type 0) → ((x : A) → P x → Q x) → (xs : List A) → All P xs → All Q xs
 weaken P Q f [] h = tt
@@ -90,20 +90,20 @@ weaken₂ P Q R f [] h k = tt
 weaken₂ P Q R f (x ∷ xs) h k = (f x h.0 k.0, weaken₂ P Q R f xs h.1 k.1)
 
 module _ {A : Type 0} (p : A → Bool) (x : A) (xs : List A) where
-  pub keep-yes : p x ≡ true → keep p (x ∷ xs) ≡ x ∷ keep p xs
+  pub keep_yes : p x ≡ true → keep p (x ∷ xs) ≡ x ∷ keep p xs
   unfolding keep
-  keep-yes e = rw (e, keep)
+  keep_yes e = rw (e, keep)
 
-  pub keep-no : p x ≡ false → keep p (x ∷ xs) ≡ keep p xs
+  pub keep_no : p x ≡ false → keep p (x ∷ xs) ≡ keep p xs
   unfolding keep
-  keep-no e = rw (e, keep)
+  keep_no e = rw (e, keep)
 
 -- a passed test, beside what held before
 module _ {A : Type 0} (P : A → Type 0) (p : A → Bool) where
-  pub all-kept : (xs : List A) → All P xs → All (λ x. P x × T (p x)) (keep p xs)
+  pub all_kept : (xs : List A) → All P xs → All (λ x. P x × T (p x)) (keep p xs)
   unfolding keep
-  all-kept [] h = tt
-  all-kept (x ∷ xs) h = go (p x) (λ t. t) (all-kept xs h.1)
+  all_kept [] h = tt
+  all_kept (x ∷ xs) h = go (p x) (λ t. t) (all_kept xs h.1)
     where
       go : (b : Bool) → (T b → T (p x)) → All (λ x. P x × T (p x)) (keep p xs)
           → All (λ x. P x × T (p x)) (elim b [ true ↦ x ∷ keep p xs | false ↦ keep p xs ])
@@ -111,62 +111,62 @@ module _ {A : Type 0} (P : A → Type 0) (p : A → Bool) where
       go false f k = k
 
 module _ {A B : Type 0} (P : A → Type 0) (Q : B → Type 0) where
-  pub all-gather : (f : A → List B) → ((x : A) → P x → All Q (f x)) → (xs : List A) → All P xs → All Q (gather f xs)
+  pub all_gather : (f : A → List B) → ((x : A) → P x → All Q (f x)) → (xs : List A) → All P xs → All Q (gather f xs)
   unfolding gather
-  all-gather f h [] k = tt
-  all-gather f h (x ∷ xs) k = all_append Q (f x) (gather f xs) (h x k.0) (all-gather f h xs k.1)
+  all_gather f h [] k = tt
+  all_gather f h (x ∷ xs) k = all_append Q (f x) (gather f xs) (h x k.0) (all_gather f h xs k.1)
 
   pub all_map : (f : A → B) → ((x : A) → P x → Q (f x)) → (xs : List A) → All P xs → All Q (map f xs)
   all_map f h [] k = tt
   all_map f h (x ∷ xs) k = (h x k.0, all_map f h xs k.1)
 
 -- what holds of a gathered list holds of each part
-pub all-parts : {A B : Type 0} (Q : B → Type 0) (f : A → List B) (xs : List A) → All Q (gather f xs) → All (λ x. All Q (f x)) xs
+pub all_parts : {A B : Type 0} (Q : B → Type 0) (f : A → List B) (xs : List A) → All Q (gather f xs) → All (λ x. All Q (f x)) xs
 unfolding gather
-all-parts Q f [] h = tt
-all-parts Q f (x ∷ xs) h = (all_left Q (f x) (gather f xs) h, all-parts Q f xs (all_right Q (f x) (gather f xs) h))
+all_parts Q f [] h = tt
+all_parts Q f (x ∷ xs) h = (all_left Q (f x) (gather f xs) h, all_parts Q f xs (all_right Q (f x) (gather f xs) h))
 
 -- ---- lists end to end
 
 module _ {A : Type 0} (P : A → Type 0) where
-  pub all-concat : (xs : List (List A)) → All (All P) xs → All P (concat xs)
+  pub all_concat : (xs : List (List A)) → All (All P) xs → All P (concat xs)
   unfolding concat
-  all-concat [] h = tt
-  all-concat (x ∷ xs) h = all_append P x (concat xs) h.0 (all-concat xs h.1)
+  all_concat [] h = tt
+  all_concat (x ∷ xs) h = all_append P x (concat xs) h.0 (all_concat xs h.1)
 
-  pub each-concat : (xs : List (List A)) → All P (concat xs) → All (All P) xs
+  pub each_concat : (xs : List (List A)) → All P (concat xs) → All (All P) xs
   unfolding concat
-  each-concat [] h = tt
-  each-concat (x ∷ xs) h = (all_left P x (concat xs) h, each-concat xs (all_right P x (concat xs) h))
+  each_concat [] h = tt
+  each_concat (x ∷ xs) h = (all_left P x (concat xs) h, each_concat xs (all_right P x (concat xs) h))
 
 -- ---- functions that agree on a list's elements
 
 module _ {A : Type 0} (P : A → Type 0) where
   module _ {B : Type 0} where
-    pub map-cong : (f f' : A → B) → ((x : A) → P x → f x ≡ f' x) → (xs : List A) → All P xs → map f xs ≡ map f' xs
-    map-cong f f' h [] k = refl
-    map-cong f f' h (x ∷ xs) k = ap₂ (λ (y : B) (ys : List B). y ∷ ys) (h x k.0) (map-cong f f' h xs k.1)
+    pub map_cong : (f f' : A → B) → ((x : A) → P x → f x ≡ f' x) → (xs : List A) → All P xs → map f xs ≡ map f' xs
+    map_cong f f' h [] k = refl
+    map_cong f f' h (x ∷ xs) k = ap₂ (λ (y : B) (ys : List B). y ∷ ys) (h x k.0) (map_cong f f' h xs k.1)
 
     pub gather_cong : (f f' : A → List B) → ((x : A) → P x → f x ≡ f' x) → (xs : List A) → All P xs → gather f xs ≡ gather f' xs
     unfolding gather
     gather_cong f f' h [] k = refl
     gather_cong f f' h (x ∷ xs) k = ap₂ (λ (y : List B) (ys : List B). y ++ ys) (h x k.0) (gather_cong f f' h xs k.1)
 
-  pub any-cong : (p p' : A → Bool) → ((x : A) → P x → p x ≡ p' x) → (xs : List A) → All P xs → any p xs ≡ any p' xs
+  pub any_cong : (p p' : A → Bool) → ((x : A) → P x → p x ≡ p' x) → (xs : List A) → All P xs → any p xs ≡ any p' xs
   unfolding any
-  any-cong p p' h [] k = refl
-  any-cong p p' h (x ∷ xs) k = ap₂ (λ (a b : Bool). a || b) (h x k.0) (any-cong p p' h xs k.1)
+  any_cong p p' h [] k = refl
+  any_cong p p' h (x ∷ xs) k = ap₂ (λ (a b : Bool). a || b) (h x k.0) (any_cong p p' h xs k.1)
 
-  pub all-cong : (p p' : A → Bool) → ((x : A) → P x → p x ≡ p' x) → (xs : List A) → All P xs → all p xs ≡ all p' xs
+  pub all_cong : (p p' : A → Bool) → ((x : A) → P x → p x ≡ p' x) → (xs : List A) → All P xs → all p xs ≡ all p' xs
   unfolding all
-  all-cong p p' h [] k = refl
-  all-cong p p' h (x ∷ xs) k = ap₂ (λ (a b : Bool). a && b) (h x k.0) (all-cong p p' h xs k.1)
+  all_cong p p' h [] k = refl
+  all_cong p p' h (x ∷ xs) k = ap₂ (λ (a b : Bool). a && b) (h x k.0) (all_cong p p' h xs k.1)
 
-  pub keep-cong : (p p' : A → Bool) → ((x : A) → P x → p x ≡ p' x) → (xs : List A) → All P xs → keep p xs ≡ keep p' xs
+  pub keep_cong : (p p' : A → Bool) → ((x : A) → P x → p x ≡ p' x) → (xs : List A) → All P xs → keep p xs ≡ keep p' xs
   unfolding keep
-  keep-cong p p' h [] k = refl
-  keep-cong p p' h (x ∷ xs) k =
-      ap₂ (λ (b : Bool) (l : List A). elim b as (λ (c : Bool). List A) [ true ↦ x ∷ l | false ↦ l ]) (h x k.0) (keep-cong p p' h xs k.1)
+  keep_cong p p' h [] k = refl
+  keep_cong p p' h (x ∷ xs) k =
+      ap₂ (λ (b : Bool) (l : List A). elim b as (λ (c : Bool). List A) [ true ↦ x ∷ l | false ↦ l ]) (h x k.0) (keep_cong p p' h xs k.1)
 
 -- ---- a test that passes at every element
 pub all_true : {A : Type 0} (p : A → Bool) (xs : List A) → T (all p xs) → All (λ x. T (p x)) xs
@@ -174,28 +174,28 @@ unfolding all
 all_true p [] t = tt
 all_true p (x ∷ xs) t = (and_l (p x) (all p xs) t, all_true p xs (and_r (p x) (all p xs) t))
 
-pub true-all : {A : Type 0} (p : A → Bool) (xs : List A) → All (λ x. T (p x)) xs → T (all p xs)
+pub true_all : {A : Type 0} (p : A → Bool) (xs : List A) → All (λ x. T (p x)) xs → T (all p xs)
 unfolding all
-true-all p [] h = tt
-true-all p (x ∷ xs) h = t-and (p x) (all p xs) h.0 (true-all p xs h.1)
+true_all p [] h = tt
+true_all p (x ∷ xs) h = t_and (p x) (all p xs) h.0 (true_all p xs h.1)
 
 -- ---- a test that fails at every element
-pub not-any : {A : Type 0} (p : A → Bool) (xs : List A) → T (not (any p xs)) → All (λ x. T (not (p x))) xs
+pub not_any : {A : Type 0} (p : A → Bool) (xs : List A) → T (not (any p xs)) → All (λ x. T (not (p x))) xs
 unfolding any
-not-any p [] t = tt
-not-any p (x ∷ xs) t = (not-or-l (p x) (any p xs) t, not-any p xs (not-or-r (p x) (any p xs) t))
+not_any p [] t = tt
+not_any p (x ∷ xs) t = (not_or_l (p x) (any p xs) t, not_any p xs (not_or_r (p x) (any p xs) t))
 
 pub none_any : {A : Type 0} (p : A → Bool) (xs : List A) → All (λ x. T (not (p x))) xs → T (not (any p xs))
 unfolding any
 none_any p [] h = tt
-none_any p (x ∷ xs) h = not-or (p x) (any p xs) h.0 (none_any p xs h.1)
+none_any p (x ∷ xs) h = not_or (p x) (any p xs) h.0 (none_any p xs h.1)
 
 -- ---- a span of numbers
-pub at-span : (P : ℕ → Type 0) (i n : ℕ) → All P (span i n) → (k : ℕ) → k < n → P (i + k)
+pub at_span : (P : ℕ → Type 0) (i n : ℕ) → All P (span i n) → (k : ℕ) → k < n → P (i + k)
 unfolding span
-at-span P i zero h k l = absurd (not-suc-le-zero l)
-at-span P i (suc n) h zero l = subst P (sym (add-zero i)) h.0
-at-span P i (suc n) h (suc k) l = subst P (suc-add i k ∙ sym (add-suc i k)) (at-span P (suc i) n h.1 k (le_of_suc-le-suc l))
+at_span P i zero h k l = absurd (not-suc-le-zero l)
+at_span P i (suc n) h zero l = subst P (sym (add-zero i)) h.0
+at_span P i (suc n) h (suc k) l = subst P (suc-add i k ∙ sym (add-suc i k)) (at_span P (suc i) n h.1 k (le_of_suc-le-suc l))
 
 pub below_span : (i n : ℕ) → All (λ k. k < i + n) (span i n)
 unfolding span
@@ -203,18 +203,18 @@ below_span i zero = tt
 below_span i (suc n) = (omega arith, subst (λ (m : ℕ). All (λ k. k < m) (span (suc i) n)) (suc-add i n ∙ sym (add-suc i n)) (below_span (suc i) n))
 
 -- a test computed over it holds at each of them
-pub all-span : (p : ℕ → Bool) (i n : ℕ) → T (all p (span i n)) → (k : ℕ) → k < n → T (p (i + k))
-all-span p i n t = at-span (λ k. T (p k)) i n (all_true p (span i n) t)
+pub all_span : (p : ℕ → Bool) (i n : ℕ) → T (all p (span i n)) → (k : ℕ) → k < n → T (p (i + k))
+all_span p i n t = at_span (λ k. T (p k)) i n (all_true p (span i n) t)
 
 -- ---- numbered elements
-pub all-numbered : {A : Type 0} (P : A → Type 0) (i : ℕ) (xs : List A) → All P xs → All (λ n. P n.1) (numbered i xs)
+pub all_numbered : {A : Type 0} (P : A → Type 0) (i : ℕ) (xs : List A) → All P xs → All (λ n. P n.1) (numbered i xs)
 unfolding numbered
-all-numbered P i [] h = tt
-all-numbered P i (x ∷ xs) h = (h.0, all-numbered P (suc i) xs h.1)
+all_numbered P i [] h = tt
+all_numbered P i (x ∷ xs) h = (h.0, all_numbered P (suc i) xs h.1)
 
 -- ---- functions that agree on the elements gather the same from the same list
-pub gather-same : {A B : Type 0} (P : A → Type 0) (f f' : A → List B) → ((x : A) → P x → f x ≡ f' x) → {xs xs' : List A} → xs ≡ xs' → All P xs → gather f xs ≡ gather f' xs'
-gather-same P f f' h {xs} e k = gather_cong P f f' h xs k ∙ ap (gather f') e
+pub gather_same : {A B : Type 0} (P : A → Type 0) (f f' : A → List B) → ((x : A) → P x → f x ≡ f' x) → {xs xs' : List A} → xs ≡ xs' → All P xs → gather f xs ≡ gather f' xs'
+gather_same P f f' h {xs} e k = gather_cong P f f' h xs k ∙ ap (gather f') e
 
 -- ---- one element replaced
 pub all_set : {A : Type 0} (P : A → Type 0) (xs : List A) (i : ℕ) (a : A) → All P xs → P a → All P (set xs i a)

@@ -8,9 +8,9 @@ use native.Mathlib.Numerals.{add-one}
 use native.Mathlib.Omega.{arith}
 use Rattle.spec.specs.Lists.{any, span}
 
-span-step : (d n : ℕ) → d < n → span d (n - d) ≡ d ∷ span (d + 1) (n - (d + 1))
+span_step : (d n : ℕ) → d < n → span d (n - d) ≡ d ∷ span (d + 1) (n - (d + 1))
 unfolding span
-span-step d n h = let e : n - d ≡ suc (n - (d + 1)) = omega arith in rw (e, add-one d)
+span_step d n h = let e : n - d ≡ suc (n - (d + 1)) = omega arith in rw (e, add-one d)
 
 pub any_none : (p : ℕ → Bool) (i n : ℕ) → ((d : ℕ) → i ≤ d → d < i + n → p d ≡ false) → any p (span i n) ≡ false
 unfolding any span
@@ -29,10 +29,10 @@ module _ {p : ℕ → Bool} {n d : ℕ} (w : SeekingBelow p n d) where
   module _ (h : d < n) {b : Bool} (e : b ≡ p d) where
     step : (b || any p (span (d + 1) (n - (d + 1)))) ≡ any p (span 0 n)
     unfolding any
-    step = rw (span-step d n h, ← e) at w.rest
+    step = rw (span_step d n h, ← e) at w.rest
 
-    pub below-hit : b ≡ true → true ≡ any p (span 0 n)
-    below-hit t = rw t at step
+    pub below_hit : b ≡ true → true ≡ any p (span 0 n)
+    below_hit t = rw t at step
 
     pub below_next : b ≡ false → SeekingBelow p n (d + 1)
     below_next t = record { within = omega arith; rest = rw t at step }

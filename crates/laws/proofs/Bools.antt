@@ -17,15 +17,15 @@ pub t_true : (b : Bool) → T b → b ≡ true
 t_true true h = refl
 t_true false h = absurd h
 
-pub t-false : (b : Bool) → T (not b) → b ≡ false
-t-false true h = absurd h
-t-false false h = refl
+pub t_false : (b : Bool) → T (not b) → b ≡ false
+t_false true h = absurd h
+t_false false h = refl
 
-pub true-t : {b : Bool} → b ≡ true → T b
-true-t e = subst T (sym e) tt
+pub true_t : {b : Bool} → b ≡ true → T b
+true_t e = subst T (sym e) tt
 
-pub false-t : {b : Bool} → b ≡ false → T (not b)
-false-t e = subst (λ (x : Bool). T (not x)) (sym e) tt
+pub false_t : {b : Bool} → b ≡ false → T (not b)
+false_t e = subst (λ (x : Bool). T (not x)) (sym e) tt
 
 -- two tests that imply each other are the same
 pub t_same : (a b : Bool) → (T a → T b) → (T b → T a) → a ≡ b
@@ -36,9 +36,9 @@ t_same false false f g = refl
 
 -- ---- and
 
-pub t-and : (a b : Bool) → T a → T b → T (a && b)
-t-and true b h k = k
-t-and false b h k = h
+pub t_and : (a b : Bool) → T a → T b → T (a && b)
+t_and true b h k = k
+t_and false b h k = h
 
 pub and_l : (a b : Bool) → T (a && b) → T a
 and_l true b t = tt
@@ -48,9 +48,9 @@ pub and_r : (a b : Bool) → T (a && b) → T b
 and_r true b t = t
 and_r false b t = absurd t
 
-pub and-cong : (b : Bool) {x y : Bool} → (T b → x ≡ y) → (b && x) ≡ (b && y)
-and-cong true h = h tt
-and-cong false h = refl
+pub and_cong : (b : Bool) {x y : Bool} → (T b → x ≡ y) → (b && x) ≡ (b && y)
+and_cong true h = h tt
+and_cong false h = refl
 
 -- ---- or
 
@@ -72,26 +72,26 @@ pub un_not : (b : Bool) → T (not (not b)) → T b
 un_not true t = tt
 un_not false t = t
 
-pub not-not : (b : Bool) → T b → T (not (not b))
-not-not true t = tt
-not-not false t = t
+pub not_not : (b : Bool) → T b → T (not (not b))
+not_not true t = tt
+not_not false t = t
 
-pub not-mono : (a b : Bool) → (T a → T b) → T (not b) → T (not a)
-not-mono true true f t = absurd t
-not-mono true false f t = f tt
-not-mono false b f t = tt
+pub not_mono : (a b : Bool) → (T a → T b) → T (not b) → T (not a)
+not_mono true true f t = absurd t
+not_mono true false f t = f tt
+not_mono false b f t = tt
 
-pub not-or : (a b : Bool) → T (not a) → T (not b) → T (not (a || b))
-not-or true b h k = h
-not-or false b h k = k
+pub not_or : (a b : Bool) → T (not a) → T (not b) → T (not (a || b))
+not_or true b h k = h
+not_or false b h k = k
 
-pub not-or-l : (a b : Bool) → T (not (a || b)) → T (not a)
-not-or-l true b t = t
-not-or-l false b t = tt
+pub not_or_l : (a b : Bool) → T (not (a || b)) → T (not a)
+not_or_l true b t = t
+not_or_l false b t = tt
 
-pub not-or-r : (a b : Bool) → T (not (a || b)) → T (not b)
-not-or-r true b t = absurd t
-not-or-r false b t = t
+pub not_or_r : (a b : Bool) → T (not (a || b)) → T (not b)
+not_or_r true b t = absurd t
+not_or_r false b t = t
 
 -- a test that fails unless b passes
 pub imply : (a b : Bool) → T (not (a && not b)) → T a → T b
@@ -99,17 +99,17 @@ imply true true t u = tt
 imply true false t u = t
 imply false b t u = absurd u
 
-pub not-and-r : (a b : Bool) → T (not (a && b)) → T a → T (not b)
-not-and-r true b t u = t
-not-and-r false b t u = absurd u
+pub not_and_r : (a b : Bool) → T (not (a && b)) → T a → T (not b)
+not_and_r true b t u = t
+not_and_r false b t u = absurd u
 
 -- their converses
-pub not-and : (a b : Bool) → (T a → T (not b)) → T (not (a && b))
-not-and true b h = h tt
-not-and false b h = tt
+pub not_and : (a b : Bool) → (T a → T (not b)) → T (not (a && b))
+not_and true b h = h tt
+not_and false b h = tt
 
 pub implied : (a b : Bool) → (T a → T b) → T (not (a && not b))
-implied a b h = not-and a (not b) (λ t. not-not b (h t))
+implied a b h = not_and a (not b) (λ t. not_not b (h t))
 
 pub T-implies : (a b : Bool) → T (implies a b) → T a → T b
 unfolding implies
@@ -119,13 +119,13 @@ T-implies false b t u = absurd u
 -- ---- numbers
 
 pub nltb : (m n : ℕ) → n ≤ m → T (not (ltb m n))
-nltb m n h = false-t (le-ltb m n h)
+nltb m n h = false_t (le-ltb m n h)
 
 pub nleb : (m n : ℕ) → n < m → T (not (leb m n))
-nleb m n h = false-t (lt-leb m n h)
+nleb m n h = false_t (lt-leb m n h)
 
 pub eq→eqb : {m n : ℕ} → m ≡ n → T (eqb m n)
-eq→eqb {m} {n} e = true-t (eq-eqb m n e)
+eq→eqb {m} {n} e = true_t (eq-eqb m n e)
 
 pub positive : (n : ℕ) → T (not (eqb n 0)) → 1 ≤ n
 positive zero t = absurd t

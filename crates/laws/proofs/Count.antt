@@ -19,33 +19,33 @@ abbrev pub step : Bool → ℕ → ℕ
 step true k = suc k
 step false k = k
 
-step-swap : (a b : Bool) (k : ℕ) → step a (step b k) ≡ step b (step a k)
-step-swap true true k = refl
-step-swap true false k = refl
-step-swap false b k = refl
+step_swap : (a b : Bool) (k : ℕ) → step a (step b k) ≡ step b (step a k)
+step_swap true true k = refl
+step_swap true false k = refl
+step_swap false b k = refl
 
 module _ (p : ℕ → Bool) where
-  count-first : (x : ℕ) (xs : List ℕ) → count p (x ∷ xs) ≡ step (p x) (count p xs)
+  count_first : (x : ℕ) (xs : List ℕ) → count p (x ∷ xs) ≡ step (p x) (count p xs)
   unfolding count keep
-  count-first x xs = go (p x)
+  count_first x xs = go (p x)
     where
       go : (b : Bool) → length {A = ℕ} (elim b as (λ (c : Bool). List ℕ) [ true ↦ x ∷ keep p xs | false ↦ keep p xs ]) ≡ step b (length (keep p xs))
       go true = refl
       go false = refl
 
-  count-last : (xs : List ℕ) (x : ℕ) → count p (xs ++ (x ∷ [])) ≡ step (p x) (count p xs)
-  count-last [] x = count-first x []
-  count-last (y ∷ xs) x =
-      count-first y (xs ++ (x ∷ [])) ∙ ap (step (p y)) (count-last xs x) ∙ step-swap (p y) (p x) (count p xs) ∙ ap (step (p x)) (sym (count-first y xs))
+  count_last : (xs : List ℕ) (x : ℕ) → count p (xs ++ (x ∷ [])) ≡ step (p x) (count p xs)
+  count_last [] x = count_first x []
+  count_last (y ∷ xs) x =
+      count_first y (xs ++ (x ∷ [])) ∙ ap (step (p y)) (count_last xs x) ∙ step_swap (p y) (p x) (count p xs) ∙ ap (step (p x)) (sym (count_first y xs))
 
   pub count_none : count p (span 0 0) ≡ 0
   unfolding count keep span
   count_none = refl
 
-  pub count-more : (n : ℕ) → count p (span 0 (suc n)) ≡ step (p n) (count p (span 0 n))
-  count-more n = ap (count p) (span_last 0 n ∙ ap (λ (k : ℕ). span 0 n ++ (k ∷ [])) (zero-add n)) ∙ count-last (span 0 n) n
+  pub count_more : (n : ℕ) → count p (span 0 (suc n)) ≡ step (p n) (count p (span 0 n))
+  count_more n = ap (count p) (span_last 0 n ∙ ap (λ (k : ℕ). span 0 n ++ (k ∷ [])) (zero-add n)) ∙ count_last (span 0 n) n
 
 -- two tests that agree below n
 pub count_same : (p q : ℕ → Bool) (n : ℕ) → ((i : ℕ) → i < n → p i ≡ q i) → count p (span 0 n) ≡ count q (span 0 n)
 count_same p q zero h = count_none p ∙ sym (count_none q)
-count_same p q (suc n) h = count-more p n ∙ ap₂ step (h n (omega arith)) (count_same p q n (λ i k. h i (omega arith))) ∙ sym (count-more q n)
+count_same p q (suc n) h = count_more p n ∙ ap₂ step (h n (omega arith)) (count_same p q n (λ i k. h i (omega arith))) ∙ sym (count_more q n)

@@ -10,23 +10,23 @@ use lib.Seq.{get_or-set_same, get_or-set_other}
 use borrow.Author.Count.{below_more}
 use Rattle.spec.specs.Lists.{span}
 
-length-span : (i n : ℕ) → length (span i n) ≡ n
+length_span : (i n : ℕ) → length (span i n) ≡ n
 unfolding span
-length-span i zero = refl
-length-span i (suc n) = ap suc (length-span (suc i) n)
+length_span i zero = refl
+length_span i (suc n) = ap suc (length_span (suc i) n)
 
-values-from : (f : ℕ → ℕ) (d i n k : ℕ) → k < n → get_or (map f (span i n)) k d ≡ f (i + k)
+values_from : (f : ℕ → ℕ) (d i n k : ℕ) → k < n → get_or (map f (span i n)) k d ≡ f (i + k)
 unfolding span
-values-from f d i zero k h = absurd (omega arith)
-values-from f d i (suc n) zero h = ap f (let e : i ≡ i + 0 = omega arith in e)
-values-from f d i (suc n) (suc k) h = values-from f d (suc i) n k (omega arith) ∙ ap f (let e : suc i + k ≡ i + suc k = omega arith in e)
+values_from f d i zero k h = absurd (omega arith)
+values_from f d i (suc n) zero h = ap f (let e : i ≡ i + 0 = omega arith in e)
+values_from f d i (suc n) (suc k) h = values_from f d (suc i) n k (omega arith) ∙ ap f (let e : suc i + k ≡ i + suc k = omega arith in e)
 
 module _ (f : ℕ → ℕ) (n : ℕ) where
-  pub length-values : length (map f (span 0 n)) ≡ n
-  length-values = length-map (span 0 n) f ∙ length-span 0 n
+  pub length_values : length (map f (span 0 n)) ≡ n
+  length_values = length-map (span 0 n) f ∙ length_span 0 n
 
-  pub getD-values : (d k : ℕ) → k < n → get_or (map f (span 0 n)) k d ≡ f k
-  getD-values d k h = values-from f d 0 n k h ∙ ap f (zero-add k)
+  pub get_d_values : (d k : ℕ) → k < n → get_or (map f (span 0 n)) k d ≡ f k
+  get_d_values d k h = values_from f d 0 n k h ∙ ap f (zero-add k)
 
 -- the entries below c and the new one at c: so all below c + 1
 pub set_below : (P : ℕ → ℕ → Type 0) (row : List ℕ) (c v : ℕ) → c < length row → ((d : ℕ) → d < c → P d (get_or row d 0)) → P c v → (d : ℕ) → d < c + 1 → P d (get_or (set row c v) d 0)

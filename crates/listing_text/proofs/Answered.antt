@@ -9,116 +9,116 @@ use lib.Dec.{ltb, lt→ltb}
 use lib.ListN.{length, get_or, take, length-append}
 use lib.Seq.{take-length, length-take-le}
 use Rattle.spec.specs.Lists.{gather, span}
-use Rattle.spec.specs.Sheet.{classCount, total}
-use Rattle.spec.specs.Verdicts.{userVerdict, flat, flatLines, flatAt, bytesOf, flatRewritten}
-use Rattle.spec.specs.Refusals.{presentRefusal, judgeRefusal}
-use Rattle.spec.specs.Promises.{Counts, countsOf, afterwards, cleared, judgedRow, Judges}
-use Rattle.theory.proofs.Answers.{first-none}
-use Rattle.theory.proofs.Form.{accepted-sound}
-use Rattle.theory.proofs.Unrefused.{present-facts, facts-present}
-use Rattle.theory.proofs.FlatRow.{read-new, rewritten-length}
+use Rattle.spec.specs.Sheet.{class_count, total}
+use Rattle.spec.specs.Verdicts.{user_verdict, flat, flat_lines, flat_at, bytes_of, flat_rewritten}
+use Rattle.spec.specs.Refusals.{present_refusal, judge_refusal}
+use Rattle.spec.specs.Promises.{Counts, counts_of, afterwards, cleared, judged_row, Judges}
+use Rattle.theory.proofs.Answers.{first_none}
+use Rattle.theory.proofs.Form.{accepted_sound}
+use Rattle.theory.proofs.Unrefused.{present_facts, facts_present}
+use Rattle.theory.proofs.FlatRow.{read_new, rewritten_length}
 use Rattle.text.specs.Text.{overlaid}
 use Rattle.text.specs.Written.{Written}
-use Rattle.text.proofs.Digits.{decimal-length}
-use Rattle.form.specs.Form.{refusalOf}
+use Rattle.text.proofs.Digits.{decimal_length}
+use Rattle.form.specs.Form.{refusal_of}
 use Rattle.form.specs.declared.Refusal.{Refusal}
-use Rattle.verifier.specs.Answers.{judgedAnswer}
+use Rattle.verifier.specs.Answers.{judged_answer}
 use Rattle.verifier.specs.declared.Judged.{Judged}
 use Rattle.verifier.specs.declared.Judged.TheVariants.{Fine, Refused}
-use Rattle.theory.proofs.Promised.{told-fine, told-refused}
-use Rattle.listing_text.specs.Listing.{classesWord, faultedWord, countsText, refusalText, lineText, listedLines, listingText}
+use Rattle.theory.proofs.Promised.{told_fine, told_refused}
+use Rattle.listing_text.specs.Listing.{classes_word, faulted_word, counts_text, refusal_text, line_text, listed_lines, listing_text}
 use Rattle.listing_text.specs.Rows.{RowHolds}
 use Rattle.text.proofs.Texts.{then, same_text, from_start}
 
 -- the line of the counts is short
-pub counts-short : (c : Counts) → length (countsText c) ≤ 58
-unfolding countsText classesWord faultedWord
-counts-short c = simp length-append (omega (arith, decimal-length c.classes, decimal-length c.faulted))
+pub counts_short : (c : Counts) → length (counts_text c) ≤ 58
+unfolding counts_text classes_word faulted_word
+counts_short c = simp length-append (omega (arith, decimal_length c.classes, decimal_length c.faulted))
 
-lines_of : (verdicts : List ℕ) → length verdicts ≡ 512 → flatLines verdicts ≡ listedLines
-unfolding flatLines
+lines_of : (verdicts : List ℕ) → length verdicts ≡ 512 → flat_lines verdicts ≡ listed_lines
+unfolding flat_lines
 lines_of verdicts room = rw room
 
 module _ (library user : List ℕ) (used : ℕ) (verdicts scratch : List ℕ) (room : length verdicts ≡ 512) (judged : Judged) {verdicts' scratch' : List ℕ}
-    (j : Judges flat library user used verdicts scratch (judgedAnswer judged) verdicts' scratch') where
-  pub scratch_after : scratch' ≡ afterwards (judgeRefusal library user used listedLines (length scratch)) scratch (cleared scratch)
-  scratch_after = j.scratch-is ∙ ap (λ (k : ℕ). afterwards (judgeRefusal library user used k (length scratch)) scratch (cleared scratch)) (lines_of verdicts room)
+    (j : Judges flat library user used verdicts scratch (judged_answer judged) verdicts' scratch') where
+  pub scratch_after_lem : scratch' ≡ afterwards (judge_refusal library user used listed_lines (length scratch)) scratch (cleared scratch)
+  scratch_after_lem = j.scratch_is ∙ ap (λ (k : ℕ). afterwards (judge_refusal library user used k (length scratch)) scratch (cleared scratch)) (lines_of verdicts room)
 
   -- a refusal
   module _ {r : Refusal} (f : judged ≡ Refused r) where
-    refused-by : judgeRefusal library user used listedLines (length scratch) ≡ some (refusalOf r)
-    refused-by =
-        ap (λ (k : ℕ). judgeRefusal library user used k (length scratch)) (sym (lines_of verdicts room))
-        ∙ told-refused (judgeRefusal library user used (flatLines verdicts) (length scratch)) _ (ap judgedAnswer (sym f) ∙ j.answered)
+    refused_by : judge_refusal library user used listed_lines (length scratch) ≡ some (refusal_of r)
+    refused_by =
+        ap (λ (k : ℕ). judge_refusal library user used k (length scratch)) (sym (lines_of verdicts room))
+        ∙ told_refused (judge_refusal library user used (flat_lines verdicts) (length scratch)) _ (ap judged_answer (sym f) ∙ j.answered)
 
-    refused-text : refusalText (refusalOf r) ≡ listingText library user used (length scratch)
-    unfolding listingText
-    refused-text = rw (refused-by, listingText)
+    refused_text : refusal_text (refusal_of r) ≡ listing_text library user used (length scratch)
+    unfolding listing_text
+    refused_text = rw (refused_by, listing_text)
 
-    pub refused-listing : {out out' : List ℕ} {after : ℕ} → Written out 0 (refusalText (refusalOf r)) out' after
-        → (after ≡ length (listingText library user used (length scratch))) × (out' ≡ overlaid (listingText library user used (length scratch)) out)
-    refused-listing w = from_start (same_text refused-text w)
+    pub refused_listing : {out out' : List ℕ} {after : ℕ} → Written out 0 (refusal_text (refusal_of r)) out' after
+        → (after ≡ length (listing_text library user used (length scratch))) × (out' ≡ overlaid (listing_text library user used (length scratch)) out)
+    refused_listing w = from_start (same_text refused_text w)
 
   -- counts and lines
   module _ {classes faulted : ℕ} (f : judged ≡ Fine classes faulted) where
-    told : (judgeRefusal library user used (flatLines verdicts) (length scratch) ≡ none) × (record { classes = classes; faulted = faulted } ≡ countsOf library (take used user))
-    told = told-fine (judgeRefusal library user used (flatLines verdicts) (length scratch)) (countsOf library (take used user)) (ap judgedAnswer (sym f) ∙ j.answered)
+    told : (judge_refusal library user used (flat_lines verdicts) (length scratch) ≡ none) × (record { classes = classes; faulted = faulted } ≡ counts_of library (take used user))
+    told = told_fine (judge_refusal library user used (flat_lines verdicts) (length scratch)) (counts_of library (take used user)) (ap judged_answer (sym f) ∙ j.answered)
 
-    accepted-sheets : presentRefusal library user used ≡ none
-    unfolding judgeRefusal
-    accepted-sheets = (first-none _ told.0).0
+    accepted_sheets : present_refusal library user used ≡ none
+    unfolding judge_refusal
+    accepted_sheets = (first_none _ told.0).0
 
     -- the used bytes by themselves
-    pub used-length : used ≡ length (take used user)
-    used-length = sym (length-take-le used user (present-facts library user used accepted-sheets).in_buffer)
+    pub used_length : used ≡ length (take used user)
+    used_length = sym (length-take-le used user (present_facts library user used accepted_sheets).in_buffer)
 
-    pub used-sheets : presentRefusal library (take used user) (length (take used user)) ≡ none
-    used-sheets =
-        let p = present-facts library user used accepted-sheets in
-        facts-present library (take used user) (length (take used user)) (record {
-          library-size = p.library-size;
-          user-size = omega (arith, p.user-size, used-length);
+    pub used_sheets : present_refusal library (take used user) (length (take used user)) ≡ none
+    used_sheets =
+        let p = present_facts library user used accepted_sheets in
+        facts_present library (take used user) (length (take used user)) (record {
+          library_size = p.library_size;
+          user_size = omega (arith, p.user_size, used_length);
           in_buffer = omega arith;
           sheets = rw (take-length (take used user)) p.sheets;
         })
 
-    row_is : verdicts' ≡ flatRewritten (λ i. ltb i (classCount (take used user))) (userVerdict library (take used user)) verdicts
-    unfolding afterwards judgedRow
-    row_is = j.verdicts-are ∙ rw told.0
+    row_is : verdicts' ≡ flat_rewritten (λ i. ltb i (class_count (take used user))) (user_verdict library (take used user)) verdicts
+    unfolding afterwards judged_row
+    row_is = j.verdicts_are ∙ rw told.0
 
-    few : classCount (take used user) ≤ 256
+    few : class_count (take used user) ≤ 256
     unfolding total
-    few = omega (arith, (accepted-sound library user used accepted-sheets).few)
+    few = omega (arith, (accepted_sound library user used accepted_sheets).few)
 
-    byte-is : (i : ℕ) → i < classCount (take used user) → (k : ℕ) → k < 2 → get_or verdicts' (2 * i + k) 0 ≡ get_or (bytesOf (userVerdict library (take used user) i)) k 0
-    unfolding flatLines
-    byte-is i h k l =
+    byte_is : (i : ℕ) → i < class_count (take used user) → (k : ℕ) → k < 2 → get_or verdicts' (2 * i + k) 0 ≡ get_or (bytes_of (user_verdict library (take used user) i)) k 0
+    unfolding flat_lines
+    byte_is i h k l =
         let q : (2 * i + k) % 2 ≡ k = omega arith in
         ap (λ (r : List ℕ). get_or r (2 * i + k) 0) row_is
-        ∙ read-new (λ i. ltb i (classCount (take used user))) (userVerdict library (take used user)) verdicts i (omega (arith, few, room))
-        (lt→ltb i (classCount (take used user)) h) (2 * i + k) (omega arith)
-        ∙ ap (λ (m : ℕ). get_or (bytesOf (userVerdict library (take used user) i)) m 0) q
+        ∙ read_new (λ i. ltb i (class_count (take used user))) (user_verdict library (take used user)) verdicts i (omega (arith, few, room))
+        (lt→ltb i (class_count (take used user)) h) (2 * i + k) (omega arith)
+        ∙ ap (λ (m : ℕ). get_or (bytes_of (user_verdict library (take used user) i)) m 0) q
 
-    pub row-holds : RowHolds library (take used user) verdicts'
-    unfolding flatAt bytesOf
-    row-holds = record {
-      long = ap length row_is ∙ rewritten-length _ _ verdicts ∙ room;
+    pub row_holds : RowHolds library (take used user) verdicts'
+    unfolding flat_at bytes_of
+    row_holds = record {
+      long = ap length row_is ∙ rewritten_length _ _ verdicts ∙ room;
       verdicts = λ i h.
           let zero : 2 * i ≡ 2 * i + 0 = omega arith in
-          let a = ap (λ (k : ℕ). get_or verdicts' k 0) zero ∙ byte-is i h 0 (omega arith) in
-          let b = byte-is i h 1 (omega arith) in
-          λ k. record { rule = a k; recordNumber = b k };
+          let a = ap (λ (k : ℕ). get_or verdicts' k 0) zero ∙ byte_is i h 0 (omega arith) in
+          let b = byte_is i h 1 (omega arith) in
+          λ k. record { rule = a k; record_number = b k };
     }
 
-    listed-text : countsText (record { classes = classes; faulted = faulted }) ++ gather (lineText library (take used user)) (span 0 (classCount (take used user)))
-        ≡ listingText library user used (length scratch)
-    unfolding listingText
-    listed-text =
-        let o : judgeRefusal library user used listedLines (length scratch) ≡ none =
-        ap (λ (k : ℕ). judgeRefusal library user used k (length scratch)) (sym (lines_of verdicts room)) ∙ told.0 in
-        rw told.1 (rw (o, listingText))
+    listed_text : counts_text (record { classes = classes; faulted = faulted }) ++ gather (line_text library (take used user)) (span 0 (class_count (take used user)))
+        ≡ listing_text library user used (length scratch)
+    unfolding listing_text
+    listed_text =
+        let o : judge_refusal library user used listed_lines (length scratch) ≡ none =
+        ap (λ (k : ℕ). judge_refusal library user used k (length scratch)) (sym (lines_of verdicts room)) ∙ told.0 in
+        rw told.1 (rw (o, listing_text))
 
-    pub accepted-listing : {out out' out'' : List ℕ} {at r : ℕ} → Written out 0 (countsText (record { classes = classes; faulted = faulted })) out' at
-        → Written out' at (gather (lineText library (take used user)) (span 0 (classCount (take used user)))) out'' r
-        → (r ≡ length (listingText library user used (length scratch))) × (out'' ≡ overlaid (listingText library user used (length scratch)) out)
-    accepted-listing v w = from_start (same_text listed-text (then v w))
+    pub accepted_listing : {out out' out'' : List ℕ} {at r : ℕ} → Written out 0 (counts_text (record { classes = classes; faulted = faulted })) out' at
+        → Written out' at (gather (line_text library (take used user)) (span 0 (class_count (take used user)))) out'' r
+        → (r ≡ length (listing_text library user used (length scratch))) × (out'' ≡ overlaid (listing_text library user used (length scratch)) out)
+    accepted_listing v w = from_start (same_text listed_text (then v w))

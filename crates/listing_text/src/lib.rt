@@ -4,16 +4,16 @@
 ghost use Rattle.std.specs.Prelude.{◌≡◌, [], ◌++◌, ◌+◌, ◌*◌, ◌≤◌, ◌<◌, length, get_or};
 ghost use Rattle.std.proofs.Math.Option.{none};
 ghost use Rattle.spec.specs.Lists.{gather, span};
-ghost use Rattle.spec.specs.Record.{className};
-ghost use Rattle.spec.specs.Sheet.{groupsOf, classCount, groupStart, classRecord};
-ghost use Rattle.spec.specs.Verdicts.{flatAt};
-ghost use Rattle.spec.specs.Refusals.{presentRefusal, judgeRefusal};
+ghost use Rattle.spec.specs.Record.{class_name};
+ghost use Rattle.spec.specs.Sheet.{groups_of, class_count, group_start, class_record};
+ghost use Rattle.spec.specs.Verdicts.{flat_at};
+ghost use Rattle.spec.specs.Refusals.{present_refusal, judge_refusal};
 ghost use Rattle.spec.specs.Promises.{afterwards, cleared};
 ghost use Rattle.groups.specs.Sheets.{UserSheet};
-ghost use Rattle.form.specs.Form.{refusalOf};
+ghost use Rattle.form.specs.Form.{refusal_of};
 ghost use Rattle.text.specs.Text.{decimal, overlaid};
 ghost use Rattle.text.specs.Written.{Written};
-ghost use Rattle.listing_text.specs.Listing.{countsText, refusalText, lineOf, lineText, listedLines, listingText, space, newline};
+ghost use Rattle.listing_text.specs.Listing.{counts_text, refusal_text, line_of, line_text, listed_lines, listing_text, space, newline};
 ghost use Rattle.listing_text.specs.Rows.{RowHolds};
 
 use form::Refusal;
@@ -39,7 +39,7 @@ fn put_word(out: &mut [u8], at: usize, word: &[u8]) -> usize
 
 // The line of a refusal.
 fn refusal_line(out: &mut [u8], refusal: Refusal) -> usize
-    ensures { Written out.old 0 (refusalText (refusalOf refusal)) out.new result }
+    ensures { Written out.old 0 (refusal_text (refusal_of refusal)) out.new result }
 {
     let opened = put_word(out, 0, b"refused ");
     let first = put_number(out, opened, wide_byte(refusal.number));
@@ -52,7 +52,7 @@ fn refusal_line(out: &mut [u8], refusal: Refusal) -> usize
 
 // The line of the counts.
 fn counts_line(out: &mut [u8], classes: usize, faulted: usize) -> usize
-    ensures { Written out.old 0 (countsText (record { classes = classes; faulted = faulted })) out.new result }
+    ensures { Written out.old 0 (counts_text (record { classes = classes; faulted = faulted })) out.new result }
 {
     let opened = put_word(out, 0, b"classes ");
     let first = put_number(out, opened, classes);
@@ -83,10 +83,10 @@ fn class_line(
     at: usize,
 ) -> usize
     requires user_sheet { UserSheet nlib sheet.now }
-    requires group { (i < classCount sheet.now) × (start ≡ groupStart sheet.now i) }
+    requires group { (i < class_count sheet.now) × (start ≡ group_start sheet.now i) }
     requires line { (2 * i + 1 < length verdicts.now) × (at < 700000) }
     ensures { Written out.old at
-        (lineOf (nlib + i) (className (classRecord (get_or (groupsOf sheet.now) i []))) (flatAt verdicts.now i))
+        (line_of (nlib + i) (class_name (class_record (get_or (groups_of sheet.now) i []))) (flat_at verdicts.now i))
         out.new result }
 {
     let end = start + wide(word_in(sheet, start));
@@ -101,11 +101,11 @@ fn class_line(
 
 // The lines of all user classes; `start` runs along from one group to the next, up to the sheet's end.
 fn class_lines(library: &[u8], sheet: &[u8], verdicts: &[u8], out: &mut [u8], at: usize) -> usize
-    requires accepted { presentRefusal library.now sheet.now (length sheet.now) ≡ none }
+    requires accepted { present_refusal library.now sheet.now (length sheet.now) ≡ none }
     requires row_holds { RowHolds library.now sheet.now verdicts.now }
     requires room { at < 1000 }
     ensures { Written out.old at
-        (gather (lineText library.now sheet.now) (span 0 (classCount sheet.now))) out.new result }
+        (gather (line_text library.now sheet.now) (span 0 (class_count sheet.now))) out.new result }
 {
     let nlib = count_in(library, CLASS);
     let mut i = 0;
@@ -127,11 +127,11 @@ pub fn listing_text<'a>(
     scratch: &mut [u8],
     out: &mut [u8],
 ) -> usize
-    ensures answer { result ≡ length (listingText library.now user.now used (length scratch.old)) }
+    ensures answer { result ≡ length (listing_text library.now user.now used (length scratch.old)) }
     ensures out { out.new
-        ≡ overlaid (listingText library.now user.now used (length scratch.old)) out.old }
+        ≡ overlaid (listing_text library.now user.now used (length scratch.old)) out.old }
     ensures scratch { scratch.new
-        ≡ afterwards (judgeRefusal library.now user.now used listedLines (length scratch.old))
+        ≡ afterwards (judge_refusal library.now user.now used listed_lines (length scratch.old))
         scratch.old (cleared scratch.old) }
 {
     let mut verdicts = [0u8; CLASS_LIMIT * VERDICT_BYTES];

@@ -3,7 +3,7 @@
 
 ghost use Rattle.std.specs.Prelude.{◌≡◌, ◌&&◌, ℕ, ◌/◌, ◌%◌, ◌<◌, eqb};
 ghost use Rattle.spec.specs.Record.{bit};
-ghost use Rattle.spec.specs.Markers.{closure as closureOf, union as unionOf, clash as clashOf};
+ghost use Rattle.spec.specs.Markers.{closure as closure_of, union as union_of, clash as clash_of};
 
 // The markers, each as a set of its own, and all of them.
 pub const IMMUTABLE: u8 = 1;
@@ -40,7 +40,7 @@ const CLOSURES: [u8; 256] = [
 ];
 
 pub fn closure(m: u8) -> u8
-    ensures { result ≡ closureOf m }
+    ensures { result ≡ closure_of m }
 {
     let i = m as usize;
     CLOSURES[i]
@@ -48,7 +48,7 @@ pub fn closure(m: u8) -> u8
 
 // The markers of both sets.
 pub fn union(a: u8, b: u8) -> u8
-    ensures { result ≡ unionOf a b }
+    ensures { result ≡ union_of a b }
 {
     a | b
 }
@@ -62,7 +62,7 @@ pub fn common(a: u8, b: u8) -> u8
 
 // Powerless with Token, Selfless with Equatable.
 pub fn clash(m: u8) -> bool
-    ensures { result ≡ clashOf m }
+    ensures { result ≡ clash_of m }
 {
     if m / 2 % 2 + m / 16 % 2 == 2 {
         return true;

@@ -3,9 +3,9 @@
 use mathlib.Core.Path.{refl}
 use Rattle.spec.specs.Evaluate.{evaluation}
 use Rattle.spec.proofs.Also.{◌also◌}
-use Rattle.meaning.specs.Canonical.{isSet, bodyNumber, insert, ascend, arranged, canonicalGroup, canonical}
+use Rattle.meaning.specs.Canonical.{is_set, body_number, insert, ascend, arranged, canonical_group, canonical}
 use Rattle.meaning.specs.Examples.{examples, AllHold}
 
-pub examples-hold : AllHold examples
-unfolding examples isSet bodyNumber insert ascend arranged canonicalGroup canonical evaluation
-examples-hold = refl also refl also refl also refl also refl also refl also tt
+pub examples_hold : AllHold examples
+unfolding examples is_set body_number insert ascend arranged canonical_group canonical evaluation
+examples_hold = refl also refl also refl also refl also refl also refl also tt

@@ -8,15 +8,15 @@ use Prim.Native.Nat.{ℕ, zero, suc, ◌+◌, ◌≤◌, zero-le}
 use native.Mathlib.Omega.{arith}
 use lib.Dec.{T, leb, ltb, lt→ltb}
 use lib.ListN.{length}
-use Rattle.spec.specs.Record.{kind, isClass, kindFits, lengthFits, bodyFits}
-use Rattle.spec.specs.Sheet.{Group, Split, Located, locate, locatedIn, splitGroups, recordsOf, groupsOf, classCount}
-use Rattle.spec.specs.Refusals.{recordTests, recordRefusal}
+use Rattle.spec.specs.Record.{kind, is_class, kind_fits, length_fits, body_fits}
+use Rattle.spec.specs.Sheet.{Group, Split, Located, locate, located_in, split_groups, records_of, groups_of, class_count}
+use Rattle.spec.specs.Refusals.{record_tests, record_refusal}
 use Rattle.spec.proofs.Also.{◌also◌}
-use Rattle.laws.proofs.Bools.{not-not, not-or, nltb, nleb}
+use Rattle.laws.proofs.Bools.{not_not, not_or, nltb, nleb}
 use Rattle.laws.proofs.All.{All}
-use Rattle.theory.proofs.Cut.{split-class, split-other}
+use Rattle.theory.proofs.Cut.{split_class, split_other}
 use Rattle.theory.proofs.Answers.{Fails, unrefused}
-use Rattle.theory.proofs.Accept.{Passed, locateIf}
+use Rattle.theory.proofs.Accept.{Passed, locate_if}
 use Rattle.theory.proofs.Order.{Ascends}
 use Rattle.meaning.proofs.Shaped.{Shaped}
 
@@ -37,22 +37,22 @@ record Ready (n k p : ℕ) (t : Split) : Type 0 where
   groups : All Good t.groups
   few : n + length t.groups ≤ 256
 
-passes : (at n k p : ℕ) (rs : List (List ℕ)) → Ready n k p (splitGroups rs) → All Passed (locate 1 at n k p rs)
-unfolding locate locateIf
+passes : (at n k p : ℕ) (rs : List (List ℕ)) → Ready n k p (split_groups rs) → All Passed (locate 1 at n k p rs)
+unfolding locate locate_if
 passes at n k p [] h = tt
-passes at n k p (r ∷ rs) h = go (isClass r) refl (passes (at + length r) (suc n) 1 (kind r) rs) (passes (at + length r) n (suc k) (kind r) rs)
+passes at n k p (r ∷ rs) h = go (is_class r) refl (passes (at + length r) (suc n) 1 (kind r) rs) (passes (at + length r) n (suc k) (kind r) rs)
   where
     within : (k m : ℕ) → (k ≡ 0 → suc m ≡ 0) → T (ltb 0 k)
     within zero m f = let z : suc m ≡ 0 = f refl in absurd (omega arith)
     within (suc k) m f = lt→ltb 0 (suc k) (omega arith)
 
-    go : (b : Bool) → isClass r ≡ b → (Ready (suc n) 1 (kind r) (splitGroups rs) → All Passed (locate 1 (at + length r) (suc n) 1 (kind r) rs))
-        → (Ready n (suc k) (kind r) (splitGroups rs) → All Passed (locate 1 (at + length r) n (suc k) (kind r) rs)) → All Passed (locateIf 1 at n k p r rs b)
+    go : (b : Bool) → is_class r ≡ b → (Ready (suc n) 1 (kind r) (split_groups rs) → All Passed (locate 1 (at + length r) (suc n) 1 (kind r) rs))
+        → (Ready n (suc k) (kind r) (split_groups rs) → All Passed (locate 1 (at + length r) n (suc k) (kind r) rs)) → All Passed (locate_if 1 at n k p r rs b)
     go true e f f' =
-        let t = subst (Ready n k p) (split-class r rs e) h in
+        let t = subst (Ready n k p) (split_class r rs e) h in
         let g = t.groups.0 in
         let s : Shaped r = g.shaped.0 in (
-          record { kindFits = s.kindFits; lengthFits = s.lengthFits; grouped = tt; bodyFits = s.bodyFits; class = omega (arith, t.few); recordNumber = omega arith; ordered = zero-le },
+          record { kind_fits = s.kind_fits; length_fits = s.length_fits; grouped = tt; body_fits = s.body_fits; class = omega (arith, t.few); record_number = omega arith; ordered = zero-le },
           f (record {
             shaped = g.shaped.1;
             climbs = g.climbs.1;
@@ -63,15 +63,15 @@ passes at n k p (r ∷ rs) h = go (isClass r) refl (passes (at + length r) (suc 
           }),
         )
     go false e f f' =
-        let t = subst (Ready n k p) (split-other r rs e) h in
+        let t = subst (Ready n k p) (split_other r rs e) h in
         let s : Shaped r = t.shaped.0 in (
           record {
-            kindFits = s.kindFits;
-            lengthFits = s.lengthFits;
-            grouped = within k (length (splitGroups rs).loose) t.begun;
-            bodyFits = s.bodyFits;
+            kind_fits = s.kind_fits;
+            length_fits = s.length_fits;
+            grouped = within k (length (split_groups rs).loose) t.begun;
+            body_fits = s.body_fits;
             class = omega (arith, t.few);
-            recordNumber = omega (arith, t.short);
+            record_number = omega (arith, t.short);
             ordered = t.climbs.0;
           },
           f' (record {
@@ -84,21 +84,21 @@ passes at n k p (r ∷ rs) h = go (isClass r) refl (passes (at + length r) (suc 
           }),
         )
 
-fails : (l : Located) → Passed l → All Fails (recordTests l)
-unfolding recordTests
+fails : (l : Located) → Passed l → All Fails (record_tests l)
+unfolding record_tests
 fails l p =
-    not-not (kindFits l.sheet l.bytes) p.kindFits
-    also not-not (lengthFits l.bytes) p.lengthFits
-    also not-not l.grouped p.grouped
-    also not-not (bodyFits l.sheet l.bytes) p.bodyFits
-    also not-or (leb 256 l.class) (leb 255 l.recordNumber) (nleb 256 l.class p.class) (nleb 255 l.recordNumber p.recordNumber)
+    not_not (kind_fits l.sheet l.bytes) p.kind_fits
+    also not_not (length_fits l.bytes) p.length_fits
+    also not_not l.grouped p.grouped
+    also not_not (body_fits l.sheet l.bytes) p.body_fits
+    also not_or (leb 256 l.class) (leb 255 l.record_number) (nleb 256 l.class p.class) (nleb 255 l.record_number p.record_number)
     also nltb (kind l.bytes) l.before p.ordered
     also tt
 
-pub good-passes : (n : ℕ) (s : List ℕ) → (splitGroups (recordsOf s)).loose ≡ [] → All Good (groupsOf s) → n + classCount s ≤ 256 → recordRefusal 1 n s ≡ none
-unfolding recordRefusal locatedIn groupsOf classCount
-good-passes n s e g few =
-    unrefused recordTests Passed fails (locate 1 0 n 0 0 (recordsOf s)) (passes 0 n 0 0 (recordsOf s) (record {
+pub good_passes : (n : ℕ) (s : List ℕ) → (split_groups (records_of s)).loose ≡ [] → All Good (groups_of s) → n + class_count s ≤ 256 → record_refusal 1 n s ≡ none
+unfolding record_refusal located_in groups_of class_count
+good_passes n s e g few =
+    unrefused record_tests Passed fails (locate 1 0 n 0 0 (records_of s)) (passes 0 n 0 0 (records_of s) (record {
       shaped = subst (All Shaped) (sym e) tt;
       climbs = subst (Ascends 0) (sym e) tt;
       short = omega (arith, ap length e);

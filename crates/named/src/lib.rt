@@ -3,9 +3,9 @@
 
 ghost use Rattle.std.specs.Prelude.{◌≡◌, true, false, ◌+◌, ◌≤◌, ◌<◌, length};
 ghost use Rattle.spec.specs.Lists.{elem};
-ghost use Rattle.spec.specs.Record.{tyAt, references};
-ghost use Rattle.records.specs.Records.{Sized, recordAt};
-ghost use Rattle.named.specs.Named.{typeNamed, firstNamed, secondNamed};
+ghost use Rattle.spec.specs.Record.{ty_at, references};
+ghost use Rattle.records.specs.Records.{Sized, record_at};
+ghost use Rattle.named.specs.Named.{type_named, first_named, second_named};
 
 use records::{
     BUILDS, CLASS, CODE_AT, ENCLOSER_AT, FIELD, FIELD_TYPE_AT, KIND_AT, LOCAL, LOCAL_TYPE_AT,
@@ -15,7 +15,7 @@ use records::{
 // The class of the type at i.
 fn type_named(bytes: &[u8], i: usize) -> usize
     requires { (i + 3 < length bytes.now) × (length bytes.now ≤ 32768) }
-    ensures { result ≡ typeNamed (tyAt bytes.now i) }
+    ensures { result ≡ type_named (ty_at bytes.now i) }
 {
     if bytes[i + CODE_AT] == 0 {
         return wide(word_in(bytes, i + TYPE_CLASS_AT));
@@ -27,7 +27,7 @@ fn type_named(bytes: &[u8], i: usize) -> usize
 fn built(bytes: &[u8], at: usize) -> usize
     requires sized { Sized bytes.now at }
     requires short { length bytes.now ≤ 32768 }
-    ensures { result ≡ firstNamed true (recordAt bytes.now at) }
+    ensures { result ≡ first_named true (record_at bytes.now at) }
 {
     if word_in(bytes, at + KIND_AT) == BUILDS {
         return wide(word_in(bytes, at + TARGET_AT));
@@ -39,7 +39,7 @@ fn built(bytes: &[u8], at: usize) -> usize
 pub fn any_named(bytes: &[u8], at: usize) -> usize
     requires sized { Sized bytes.now at }
     requires short { length bytes.now ≤ 32768 }
-    ensures { result ≡ firstNamed false (recordAt bytes.now at) }
+    ensures { result ≡ first_named false (record_at bytes.now at) }
 {
     let kind = word_in(bytes, at + KIND_AT);
     if kind == FIELD {
@@ -61,7 +61,7 @@ pub fn any_named(bytes: &[u8], at: usize) -> usize
 pub fn first_named(bytes: &[u8], at: usize, builds: bool) -> usize
     requires sized { Sized bytes.now at }
     requires short { length bytes.now ≤ 32768 }
-    ensures { result ≡ firstNamed builds (recordAt bytes.now at) }
+    ensures { result ≡ first_named builds (record_at bytes.now at) }
 {
     if builds {
         return built(bytes, at);
@@ -73,7 +73,7 @@ pub fn first_named(bytes: &[u8], at: usize, builds: bool) -> usize
 pub fn second_named(bytes: &[u8], at: usize, builds: bool) -> usize
     requires sized { Sized bytes.now at }
     requires short { length bytes.now ≤ 32768 }
-    ensures { result ≡ secondNamed builds (recordAt bytes.now at) }
+    ensures { result ≡ second_named builds (record_at bytes.now at) }
 {
     if builds {
         return NONE;
@@ -88,7 +88,7 @@ pub fn second_named(bytes: &[u8], at: usize, builds: bool) -> usize
 pub fn names(bytes: &[u8], at: usize, t: usize) -> bool
     requires sized { Sized bytes.now at }
     requires short { (length bytes.now ≤ 32768) × (t < 65535) }
-    ensures { result ≡ elem t (references (recordAt bytes.now at)) }
+    ensures { result ≡ elem t (references (record_at bytes.now at)) }
 {
     if any_named(bytes, at) == t {
         return true;

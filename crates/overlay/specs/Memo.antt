@@ -4,7 +4,7 @@ use Rattle.std.specs.Prelude.{◌≡◌, true, false, List, ◌++◌, map, ℕ, 
 use Rattle.spec.specs.Lists.{span}
 use Rattle.spec.specs.Record.{IMPLEMENTS}
 use Rattle.spec.specs.Sheet.{Group}
-use Rattle.spec.specs.Markers.{union, unionAll}
+use Rattle.spec.specs.Markers.{union, union_all}
 use Rattle.spec.specs.Classes.{targets, gathered}
 
 -- own markers of a class and of all its supertypes, not closed yet
@@ -12,16 +12,16 @@ unfoldable pub raw : (ℕ → Group) → ℕ → ℕ
 raw g c = gathered g (suc c) c
 
 -- class i as seen from class c: what is gathered for it if it is lower, else nothing
-unfoldable pub lowerRaw : (ℕ → Group) → ℕ → ℕ → ℕ
-lowerRaw g c i = elim (ltb i c) [ true ↦ raw g i | false ↦ 0 ]
+unfoldable pub lower_raw : (ℕ → Group) → ℕ → ℕ → ℕ
+lower_raw g c i = elim (ltb i c) [ true ↦ raw g i | false ↦ 0 ]
 
 -- a set joined with what is gathered for the interfaces of class c
-unfoldable pub withInterfaces : (ℕ → Group) → ℕ → ℕ → ℕ
-withInterfaces g c m = union m (unionAll (map (lowerRaw g c) (targets IMPLEMENTS (g c))))
+unfoldable pub with_interfaces : (ℕ → Group) → ℕ → ℕ → ℕ
+with_interfaces g c m = union m (union_all (map (lower_raw g c) (targets IMPLEMENTS (g c))))
 
 -- the memo that knows just the classes below k; 65535 stands for a class that is not known
-unfoldable pub memoOf : (ℕ → Group) → ℕ → List ℕ
-memoOf g k = map (raw g) (span 0 k) ++ replicate (256 - k) 65535
+unfoldable pub memo_of : (ℕ → Group) → ℕ → List ℕ
+memo_of g k = map (raw g) (span 0 k) ++ replicate (256 - k) 65535
 
 -- a memo that class c may be asked over: all lower classes are known, and class c is not known, or rightly
 pub record Knows (g : ℕ → Group) (c : ℕ) (memo : List ℕ) : Type 0 where

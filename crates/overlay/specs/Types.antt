@@ -11,12 +11,12 @@ pub record Known (g : ℕ → Group) (row : List ℕ) : Type 0 where
   pub is : (c : ℕ) → get_or row c 0 ≡ overlay g c
 
 -- "A type without dimensions has its class's overlay marks; a primitive one satisfies every mark that a rule below asks. An array satisfies none of those."
-unfoldable pub markersBy : (ℕ → ℕ) → Ty → ℕ
-markersBy markers t = elim (eqb t.dims 0) [ true ↦ elim (eqb t.code 0) [ true ↦ markers t.class | false ↦ 255 ] | false ↦ 0 ]
+unfoldable pub markers_by : (ℕ → ℕ) → Ty → ℕ
+markers_by markers t = elim (eqb t.dims 0) [ true ↦ elim (eqb t.code 0) [ true ↦ markers t.class | false ↦ 255 ] | false ↦ 0 ]
 
 -- by the definition of overlay markers, and by a row of them
-unfoldable pub typeMarkers : (ℕ → Group) → Ty → ℕ
-typeMarkers g t = markersBy (overlay g) t
+unfoldable pub type_markers : (ℕ → Group) → Ty → ℕ
+type_markers g t = markers_by (overlay g) t
 
-unfoldable pub rowMarkers : List ℕ → Ty → ℕ
-rowMarkers row t = markersBy (λ c. get_or row c 0) t
+unfoldable pub row_markers : List ℕ → Ty → ℕ
+row_markers row t = markers_by (λ c. get_or row c 0) t

@@ -3,14 +3,14 @@
 #![tactic(auto)]
 
 ghost use Rattle.std.specs.Prelude.{◌≡◌, ℕ, ◌+◌, ◌≤◌, ◌<◌, min, max, length, get_or, set};
-ghost use Rattle.spec.specs.Record.{tyAt};
-ghost use Rattle.spec.specs.Sheet.{Group, group as groupOf};
-ghost use Rattle.spec.specs.Classes.{overlay as overlayOf};
+ghost use Rattle.spec.specs.Record.{ty_at};
+ghost use Rattle.spec.specs.Sheet.{Group, group as group_of};
+ghost use Rattle.spec.specs.Classes.{overlay as overlay_of};
 ghost use Rattle.theory.proofs.Falls.{Falls};
 ghost use Rattle.records.specs.Records.{Carries};
 ghost use Rattle.groups.specs.Groups.{Indexed};
-ghost use Rattle.overlay.specs.Memo.{raw, lowerRaw, withInterfaces, memoOf, Knows};
-ghost use Rattle.overlay.specs.Types.{Known, rowMarkers};
+ghost use Rattle.overlay.specs.Memo.{raw, lower_raw, with_interfaces, memo_of, Knows};
+ghost use Rattle.overlay.specs.Types.{Known, row_markers};
 
 use groups::{Classes, class_bytes};
 use markers::{ALL, closure, union};
@@ -34,7 +34,7 @@ fn bytes_of<'a>(
 ) -> &'a [u8]
     requires indexed { Indexed library.now user.now classes.library classes.all starts.now }
     requires there { c < classes.all }
-    ensures { Carries result.now (groupOf library.now user.now c) }
+    ensures { Carries result.now (group_of library.now user.now c) }
 {
     class_bytes(library, user, starts, classes, c)
 }
@@ -51,10 +51,10 @@ fn lower<'a>(
     memo: &mut [u16],
 ) -> u8
     requires indexed { Indexed library.now user.now classes.library classes.all starts.now }
-    requires falls { Falls (groupOf library.now user.now) }
+    requires falls { Falls (group_of library.now user.now) }
     requires there { c < classes.all }
-    requires knows { Knows (groupOf library.now user.now) c memo.old }
-    ensures markers { result ≡ lowerRaw (groupOf library.now user.now) c i }
+    requires knows { Knows (group_of library.now user.now) c memo.old }
+    ensures markers { result ≡ lower_raw (group_of library.now user.now) c i }
     ensures memo { memo.new ≡ memo.old }
 {
     if c <= i {
@@ -74,11 +74,11 @@ fn gathered<'a>(
     memo: &mut [u16],
 ) -> u8
     requires indexed { Indexed library.now user.now classes.library classes.all starts.now }
-    requires falls { Falls (groupOf library.now user.now) }
+    requires falls { Falls (group_of library.now user.now) }
     requires there { c < classes.all }
-    requires knows { Knows (groupOf library.now user.now) c memo.old }
-    ensures markers { result ≡ raw (groupOf library.now user.now) c }
-    ensures memo { memo.new ≡ set memo.old c (raw (groupOf library.now user.now) c) }
+    requires knows { Knows (group_of library.now user.now) c memo.old }
+    ensures markers { result ≡ raw (group_of library.now user.now) c }
+    ensures memo { memo.new ≡ set memo.old c (raw (group_of library.now user.now) c) }
 {
     let known = memo[c];
     if known < SETS {
@@ -105,10 +105,10 @@ fn interfaces<'a>(
     memo: &mut [u16],
 ) -> u8
     requires indexed { Indexed library.now user.now classes.library classes.all starts.now }
-    requires falls { Falls (groupOf library.now user.now) }
+    requires falls { Falls (group_of library.now user.now) }
     requires there { c < classes.all }
-    requires knows { Knows (groupOf library.now user.now) c memo.old }
-    ensures markers { result ≡ withInterfaces (groupOf library.now user.now) c mine }
+    requires knows { Knows (group_of library.now user.now) c memo.old }
+    ensures markers { result ≡ with_interfaces (group_of library.now user.now) c mine }
     ensures memo { memo.new ≡ memo.old }
 {
     let bytes = bytes_of(library, user, starts, classes, c);
@@ -136,12 +136,12 @@ pub fn overlay<'a>(
     memo: &mut [u16],
 ) -> u8
     ghost g: { ℕ → Group }
-    requires groups { groupOf library.now user.now ≡ g }
+    requires groups { group_of library.now user.now ≡ g }
     requires indexed { Indexed library.now user.now classes.library classes.all starts.now }
     requires falls { Falls g }
     requires there { c < classes.all }
     requires knows { Knows g c memo.old }
-    ensures markers { result ≡ overlayOf g c }
+    ensures markers { result ≡ overlay_of g c }
     ensures memo { memo.new ≡ set memo.old c (raw g c) }
 {
     let open = gathered(library, user, starts, classes, c, memo);
@@ -160,13 +160,13 @@ pub fn overlay_in_turn<'a>(
     memo: &mut [u16],
 ) -> u8
     ghost g: { ℕ → Group }
-    requires groups { groupOf library.now user.now ≡ g }
+    requires groups { group_of library.now user.now ≡ g }
     requires indexed { Indexed library.now user.now classes.library classes.all starts.now }
     requires falls { Falls g }
     requires there { c < classes.all }
-    requires memo { memo.old ≡ memoOf g classes.library }
-    ensures markers { result ≡ overlayOf g c }
-    ensures memo { memo.new ≡ memoOf g (max classes.library (c + 1)) }
+    requires memo { memo.old ≡ memo_of g classes.library }
+    ensures markers { result ≡ overlay_of g c }
+    ensures memo { memo.new ≡ memo_of g (max classes.library (c + 1)) }
 {
     let mut d = classes.library;
     while d < c {
@@ -186,12 +186,12 @@ fn overlay_or_none<'a>(
     memo: &mut [u16],
 ) -> u8
     ghost g: { ℕ → Group }
-    requires groups { groupOf library.now user.now ≡ g }
+    requires groups { group_of library.now user.now ≡ g }
     requires indexed { Indexed library.now user.now classes.library classes.all starts.now }
     requires falls { Falls g }
-    requires memo { memo.old ≡ memoOf g (max classes.library (min c classes.all)) }
-    ensures markers { result ≡ overlayOf g c }
-    ensures memo { memo.new ≡ memoOf g (max classes.library (min (c + 1) classes.all)) }
+    requires memo { memo.old ≡ memo_of g (max classes.library (min c classes.all)) }
+    ensures markers { result ≡ overlay_of g c }
+    ensures memo { memo.new ≡ memo_of g (max classes.library (min (c + 1) classes.all)) }
 {
     if classes.all <= c {
         return 0;
@@ -209,13 +209,13 @@ pub fn overlays<'a>(
     row: &mut [u8],
 )
     ghost g: { ℕ → Group }
-    requires groups { groupOf library.now user.now ≡ g }
+    requires groups { group_of library.now user.now ≡ g }
     requires indexed { Indexed library.now user.now classes.library classes.all starts.now }
     requires falls { Falls g }
-    requires memo { memo.old ≡ memoOf g classes.library }
+    requires memo { memo.old ≡ memo_of g classes.library }
     requires row { length row.old ≡ 256 }
     ensures row { Known g row.new }
-    ensures memo { memo.new ≡ memoOf g classes.all }
+    ensures memo { memo.new ≡ memo_of g classes.all }
 {
     let mut c = 0;
     while c < CLASS_LIMIT {
@@ -234,7 +234,7 @@ pub fn known(row: &[u8], c: usize) -> u8
 // The markers that the type at i satisfies, by the row of all classes' markers: those of its class, all if it is primitive, none if it is an array.
 pub fn type_markers(bytes: &[u8], i: usize, row: &[u8]) -> u8
     requires { (i + 3 < length bytes.now) × (length bytes.now ≤ 32768) }
-    ensures { result ≡ rowMarkers row.now (tyAt bytes.now i) }
+    ensures { result ≡ row_markers row.now (ty_at bytes.now i) }
 {
     if bytes[i] != 0 {
         return 0;

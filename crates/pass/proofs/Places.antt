@@ -9,83 +9,83 @@ use native.Mathlib.Omega.{arith}
 use lib.Dec.{T, eqb, ltb, ltb→lt}
 use lib.ListN.{length}
 use borrow.Author.Tests.{ne_eqb}
-use Rattle.spec.specs.Lists.{all, firstOf}
-use Rattle.spec.specs.Record.{kind, isClass}
+use Rattle.spec.specs.Lists.{all, first_of}
+use Rattle.spec.specs.Record.{kind, is_class}
 use Rattle.spec.specs.Sheet.{Located, locate}
-use Rattle.spec.specs.Refusals.{Refusal, refuseIf, refuseRecord}
+use Rattle.spec.specs.Refusals.{Refusal, refuse_if, refuse_record}
 use Rattle.laws.proofs.Bools.{and_l, and_r}
-use Rattle.pass.specs.Pass.{numberOf, place}
+use Rattle.pass.specs.Pass.{number_of, place}
 
 module _ (sheet at n k b : ℕ) (r : List ℕ) where
-  abbrev pub classPlace : Located
-  classPlace = record { sheet = sheet; byte = at; class = n; recordNumber = 0; before = 0; grouped = true; bytes = r }
+  abbrev pub class_place : Located
+  class_place = record { sheet = sheet; byte = at; class = n; record_number = 0; before = 0; grouped = true; bytes = r }
 
-  abbrev pub otherPlace : Located
-  otherPlace = record { sheet = sheet; byte = at; class = n - 1; recordNumber = k; before = b; grouped = ltb 0 k; bytes = r }
+  abbrev pub other_place : Located
+  other_place = record { sheet = sheet; byte = at; class = n - 1; record_number = k; before = b; grouped = ltb 0 k; bytes = r }
 
-  pub place-class : isClass r ≡ true → place sheet at n k b r ≡ classPlace
+  pub place_class : is_class r ≡ true → place sheet at n k b r ≡ class_place
   unfolding place
-  place-class e = rw (e, place)
+  place_class e = rw (e, place)
 
-  pub place_other : isClass r ≡ false → place sheet at n k b r ≡ otherPlace
+  pub place_other : is_class r ≡ false → place sheet at n k b r ≡ other_place
   unfolding place
   place_other e = rw (e, place)
 
-  pub by_place : (P : Located → Type 0) → P classPlace → P otherPlace → P (place sheet at n k b r)
-  by_place P p q = go (isClass r) refl
+  pub by_place : (P : Located → Type 0) → P class_place → P other_place → P (place sheet at n k b r)
+  by_place P p q = go (is_class r) refl
     where
-      go : (c : Bool) → isClass r ≡ c → P (place sheet at n k b r)
-      go true e = rw (place-class e) p
+      go : (c : Bool) → is_class r ≡ c → P (place sheet at n k b r)
+      go true e = rw (place_class e) p
       go false e = rw (place_other e) q
 
   module _ (rs : List (List ℕ)) where
-    pub locate-class : isClass r ≡ true → locate sheet at n k b (r ∷ rs) ≡ classPlace ∷ locate sheet (at + length r) (suc n) 1 (kind r) rs
+    pub locate_class : is_class r ≡ true → locate sheet at n k b (r ∷ rs) ≡ class_place ∷ locate sheet (at + length r) (suc n) 1 (kind r) rs
     unfolding locate
-    locate-class e = rw (e, locate)
+    locate_class e = rw (e, locate)
 
-    pub locate-other : isClass r ≡ false → locate sheet at n k b (r ∷ rs) ≡ otherPlace ∷ locate sheet (at + length r) n (suc k) (kind r) rs
+    pub locate_other : is_class r ≡ false → locate sheet at n k b (r ∷ rs) ≡ other_place ∷ locate sheet (at + length r) n (suc k) (kind r) rs
     unfolding locate
-    locate-other e = rw (e, locate)
+    locate_other e = rw (e, locate)
 
 -- the numbers of classes and of the open group's records after one more record, a CLASS record or another
-unfoldable pub classesAfter : Bool → ℕ → ℕ
-classesAfter b n = elim b [ true ↦ suc n | false ↦ n ]
+unfoldable pub classes_after : Bool → ℕ → ℕ
+classes_after b n = elim b [ true ↦ suc n | false ↦ n ]
 
-unfoldable pub recordsAfter : Bool → ℕ → ℕ
-recordsAfter b k = elim b [ true ↦ 1 | false ↦ suc k ]
+unfoldable pub records_after : Bool → ℕ → ℕ
+records_after b k = elim b [ true ↦ 1 | false ↦ suc k ]
 
-pub locate-cons : (sheet at n k b : ℕ) (r : List ℕ) (rs : List (List ℕ))
-    → locate sheet at n k b (r ∷ rs) ≡ place sheet at n k b r ∷ locate sheet (at + length r) (classesAfter (isClass r) n) (recordsAfter (isClass r) k) (kind r) rs
-unfolding classesAfter recordsAfter
-locate-cons sheet at n k b r rs = go (isClass r) refl
+pub locate_cons : (sheet at n k b : ℕ) (r : List ℕ) (rs : List (List ℕ))
+    → locate sheet at n k b (r ∷ rs) ≡ place sheet at n k b r ∷ locate sheet (at + length r) (classes_after (is_class r) n) (records_after (is_class r) k) (kind r) rs
+unfolding classes_after records_after
+locate_cons sheet at n k b r rs = go (is_class r) refl
   where
-    go : (c : Bool) → isClass r ≡ c
-        → locate sheet at n k b (r ∷ rs) ≡ place sheet at n k b r ∷ locate sheet (at + length r) (classesAfter c n) (recordsAfter c k) (kind r) rs
-    go true e = rw (place-class sheet at n k b r e) (locate-class sheet at n k b r rs e)
-    go false e = rw (place_other sheet at n k b r e) (locate-other sheet at n k b r rs e)
+    go : (c : Bool) → is_class r ≡ c
+        → locate sheet at n k b (r ∷ rs) ≡ place sheet at n k b r ∷ locate sheet (at + length r) (classes_after c n) (records_after c k) (kind r) rs
+    go true e = rw (place_class sheet at n k b r e) (locate_class sheet at n k b r rs e)
+    go false e = rw (place_other sheet at n k b r e) (locate_other sheet at n k b r rs e)
 
 -- ---- the number that refuses a record
 
 -- what refuses a located record by some tests of it
 unfoldable pub answer : (Located → List (ℕ × Bool)) → Located → Option Refusal
-answer tests l = refuseRecord l (tests l)
+answer tests l = refuse_record l (tests l)
 
 -- a record is refused by the number of the first test that it meets, where no test has the number 0
-pub number-refuses : (l : Located) (ts : List (ℕ × Bool)) → T (all (λ t. ltb 0 t.0) ts)
-    → refuseRecord l ts ≡ refuseIf (not (eqb (numberOf ts) 0)) (numberOf ts) l.sheet l.byte
-unfolding refuseRecord numberOf all refuseIf firstOf
-number-refuses l [] h = refl
-number-refuses l ((n, true) ∷ ts) h =
+pub number_refuses : (l : Located) (ts : List (ℕ × Bool)) → T (all (λ t. ltb 0 t.0) ts)
+    → refuse_record l ts ≡ refuse_if (not (eqb (number_of ts) 0)) (number_of ts) l.sheet l.byte
+unfolding refuse_record number_of all refuse_if first_of
+number_refuses l [] h = refl
+number_refuses l ((n, true) ∷ ts) h =
     let p = ltb→lt 0 n (and_l (ltb 0 n) (all (λ t. ltb 0 t.0) ts) h) in
     rw (ne_eqb n 0 (λ e. omega arith))
-number-refuses l ((n, false) ∷ ts) h = number-refuses l ts (and_r (ltb 0 n) (all (λ t. ltb 0 t.0) ts) h)
+number_refuses l ((n, false) ∷ ts) h = number_refuses l ts (and_r (ltb 0 n) (all (λ t. ltb 0 t.0) ts) h)
 
 -- so of a record at its place
-pub place-refuses : (tests : Located → List (ℕ × Bool)) (sheet at n k b : ℕ) (r : List ℕ) → T (all (λ t. ltb 0 t.0) (tests (place sheet at n k b r)))
-    → answer tests (place sheet at n k b r) ≡ refuseIf (not (eqb (numberOf (tests (place sheet at n k b r))) 0)) (numberOf (tests (place sheet at n k b r))) sheet at
+pub place_refuses : (tests : Located → List (ℕ × Bool)) (sheet at n k b : ℕ) (r : List ℕ) → T (all (λ t. ltb 0 t.0) (tests (place sheet at n k b r)))
+    → answer tests (place sheet at n k b r) ≡ refuse_if (not (eqb (number_of (tests (place sheet at n k b r))) 0)) (number_of (tests (place sheet at n k b r))) sheet at
 unfolding answer
-place-refuses tests sheet at n k b r h =
+place_refuses tests sheet at n k b r h =
     let p : Located = place sheet at n k b r in
-    let m : ℕ = numberOf (tests p) in
-    number-refuses p (tests p) h
-    ∙ by_place sheet at n k b r (λ l. refuseIf (not (eqb m 0)) m l.sheet l.byte ≡ refuseIf (not (eqb m 0)) m sheet at) refl refl
+    let m : ℕ = number_of (tests p) in
+    number_refuses p (tests p) h
+    ∙ by_place sheet at n k b r (λ l. refuse_if (not (eqb m 0)) m l.sheet l.byte ≡ refuse_if (not (eqb m 0)) m sheet at) refl refl

@@ -10,9 +10,9 @@ use lib.ListN.{length, get_or, take, drop}
 use lib.Seq.{drop-cons}
 use borrow.Author.Tests.{leb-true, leb-false}
 use lib.Bits.{bit_and, and_block, and_shifted, and_comm, and_zero_r}
-use Rattle.spec.specs.Record.{nameFits}
-use Rattle.laws.proofs.Bools.{true-t, t_true, t-and, and_l, and_r}
-use Rattle.laws.proofs.All.{All, all_map, weaken, all_true, true-all}
+use Rattle.spec.specs.Record.{name_fits}
+use Rattle.laws.proofs.Bools.{true_t, t_true, t_and, and_l, and_r}
+use Rattle.laws.proofs.All.{All, all_map, weaken, all_true, true_all}
 use Rattle.theory.proofs.Answers.{of_map}
 use Rattle.pass.specs.Pass.{joined}
 
@@ -24,16 +24,16 @@ filling m bs = joined (map (λ b. m) bs)
 abbrev tops : List ℕ → ℕ
 tops bs = bit_and (joined bs) (filling 128 bs)
 
-tops-cons : (b : ℕ) (bs : List ℕ) → b < 256 → tops (b ∷ bs) ≡ tops bs * 256 + bit_and b 128
+tops_cons : (b : ℕ) (bs : List ℕ) → b < 256 → tops (b ∷ bs) ≡ tops bs * 256 + bit_and b 128
 unfolding joined
-tops-cons b bs h = and_block 8 (joined bs) (filling 128 bs) b 128 h (omega arith)
+tops_cons b bs h = and_block 8 (joined bs) (filling 128 bs) b 128 h (omega arith)
 
 -- of one byte
-top-low : (b : ℕ) → b < 128 → bit_and b 128 ≡ 0
-top-low b h = and_comm b 128 ∙ and_shifted 1 7 b h
+top_low : (b : ℕ) → b < 128 → bit_and b 128 ≡ 0
+top_low b h = and_comm b 128 ∙ and_shifted 1 7 b h
 
-low-top : (b : ℕ) → b < 256 → bit_and b 128 ≡ 0 → b < 128
-low-top b h e = go (leb 128 b) refl
+low_top : (b : ℕ) → b < 256 → bit_and b 128 ≡ 0 → b < 128
+low_top b h e = go (leb 128 b) refl
   where
     go : (t : Bool) → leb 128 b ≡ t → b < 128
     go true q =
@@ -44,16 +44,16 @@ low-top b h e = go (leb 128 b) refl
         absurd (omega (arith, rw eb at e, z))
     go false q = leb-false 128 b q
 
-none-high : (bs : List ℕ) → All (λ b. b < 128) bs → tops bs ≡ 0
+none_high : (bs : List ℕ) → All (λ b. b < 128) bs → tops bs ≡ 0
 unfolding joined
-none-high [] h = refl
-none-high (b ∷ bs) h = rw (tops-cons b bs (omega (arith, h.0)), top-low b h.0, none-high bs h.1)
+none_high [] h = refl
+none_high (b ∷ bs) h = rw (tops_cons b bs (omega (arith, h.0)), top_low b h.0, none_high bs h.1)
 
-all-low : (bs : List ℕ) → All (λ b. b < 256) bs → tops bs ≡ 0 → All (λ b. b < 128) bs
-all-low [] w e = tt
-all-low (b ∷ bs) w e =
-    let q = sym (tops-cons b bs w.0) ∙ e in
-    (low-top b w.0 (omega (arith, q)), all-low bs w.1 (omega (arith, q)))
+all_low : (bs : List ℕ) → All (λ b. b < 256) bs → tops bs ≡ 0 → All (λ b. b < 128) bs
+all_low [] w e = tt
+all_low (b ∷ bs) w e =
+    let q = sym (tops_cons b bs w.0) ∙ e in
+    (low_top b w.0 (omega (arith, q)), all_low bs w.1 (omega (arith, q)))
 
 -- ---- a number added to each byte, or each byte taken from one
 
@@ -67,10 +67,10 @@ unfolding joined
 taken m [] h = refl
 taken m (b ∷ bs) h = omega (arith, taken m bs h.1, h.0)
 
-filling-map : (m : ℕ) (f : ℕ → ℕ) (bs : List ℕ) → filling m (map f bs) ≡ filling m bs
+filling_map : (m : ℕ) (f : ℕ → ℕ) (bs : List ℕ) → filling m (map f bs) ≡ filling m bs
 unfolding joined
-filling-map m f [] = refl
-filling-map m f (b ∷ bs) = rw (filling-map m f bs)
+filling_map m f [] = refl
+filling_map m f (b ∷ bs) = rw (filling_map m f bs)
 
 -- ---- the bytes of a name
 
@@ -79,60 +79,60 @@ pub record Fit (b : ℕ) : Type 0 where
   pub low : 33 ≤ b
   pub high : b ≤ 126
 
-pub fit_all : (bs : List ℕ) → nameFits bs ≡ true → All Fit bs
-unfolding nameFits
+pub fit_all : (bs : List ℕ) → name_fits bs ≡ true → All Fit bs
+unfolding name_fits
 fit_all bs e =
     weaken (λ b. T (leb 33 b && leb b 126)) Fit
     (λ b t. record { low = leb→le 33 b (and_l (leb 33 b) (leb b 126) t); high = leb→le b 126 (and_r (leb 33 b) (leb b 126) t) }) bs
-    (all_true (λ b. leb 33 b && leb b 126) bs (true-t e))
+    (all_true (λ b. leb 33 b && leb b 126) bs (true_t e))
 
-pub all_fit : (bs : List ℕ) → All Fit bs → nameFits bs ≡ true
-unfolding nameFits
+pub all_fit : (bs : List ℕ) → All Fit bs → name_fits bs ≡ true
+unfolding name_fits
 all_fit bs h =
-    t_true (nameFits bs) (true-all (λ b. leb 33 b && leb b 126) bs
-    (weaken Fit (λ b. T (leb 33 b && leb b 126)) (λ b f. t-and (leb 33 b) (leb b 126) (le→leb 33 b f.low) (le→leb b 126 f.high)) bs h))
+    t_true (name_fits bs) (true_all (λ b. leb 33 b && leb b 126) bs
+    (weaken Fit (λ b. T (leb 33 b && leb b 126)) (λ b f. t_and (leb 33 b) (leb b 126) (le→leb 33 b f.low) (le→leb b 126 f.high)) bs h))
 
 -- what refutes a name
-unfit : (bs : List ℕ) → (All Fit bs → ⊥) → false ≡ nameFits bs
-unfit bs n = go (nameFits bs) refl
+unfit : (bs : List ℕ) → (All Fit bs → ⊥) → false ≡ name_fits bs
+unfit bs n = go (name_fits bs) refl
   where
-    go : (t : Bool) → nameFits bs ≡ t → false ≡ t
+    go : (t : Bool) → name_fits bs ≡ t → false ≡ t
     go true e = absurd (n (fit_all bs e))
     go false e = refl
 
 -- the three tests pass where all bytes fit
 module _ (bs : List ℕ) (h : All Fit bs) where
   fit_none : (f : ℕ → ℕ) → ((b : ℕ) → Fit b → f b < 128) → bit_and (joined (map f bs)) (filling 128 bs) ≡ 0
-  fit_none f g = rw (filling-map 128 f bs) at (none-high (map f bs) (all_map Fit (λ b. b < 128) f g bs h))
+  fit_none f g = rw (filling_map 128 f bs) at (none_high (map f bs) (all_map Fit (λ b. b < 128) f g bs h))
 
-  fit-first : bit_and (joined bs) (filling 128 bs) ≡ 0
-  fit-first = none-high bs (weaken Fit (λ b. b < 128) (λ b f. omega (arith, f.high)) bs h)
+  fit_first : bit_and (joined bs) (filling 128 bs) ≡ 0
+  fit_first = none_high bs (weaken Fit (λ b. b < 128) (λ b f. omega (arith, f.high)) bs h)
 
-  fit-second : bit_and (joined bs + filling 1 bs) (filling 128 bs) ≡ 0
-  fit-second = rw (added 1 bs) at (fit_none (λ b. b + 1) (λ b f. omega (arith, f.high)))
+  fit_second : bit_and (joined bs + filling 1 bs) (filling 128 bs) ≡ 0
+  fit_second = rw (added 1 bs) at (fit_none (λ b. b + 1) (λ b f. omega (arith, f.high)))
 
-  fit-third : bit_and (filling 160 bs - joined bs) (filling 128 bs) ≡ 0
-  fit-third =
+  fit_third : bit_and (filling 160 bs - joined bs) (filling 128 bs) ≡ 0
+  fit_third =
       let e : joined (map (λ b. 160 - b) bs) ≡ filling 160 bs - joined bs = omega (arith, taken 160 bs (weaken Fit (λ b. b ≤ 160) (λ b f. omega (arith, f.high)) bs h)) in
       rw e at (fit_none (λ b. 160 - b) (λ b f. omega (arith, f.low)))
 
 -- and they refuse any other byte
 module _ (bs : List ℕ) (w : All (λ b. b < 256) bs) (z : bit_and (joined bs) (filling 128 bs) ≡ 0) where
   below : All (λ b. b < 128) bs
-  below = all-low bs w z
+  below = all_low bs w z
 
   fall : joined bs ≤ filling 127 bs
   fall = omega (arith, taken 127 bs (weaken (λ b. b < 128) (λ b. b ≤ 127) (λ b l. omega arith) bs below))
 
-  passes : bit_and (joined bs + filling 1 bs) (filling 128 bs) ≡ 0 → bit_and (filling 160 bs - joined bs) (filling 128 bs) ≡ 0 → true ≡ nameFits bs
+  passes : bit_and (joined bs + filling 1 bs) (filling 128 bs) ≡ 0 → bit_and (filling 160 bs - joined bs) (filling 128 bs) ≡ 0 → true ≡ name_fits bs
   passes y x =
       let e : joined (map (λ b. 160 - b) bs) ≡ filling 160 bs - joined bs = omega (arith, taken 160 bs (weaken (λ b. b < 128) (λ b. b ≤ 160) (λ b l. omega arith) bs below)) in
-      let p = low-after (λ b. b + 1) (λ b l. omega arith) (rw (added 1 bs) y) in
-      let q = low-after (λ b. 160 - b) (λ b l. omega arith) (rw e x) in
+      let p = low_after (λ b. b + 1) (λ b l. omega arith) (rw (added 1 bs) y) in
+      let q = low_after (λ b. 160 - b) (λ b l. omega arith) (rw e x) in
       sym (all_fit bs (both bs p q))
     where
-      low-after : (f : ℕ → ℕ) → ((b : ℕ) → b < 128 → f b < 256) → bit_and (joined (map f bs)) (filling 128 bs) ≡ 0 → All (λ b. f b < 128) bs
-      low-after f g d = of_map (λ b. b < 128) f bs (all-low (map f bs) (all_map (λ b. b < 128) (λ b. b < 256) f g bs below) (rw (filling-map 128 f bs) d))
+      low_after : (f : ℕ → ℕ) → ((b : ℕ) → b < 128 → f b < 256) → bit_and (joined (map f bs)) (filling 128 bs) ≡ 0 → All (λ b. f b < 128) bs
+      low_after f g d = of_map (λ b. b < 128) f bs (all_low (map f bs) (all_map (λ b. b < 128) (λ b. b < 256) f g bs below) (rw (filling_map 128 f bs) d))
 
       both : (xs : List ℕ) → All (λ b. b + 1 < 128) xs → All (λ b. 160 - b < 128) xs → All Fit xs
       both [] p q = tt
@@ -147,17 +147,17 @@ four_is s i h =
     let c : i + 3 ≡ suc (suc (suc i)) = omega arith in
     rw (a, b, c, drop-cons s i 0 (omega arith), drop-cons s (suc i) 0 (omega arith), drop-cons s (suc (suc i)) 0 (omega arith), drop-cons s (suc (suc (suc i))) 0 (omega arith))
 
-pub four-joined : (s : List ℕ) (i : ℕ) → i + 4 ≤ length s → {a b c d : ℕ} → a ≡ get_or s i 0 → b ≡ get_or s (i + 1) 0 → c ≡ get_or s (i + 2) 0 → d ≡ get_or s (i + 3) 0
+pub four_joined : (s : List ℕ) (i : ℕ) → i + 4 ≤ length s → {a b c d : ℕ} → a ≡ get_or s i 0 → b ≡ get_or s (i + 1) 0 → c ≡ get_or s (i + 2) 0 → d ≡ get_or s (i + 3) 0
     → a + 256 * b + 65536 * c + 16777216 * d ≡ joined (take 4 (drop i s))
 unfolding joined
-four-joined s i h ea eb ec ed = rw (four_is s i h, ea, eb, ec, ed) (omega arith)
+four_joined s i h ea eb ec ed = rw (four_is s i h, ea, eb, ec, ed) (omega arith)
 
 -- a and b are the numbers that the four bytes at i and the four at j make
 pub record Eight (s : List ℕ) (i j a b : ℕ) : Type 0 where
-  pub first-inside : i + 4 ≤ length s
-  pub second-inside : j + 4 ≤ length s
+  pub first_inside : i + 4 ≤ length s
+  pub second_inside : j + 4 ≤ length s
   pub byte : (x : ℕ) → get_or s x 0 < 256
-  pub first-is : a ≡ joined (take 4 (drop i s))
+  pub first_is : a ≡ joined (take 4 (drop i s))
   pub second_is : b ≡ joined (take 4 (drop j s))
 
 -- in each of eight bytes: the highest bit
@@ -171,39 +171,39 @@ module _ {s : List ℕ} {i j a b : ℕ} (w : Eight s i j a b) where
 
   word : a + 4294967296 * b ≡ joined both
   unfolding joined
-  word = rw (w.first-is, w.second_is, four_is s i w.first-inside, four_is s j w.second-inside) (omega arith)
+  word = rw (w.first_is, w.second_is, four_is s i w.first_inside, four_is s j w.second_inside) (omega arith)
 
-  both-filling : (m : ℕ) → filling m both ≡ m * 72340172838076673
+  both_filling : (m : ℕ) → filling m both ≡ m * 72340172838076673
   unfolding joined
-  both-filling m = rw (four_is s i w.first-inside, four_is s j w.second-inside) (omega arith)
+  both_filling m = rw (four_is s i w.first_inside, four_is s j w.second_inside) (omega arith)
 
   both_bytes : All (λ b. b < 256) both
   both_bytes =
       let byte = w.byte in
-      rw (four_is s i w.first-inside, four_is s j w.second-inside) (byte _, (byte _, (byte _, (byte _, (byte _, (byte _, (byte _, (byte _, tt))))))))
+      rw (four_is s i w.first_inside, four_is s j w.second_inside) (byte _, (byte _, (byte _, (byte _, (byte _, (byte _, (byte _, (byte _, tt))))))))
 
   -- a byte over 127
-  pub over : (bit_and (a + 4294967296 * b) highs ≡ 0 → ⊥) → false ≡ nameFits both
-  over n = unfit both (λ h. n (rw (word, ← both-filling 128) (fit-first both h)))
+  pub over : (bit_and (a + 4294967296 * b) highs ≡ 0 → ⊥) → false ≡ name_fits both
+  over n = unfit both (λ h. n (rw (word, ← both_filling 128) (fit_first both h)))
 
   -- a byte under 33
-  pub under : (bit_and (11574427654092267680 - (a + 4294967296 * b)) highs ≡ 0 → ⊥) → false ≡ nameFits both
-  under n = unfit both (λ h. n (rw (word, ← both-filling 128, ← both-filling 160) (fit-third both h)))
+  pub under : (bit_and (11574427654092267680 - (a + 4294967296 * b)) highs ≡ 0 → ⊥) → false ≡ name_fits both
+  under n = unfit both (λ h. n (rw (word, ← both_filling 128, ← both_filling 160) (fit_third both h)))
 
   -- a byte of 127
-  pub last : (bit_and (a + 4294967296 * b + 72340172838076673) highs ≡ 0 → ⊥) → false ≡ nameFits both
-  last n = unfit both (λ h. n (rw (word, ← both-filling 128, ← both-filling 1) (fit-second both h)))
+  pub last : (bit_and (a + 4294967296 * b + 72340172838076673) highs ≡ 0 → ⊥) → false ≡ name_fits both
+  last n = unfit both (λ h. n (rw (word, ← both_filling 128, ← both_filling 1) (fit_second both h)))
 
   module _ (z : bit_and (a + 4294967296 * b) highs ≡ 0) where
-    zero-tops : bit_and (joined both) (filling 128 both) ≡ 0
-    zero-tops = rw (← word, both-filling 128) z
+    zero_tops : bit_and (joined both) (filling 128 both) ≡ 0
+    zero_tops = rw (← word, both_filling 128) z
 
     -- so no sum or difference leaves the word
     pub small : a + 4294967296 * b ≤ 9187201950435737471
-    small = omega (arith, word, fall both both_bytes zero-tops, both-filling 127)
+    small = omega (arith, word, fall both both_bytes zero_tops, both_filling 127)
 
     pub all_pass : bit_and (a + 4294967296 * b + 72340172838076673) highs ≡ 0
         → bit_and (11574427654092267680 - (a + 4294967296 * b)) highs ≡ 0
-        → true ≡ nameFits both
+        → true ≡ name_fits both
     all_pass y x =
-        passes both both_bytes zero-tops (rw (← word, both-filling 1, both-filling 128) y) (rw (← word, both-filling 160, both-filling 128) x)
+        passes both both_bytes zero_tops (rw (← word, both_filling 1, both_filling 128) y) (rw (← word, both_filling 160, both_filling 128) x)

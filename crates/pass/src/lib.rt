@@ -3,10 +3,10 @@
 #![tactic(auto)]
 
 ghost use Rattle.std.specs.Prelude.{◌≡◌, true, ◌++◌, ◌+◌, ◌-◌, ◌≤◌, ◌<◌, length, take, drop};
-ghost use Rattle.spec.specs.Record.{u16, nameFits, tyFits, tyAt, classFlagsFit};
-ghost use Rattle.spec.specs.Sheet.{classCount};
-ghost use Rattle.pass.specs.Pass.{joined, homeFits, nameStart, fixedAt, orderNumber, headNumber, recordNumber, passRefusal, shifted, passOf, Filled};
-ghost use Rattle.records.specs.Records.{sizeFits};
+ghost use Rattle.spec.specs.Record.{u16, name_fits, ty_fits, ty_at, class_flags_fit};
+ghost use Rattle.spec.specs.Sheet.{class_count};
+ghost use Rattle.pass.specs.Pass.{joined, home_fits, name_start, fixed_at, order_number, head_number, record_number, pass_refusal, shifted, pass_of, Filled};
+ghost use Rattle.records.specs.Records.{size_fits};
 
 use records::{
     ALLOWED, BUILDS, CLASS, CLASS_LIMIT, CODE_AT, FIELD, FIELD_TYPE_AT, FLAGS_AT, HEAD_BYTES,
@@ -55,7 +55,7 @@ const LIMITS: u64 = 0xa0a0a0a0a0a0a0a0;
 // Whether a sheet (0 library, 1 user) may have the kind.
 fn home_fits(sheet: u8, kind: u16) -> bool
     requires { sheet < 2 }
-    ensures { result ≡ homeFits sheet kind }
+    ensures { result ≡ home_fits sheet kind }
 {
     if REFERS < kind {
         return false;
@@ -70,7 +70,7 @@ fn home_fits(sheet: u8, kind: u16) -> bool
 // Whether a record of the kind may have that length.
 fn size_fits(kind: u16, len: u16) -> bool
     requires { kind < 9 }
-    ensures { result ≡ sizeFits kind len }
+    ensures { result ≡ size_fits kind len }
 {
     if len < SHORTEST[kind as usize] {
         return false;
@@ -80,7 +80,7 @@ fn size_fits(kind: u16, len: u16) -> bool
 
 fn class_flags_fit(sheet: u8, flags: u16) -> bool
     requires { sheet < 2 }
-    ensures { result ≡ classFlagsFit sheet flags }
+    ensures { result ≡ class_flags_fit sheet flags }
 {
     if sheet == 0 {
         if flags < 2 {
@@ -97,7 +97,7 @@ fn class_flags_fit(sheet: u8, flags: u16) -> bool
 // Whether the type at i is one: its code is known, and a primitive names no class.
 fn type_fits(bytes: &[u8], i: usize) -> bool
     requires { i + 3 < length bytes.now }
-    ensures { result ≡ tyFits (tyAt bytes.now i) }
+    ensures { result ≡ ty_fits (ty_at bytes.now i) }
 {
     let code = bytes[i + CODE_AT];
     if code == 0 {
@@ -130,7 +130,7 @@ fn four_in(bytes: &[u8], i: usize) -> u64
 // breaks the rule has its highest bit set in the number that is tested, and no other has.
 fn eight_fit(bytes: &[u8], i: usize, j: usize) -> bool
     requires { (i + 4 ≤ length bytes.now) × (j + 4 ≤ length bytes.now) }
-    ensures { result ≡ nameFits (take 4 (drop i bytes.now) ++ take 4 (drop j bytes.now)) }
+    ensures { result ≡ name_fits (take 4 (drop i bytes.now) ++ take 4 (drop j bytes.now)) }
 {
     let w = four_in(bytes, i) + 4294967296 * four_in(bytes, j);
     if w & TOPS != 0 {
@@ -148,7 +148,7 @@ fn eight_fit(bytes: &[u8], i: usize, j: usize) -> bool
 // Whether the bytes from `from` to `to` may stand in a name, one by one.
 fn few_fit(bytes: &[u8], from: usize, to: usize) -> bool
     requires { (from ≤ to) × (to ≤ length bytes.now) }
-    ensures { result ≡ nameFits (take (to - from) (drop from bytes.now)) }
+    ensures { result ≡ name_fits (take (to - from) (drop from bytes.now)) }
 {
     let mut i = from;
     while i < to {
@@ -167,7 +167,7 @@ fn few_fit(bytes: &[u8], from: usize, to: usize) -> bool
 // Whether the bytes from `from` to `to` may stand in a name, eight at a time. The last ones may be tested twice.
 fn name_fits(bytes: &[u8], from: usize, to: usize) -> bool
     requires { (from ≤ to) × (to ≤ length bytes.now) }
-    ensures { result ≡ nameFits (take (to - from) (drop from bytes.now)) }
+    ensures { result ≡ name_fits (take (to - from) (drop from bytes.now)) }
 {
     if to - from < 4 {
         return few_fit(bytes, from, to);
@@ -189,8 +189,8 @@ fn name_fits(bytes: &[u8], from: usize, to: usize) -> bool
 
 // Whether what stands at fixed places in the record at `at` is right for its kind.
 fn fixed_fits(bytes: &[u8], sheet: u8, at: usize, kind: u16) -> bool
-    requires { (sheet < 2) × (at + nameStart kind 0 ≤ length bytes.now) }
-    ensures { result ≡ fixedAt sheet bytes.now at kind }
+    requires { (sheet < 2) × (at + name_start kind 0 ≤ length bytes.now) }
+    ensures { result ≡ fixed_at sheet bytes.now at kind }
 {
     if kind == CLASS {
         if class_flags_fit(sheet, word_in(bytes, at + FLAGS_AT)) {
@@ -215,7 +215,7 @@ fn fixed_fits(bytes: &[u8], sheet: u8, at: usize, kind: u16) -> bool
 
 // The byte of a record of n bytes where its name begins, n if it has none.
 fn name_start(kind: u16, n: usize) -> usize
-    ensures { result ≡ nameStart kind n }
+    ensures { result ≡ name_start kind n }
 {
     match kind {
         CLASS => NAME_AT,
@@ -229,7 +229,7 @@ fn name_start(kind: u16, n: usize) -> usize
 // The number that refuses the kind, the length or the place of a record with no CLASS before it, or 0.
 fn order_number(sheet: u8, kind: u16, len: u16, k: usize) -> u8
     requires { sheet < 2 }
-    ensures { result ≡ orderNumber sheet kind len k }
+    ensures { result ≡ order_number sheet kind len k }
 {
     if home_fits(sheet, kind) {
         if REFERS < kind {
@@ -252,7 +252,7 @@ fn order_number(sheet: u8, kind: u16, len: u16, k: usize) -> u8
 // The number that refuses the kind, the length, the place or the fixed bytes of the record at `at`, or 0.
 fn kind_number(bytes: &[u8], sheet: u8, at: usize, kind: u16, len: u16, k: usize) -> u8
     requires { (sheet < 2) × (at + len ≤ length bytes.now) }
-    ensures { result ≡ headNumber sheet bytes.now at kind len k }
+    ensures { result ≡ head_number sheet bytes.now at kind len k }
 {
     let order = order_number(sheet, kind, len, k);
     if order != 0 {
@@ -267,7 +267,7 @@ fn kind_number(bytes: &[u8], sheet: u8, at: usize, kind: u16, len: u16, k: usize
 // The same. The kind is a constant in each call, so that the compiler keeps only the tests of that kind.
 fn head_number(bytes: &[u8], sheet: u8, at: usize, kind: u16, len: u16, k: usize) -> u8
     requires { (sheet < 2) × (at + len ≤ length bytes.now) }
-    ensures { result ≡ headNumber sheet bytes.now at kind len k }
+    ensures { result ≡ head_number sheet bytes.now at kind len k }
 {
     match kind {
         CLASS => kind_number(bytes, sheet, at, CLASS, len, k),
@@ -297,7 +297,7 @@ fn record_number(
     requires bounds { (sheet < 2) × (c ≤ 256) }
     requires head { at + 4 ≤ length bytes.now }
     requires numbers { (len ≡ u16 bytes.now at) × (kind ≡ u16 bytes.now (at + 2)) }
-    ensures { result ≡ recordNumber sheet bytes.now at c k before }
+    ensures { result ≡ record_number sheet bytes.now at c k before }
 {
     let n = len as usize;
     if n < HEAD_BYTES {
@@ -332,8 +332,8 @@ fn record_number(
 pub fn first_pass(bytes: &[u8], sheet: u8, base: usize, from: usize, starts: &mut [u16]) -> Pass
     requires part { (sheet < 2) × (from + length bytes.now ≤ 32768) }
     requires bounds { (base ≤ 256) × (256 ≤ length starts.old) }
-    ensures answer { result ≡ passOf (shifted from (passRefusal sheet base bytes.now)) (base + classCount bytes.now) }
-    ensures starts { Filled (passRefusal sheet base bytes.now) base from bytes.now starts.old starts.new }
+    ensures answer { result ≡ pass_of (shifted from (pass_refusal sheet base bytes.now)) (base + class_count bytes.now) }
+    ensures starts { Filled (pass_refusal sheet base bytes.now) base from bytes.now starts.old starts.new }
 {
     let end = bytes.len();
     let mut at = 0;

@@ -2,10 +2,10 @@
 #![tactic(auto)]
 
 ghost use Rattle.std.specs.Prelude.{◌≡◌, length, take, replicate};
-ghost use Rattle.spec.specs.Refusals.{queryRefusal};
+ghost use Rattle.spec.specs.Refusals.{query_refusal};
 ghost use Rattle.spec.specs.Promises.{Marks, Places, Names};
 ghost use Rattle.form.specs.Form.{Checks};
-ghost use Rattle.queries.specs.Answers.{markedAnswer, placedAnswer};
+ghost use Rattle.queries.specs.Answers.{marked_answer, placed_answer};
 
 pub use form::Refusal;
 use form::{Checked, UNASKED, plain, present};
@@ -37,7 +37,7 @@ fn asked<'a>(
     memo: &mut [u16],
 ) -> Checked
     requires { (length starts.old ≡ 256) × (memo.old ≡ replicate 256 65535) }
-    ensures { Checks (queryRefusal library.now user.now used class)
+    ensures { Checks (query_refusal library.now user.now used class)
         library.now (take used user.now) result starts.new memo.new }
 {
     let checked = present(library, user, used, starts, memo);
@@ -52,7 +52,7 @@ fn asked<'a>(
 
 // The overlay markers of a class of either sheet; `used` bytes of the user buffer are its sheet.
 pub fn marks<'a>(library: &'a [u8], user: &'a [u8], used: usize, class: usize) -> Marked
-    ensures { Marks library.now user.now used class (markedAnswer result) }
+    ensures { Marks library.now user.now used class (marked_answer result) }
 {
     let mut starts = [0u16; CLASS_LIMIT];
     let mut memo = [UNASKED; CLASS_LIMIT];
@@ -69,7 +69,7 @@ pub fn marks<'a>(library: &'a [u8], user: &'a [u8], used: usize, class: usize) -
 
 // Where a class's name stands: for a caller that wants the refusal, or cannot be handed a part of a slice.
 pub fn name_place<'a>(library: &'a [u8], user: &'a [u8], used: usize, class: usize) -> Placed
-    ensures { Places library.now user.now used class (placedAnswer result) }
+    ensures { Places library.now user.now used class (placed_answer result) }
 {
     let mut starts = [0u16; CLASS_LIMIT];
     let mut memo = [UNASKED; CLASS_LIMIT];

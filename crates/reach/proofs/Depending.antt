@@ -14,47 +14,47 @@ use lib.Seq.{get_or-set_same, get_or-set_other, get_or-append-add, get_or-drop, 
 use borrow.Author.Tests.{lt-ltb, ltb-true, ltb-false}
 use Rattle.spec.specs.Lists.{gather, elem, span, reach}
 use Rattle.spec.specs.Record.{references}
-use Rattle.spec.specs.Sheet.{Group, total, group, groupReferences}
+use Rattle.spec.specs.Sheet.{Group, total, group, group_references}
 use Rattle.spec.specs.Rules.{dependencies}
-use Rattle.spec.specs.Verdicts.{dependsOn}
-use Rattle.spec.specs.Refusals.{formRefusal}
-use Rattle.laws.proofs.Bools.{true-t}
-use Rattle.laws.proofs.All.{at-member, of_members}
-use Rattle.laws.proofs.Members.{gather-mem, mem-gather, keep-mem, mem-keep}
-use Rattle.theory.proofs.Accept.{form-fits}
-use Rattle.laws.proofs.Rows.{length-values, getD-values}
+use Rattle.spec.specs.Verdicts.{depends_on}
+use Rattle.spec.specs.Refusals.{form_refusal}
+use Rattle.laws.proofs.Bools.{true_t}
+use Rattle.laws.proofs.All.{at_member, of_members}
+use Rattle.laws.proofs.Members.{gather_mem, mem_gather, keep_mem, mem_keep}
+use Rattle.theory.proofs.Accept.{form_fits}
+use Rattle.laws.proofs.Rows.{length_values, get_d_values}
 use Rattle.theory.proofs.Reach.{Steps, here, onward}
-use Rattle.theory.proofs.Complete.{reach-sound, reach-complete}
+use Rattle.theory.proofs.Complete.{reach_sound, reach_complete}
 use Rattle.groups.specs.Groups.{Indexed}
-use Rattle.named.specs.Named.{firstNamed, secondNamed, namedBy}
-use Rattle.named.proofs.Meaning.{below, named-below}
-use Rattle.lanes.specs.Lanes.{Draws, own, via, entryAt, Other, SeedsFit, Least}
-use Rattle.lanes.proofs.Chains.{least-steps}
-use Rattle.lanes.proofs.Filling.{filled-long, filled-new, filled-kept}
-use Rattle.reach.specs.Reach.{namedIn, stepsOf, outerOf, Emptied, dependentRow}
+use Rattle.named.specs.Named.{first_named, second_named, named_by}
+use Rattle.named.proofs.Meaning.{below, named_below}
+use Rattle.lanes.specs.Lanes.{Draws, own, via, entry_at, Other, SeedsFit, Least}
+use Rattle.lanes.proofs.Chains.{least_steps}
+use Rattle.lanes.proofs.Filling.{filled_long, filled_new, filled_kept}
+use Rattle.reach.specs.Reach.{named_in, steps_of, outer_of, Emptied, dependent_row}
 
 -- ---- emptying
 
 pub emptied : {k : ℕ} (before : List ℕ) {row : List ℕ} → k ≤ length before → row ≡ replicate k 255 ++ drop k before → Emptied k before row
-emptied {k} before h e = rw e (record { long = filled-long k 255 before h; none = filled-new k 255 before h 255; kept = filled-kept k 255 before h 255 })
+emptied {k} before h e = rw e (record { long = filled_long k 255 before h; none = filled_new k 255 before h 255; kept = filled_kept k 255 before h 255 })
 
 -- ---- the seeds: 0 at d, none elsewhere
 
 module _ {before row : List ℕ} {d : ℕ} (f : Emptied 256 before row) (h : d < 256) (long : 256 ≤ length before) where
-  seed-at : (m : ℕ) → m < 256 → (get_or (set row d 0) m 255 < 255 → m ≡ d) × (get_or (set row d 0) m 255 ≤ 255)
-  seed-at m l = go (ℕ_discrete m d)
+  seed_at : (m : ℕ) → m < 256 → (get_or (set row d 0) m 255 < 255 → m ≡ d) × (get_or (set row d 0) m 255 ≤ 255)
+  seed_at m l = go (ℕ_discrete m d)
     where
       go : Dec (m ≡ d) → (get_or (set row d 0) m 255 < 255 → m ≡ d) × (get_or (set row d 0) m 255 ≤ 255)
       go (yes e) = (λ _. e, omega (arith, ap (λ (i : ℕ). get_or (set row d 0) i 255) e ∙ get_or-set_same row d 0 255 (omega (arith, f.long))))
       go (no n) = let v : get_or (set row d 0) m 255 ≡ 255 = get_or-set_other row d m 0 255 n ∙ f.none m l in (λ u. absurd (omega (arith, v)), omega (arith, v))
 
-  seed-zero : get_or (set row d 0) d 255 ≡ 0
-  seed-zero = get_or-set_same row d 0 255 (omega (arith, f.long))
+  seed_zero : get_or (set row d 0) d 255 ≡ 0
+  seed_zero = get_or-set_same row d 0 255 (omega (arith, f.long))
 
   -- where no owner but 0 is written, which fits any class
-  pub seeds-fit : {x : ℕ} → (x < 255 → x ≡ 0) → (outer : ℕ → ℕ) (n : ℕ) → n ≤ 256 → SeedsFit outer n 1 (set row d x)
+  pub seeds_fit : {x : ℕ} → (x < 255 → x ≡ 0) → (outer : ℕ → ℕ) (n : ℕ) → n ≤ 256 → SeedsFit outer n 1 (set row d x)
   unfolding SeedsFit
-  seeds-fit {x} z outer n few k m hk hm v = inl (go (ℕ_discrete (k * 256 + m) d))
+  seeds_fit {x} z outer n few k m hk hm v = inl (go (ℕ_discrete (k * 256 + m) d))
     where
       go : Dec (k * 256 + m ≡ d) → get_or (set row d x) (k * 256 + m) 255 ≡ 0
       go (yes e) =
@@ -65,22 +65,22 @@ module _ {before row : List ℕ} {d : ℕ} (f : Emptied 256 before row) (h : d <
 -- ---- the steps to classes are what the records name
 
 module _ (g : ℕ → Group) (n : ℕ) (few : n ≤ 65535) (builds : Bool) where
-  pub steps-in : (m t : ℕ) → t < n → Memᴰ t (stepsOf g builds m) → Memᴰ t (gather (namedBy builds) (g m))
-  unfolding namedIn below
-  steps-in m t h e =
-      let a = gather-mem (λ r. firstNamed builds r ∷ secondNamed builds r ∷ []) (g m) t e in
-      let p : T (ltb t n) = true-t (lt-ltb t n h) in
-      let k = subst (Memᴰ t) (sym (named-below n few a.source builds)) (mem-keep (λ x. ltb x n) a.part p) in
-      mem-gather (namedBy builds) a.member (keep-mem (λ x. ltb x n) (namedBy builds a.source) t k).0
+  pub steps_in_lem : (m t : ℕ) → t < n → Memᴰ t (steps_of g builds m) → Memᴰ t (gather (named_by builds) (g m))
+  unfolding named_in below
+  steps_in_lem m t h e =
+      let a = gather_mem (λ r. first_named builds r ∷ second_named builds r ∷ []) (g m) t e in
+      let p : T (ltb t n) = true_t (lt-ltb t n h) in
+      let k = subst (Memᴰ t) (sym (named_below n few a.source builds)) (mem_keep (λ x. ltb x n) a.part p) in
+      mem_gather (named_by builds) a.member (keep_mem (λ x. ltb x n) (named_by builds a.source) t k).0
 
-  pub in-steps : (m t : ℕ) → t < n → Memᴰ t (gather (namedBy builds) (g m)) → Memᴰ t (stepsOf g builds m)
-  unfolding namedIn below
-  in-steps m t h e =
-      let a = gather-mem (namedBy builds) (g m) t e in
-      let p : T (ltb t n) = true-t (lt-ltb t n h) in
-      let k = subst (Memᴰ t) (named-below n few a.source builds) (mem-keep (λ x. ltb x n) a.part p) in
-      mem-gather (λ r. firstNamed builds r ∷ secondNamed builds r ∷ []) a.member
-      (keep-mem (λ x. ltb x n) (firstNamed builds a.source ∷ secondNamed builds a.source ∷ []) t k).0
+  pub in_steps : (m t : ℕ) → t < n → Memᴰ t (gather (named_by builds) (g m)) → Memᴰ t (steps_of g builds m)
+  unfolding named_in below
+  in_steps m t h e =
+      let a = gather_mem (named_by builds) (g m) t e in
+      let p : T (ltb t n) = true_t (lt-ltb t n h) in
+      let k = subst (Memᴰ t) (named_below n few a.source builds) (mem_keep (λ x. ltb x n) a.part p) in
+      mem_gather (λ r. first_named builds r ∷ second_named builds r ∷ []) a.member
+      (keep_mem (λ x. ltb x n) (first_named builds a.source ∷ second_named builds a.source ∷ []) t k).0
 
 -- ---- chains
 
@@ -89,58 +89,58 @@ prepend e here = onward here e
 prepend e (onward p m) = onward (prepend e p) m
 
 module _ {step : ℕ → List ℕ} {outer seed : ℕ → ℕ} {n d : ℕ} where
-  chain-of : {y m : ℕ} → m < n → y < 255 → ((k : ℕ) → k < n → seed k < 255 → k ≡ d) → Draws step outer n seed y m → Steps step m d
-  chain-of {y} {m} h l only (own e f) = subst (Steps step m) (only m h (omega (arith, e))) here
-  chain-of h l only (via f e b c) = prepend e (chain-of b l only c)
+  chain_of : {y m : ℕ} → m < n → y < 255 → ((k : ℕ) → k < n → seed k < 255 → k ≡ d) → Draws step outer n seed y m → Steps step m d
+  chain_of {y} {m} h l only (own e f) = subst (Steps step m) (only m h (omega (arith, e))) here
+  chain_of h l only (via f e b c) = prepend e (chain_of b l only c)
 
-of-chain : {step : ℕ → List ℕ} {outer seed : ℕ → ℕ} {n c m : ℕ} → ((a t : ℕ) → Memᴰ t (step a) → t < n) → Steps step c m → Draws step outer n seed 0 m → Draws step outer n seed 0 c
-of-chain bound here w = w
-of-chain bound (onward {d = a} {e = t} p e) w = of-chain bound p (via (inl refl) e (bound a t e) w)
+of_chain : {step : ℕ → List ℕ} {outer seed : ℕ → ℕ} {n c m : ℕ} → ((a t : ℕ) → Memᴰ t (step a) → t < n) → Steps step c m → Draws step outer n seed 0 m → Draws step outer n seed 0 c
+of_chain bound here w = w
+of_chain bound (onward {d = a} {e = t} p e) w = of_chain bound p (via (inl refl) e (bound a t e) w)
 
 at_zero : (m : ℕ) → 0 * 256 + m ≡ m
 at_zero m = omega arith
 
 -- ---- the result
 
-abbrev stepsIn : List ℕ → List ℕ → ℕ → List ℕ
-stepsIn library user m = groupReferences (group library user m)
+abbrev steps_in : List ℕ → List ℕ → ℕ → List ℕ
+steps_in library user m = group_references (group library user m)
 
-module _ (library user : List ℕ) (ok : formRefusal library user ≡ none) (few : total library user ≤ 256) where
-  bound : (a t : ℕ) → Memᴰ t ((stepsIn library user) a) → t < total library user
-  unfolding groupReferences
+module _ (library user : List ℕ) (ok : form_refusal library user ≡ none) (few : total library user ≤ 256) where
+  bound : (a t : ℕ) → Memᴰ t ((steps_in library user) a) → t < total library user
+  unfolding group_references
   bound a t e =
-      let s = gather-mem references (group library user a) t e in
-      at-member (λ x. x < total library user) (references s.source) (at-member _ (group library user a) (form-fits library user ok a) s.member).there s.part
+      let s = gather_mem references (group library user a) t e in
+      at_member (λ x. x < total library user) (references s.source) (at_member _ (group library user a) (form_fits library user ok a) s.member).there s.part
 
   module _ {before row s : List ℕ} {d : ℕ} (f : Emptied 256 before row) (h : d < total library user) (long : 256 ≤ length before)
-      (l : Least (stepsOf (group library user) false) (outerOf (group library user)) (total library user) 1 (set row d 0) s) where
+      (l : Least (steps_of (group library user) false) (outer_of (group library user)) (total library user) 1 (set row d 0) s) where
     -- over the references themselves
-    least : Least (stepsIn library user) (outerOf (group library user)) (total library user) 1 (set row d 0) s
-    unfolding groupReferences namedBy
-    least = least-steps (steps-in (group library user) (total library user) (omega arith) false) (in-steps (group library user) (total library user) (omega arith) false) l
+    least : Least (steps_in library user) (outer_of (group library user)) (total library user) 1 (set row d 0) s
+    unfolding group_references named_by
+    least = least_steps (steps_in_lem (group library user) (total library user) (omega arith) false) (in_steps (group library user) (total library user) (omega arith) false) l
 
     marked : (c : ℕ) → c < total library user → get_or s c 255 ≡ elim (elem d (dependencies (group library user) c)) as (λ (b : Bool). ℕ) [ true ↦ 0 | false ↦ 255 ]
     unfolding dependencies
-    marked c hc = go (elem d (reach (stepsIn library user) c)) refl
+    marked c hc = go (elem d (reach (steps_in library user) c)) refl
       where
         seed : ℕ → ℕ
-        seed = entryAt (set row d 0) 0
+        seed = entry_at (set row d 0) 0
 
         only : (k : ℕ) → k < total library user → seed k < 255 → k ≡ d
-        only k hk v = (seed-at {d = d} f (omega arith) long k (omega arith)).0 (subst (λ (i : ℕ). get_or (set row d 0) i 255 < 255) (at_zero k) v)
+        only k hk v = (seed_at {d = d} f (omega arith) long k (omega arith)).0 (subst (λ (i : ℕ). get_or (set row d 0) i 255 < 255) (at_zero k) v)
 
-        go : (b : Bool) → elem d (reach (stepsIn library user) c) ≡ b → get_or s c 255 ≡ elim b as (λ (b : Bool). ℕ) [ true ↦ 0 | false ↦ 255 ]
+        go : (b : Bool) → elem d (reach (steps_in library user) c) ≡ b → get_or s c 255 ≡ elim b as (λ (b : Bool). ℕ) [ true ↦ 0 | false ↦ 255 ]
         go true e =
-            let z : seed d ≡ 0 = ap (λ (i : ℕ). get_or (set row d 0) i 255) (at_zero d) ∙ seed-zero {d = d} f (omega arith) long in
-            let w = of-chain bound (reach-sound (stepsIn library user) c d (true-t e)) (own z (inl refl)) in
+            let z : seed d ≡ 0 = ap (λ (i : ℕ). get_or (set row d 0) i 255) (at_zero d) ∙ seed_zero {d = d} f (omega arith) long in
+            let w = of_chain bound (reach_sound (steps_in library user) c d (true_t e)) (own z (inl refl)) in
             let q = least.least 0 c 0 (omega arith) hc w in
             omega (arith, q, ap (λ (i : ℕ). get_or s i 255) (at_zero c))
         go false e =
             let q = least.down c in
-            let u = (seed-at {d = d} f (omega arith) long c (omega arith)).1 in
+            let u = (seed_at {d = d} f (omega arith) long c (omega arith)).1 in
             let v : get_or s c 255 < 255 → ⊥ =
-            λ k. subst T e (reach-complete (stepsIn library user) (λ a. of_members (λ x. x < 256) ((stepsIn library user) a) (λ x m. omega (arith, bound a x m)))
-            (chain-of hc (subst (λ (i : ℕ). get_or s i 255 < 255) (sym (at_zero c)) k) only (least.sound 0 c (omega arith) hc (subst (λ (i : ℕ). get_or s i 255 < 255) (sym (at_zero c)) k)))) in
+            λ k. subst T e (reach_complete (steps_in library user) (λ a. of_members (λ x. x < 256) ((steps_in library user) a) (λ x m. omega (arith, bound a x m)))
+            (chain_of hc (subst (λ (i : ℕ). get_or s i 255 < 255) (sym (at_zero c)) k) only (least.sound 0 c (omega arith) hc (subst (λ (i : ℕ). get_or s i 255 < 255) (sym (at_zero c)) k)))) in
             omega (arith, q, u, v)
 
     -- entries that are no class's, and those past the lane
@@ -148,9 +148,9 @@ module _ (library user : List ℕ) (ok : formRefusal library user ≡ none) (few
     unfolding Other
     unclassed i b = least.kept i (λ k m hk hm e. omega arith)
 
-    entry-is : (c : ℕ) → c < 256 → get_or s c 255 ≡ elim (dependsOn library user d c) as (λ (b : Bool). ℕ) [ true ↦ 0 | false ↦ 255 ]
-    unfolding dependsOn
-    entry-is c b = go (ltb c (total library user)) refl
+    entry_is : (c : ℕ) → c < 256 → get_or s c 255 ≡ elim (depends_on library user d c) as (λ (b : Bool). ℕ) [ true ↦ 0 | false ↦ 255 ]
+    unfolding depends_on
+    entry_is c b = go (ltb c (total library user)) refl
       where
         go : (x : Bool) → ltb c (total library user) ≡ x → get_or s c 255 ≡ elim (x && elem d (dependencies (group library user) c)) as (λ (b : Bool). ℕ) [ true ↦ 0 | false ↦ 255 ]
         go true e = marked c (ltb-true c (total library user) e)
@@ -158,31 +158,31 @@ module _ (library user : List ℕ) (ok : formRefusal library user ≡ none) (few
             let l = ltb-false c (total library user) e in
             unclassed c l ∙ get_or-set_other row d c 0 255 (λ q. omega arith) ∙ f.none c b
 
-    pub depending : length s ≡ length before → s ≡ dependentRow library user d before
-    unfolding dependentRow
+    pub depending : length s ≡ length before → s ≡ dependent_row library user d before
+    unfolding dependent_row
     depending e =
-        ext_get_or 255 s _ (e ∙ sym (length-append (map mark (span 0 256)) (drop 256 before) ∙ omega (arith, length-values mark 256, length-drop 256 before)))
+        ext_get_or 255 s _ (e ∙ sym (length-append (map mark (span 0 256)) (drop 256 before) ∙ omega (arith, length_values mark 256, length-drop 256 before)))
         (λ i h. go i (ltb i 256) refl)
       where
         mark : ℕ → ℕ
-        mark c = elim (dependsOn library user d c) as (λ (b : Bool). ℕ) [ true ↦ 0 | false ↦ 255 ]
+        mark c = elim (depends_on library user d c) as (λ (b : Bool). ℕ) [ true ↦ 0 | false ↦ 255 ]
 
         go : (i : ℕ) (x : Bool) → ltb i 256 ≡ x → get_or s i 255 ≡ get_or (map mark (span 0 256) ++ drop 256 before) i 255
         go i true q =
             let l = ltb-true i 256 q in
-            entry-is i l ∙ sym (get_or-append (map mark (span 0 256)) (drop 256 before) 255 i (omega (arith, length-values mark 256)) ∙ getD-values mark 256 255 i l)
+            entry_is i l ∙ sym (get_or-append (map mark (span 0 256)) (drop 256 before) 255 i (omega (arith, length_values mark 256)) ∙ get_d_values mark 256 255 i l)
         go i false q =
             let l = ltb-false i 256 q in
             let k : 256 + (i - 256) ≡ i = omega arith in
-            let j : length (map mark (span 0 256)) + (i - 256) ≡ i = omega (arith, length-values mark 256) in
+            let j : length (map mark (span 0 256)) + (i - 256) ≡ i = omega (arith, length_values mark 256) in
             unclassed i (omega arith) ∙ get_or-set_other row d i 0 255 (λ z. omega arith) ∙ f.kept i l
             ∙ sym (ap (λ (m : ℕ). get_or (map mark (span 0 256) ++ drop 256 before) m 255) (sym j) ∙ get_or-append-add (map mark (span 0 256)) (drop 256 before) (i - 256) 255
             ∙ get_or-drop 256 before (i - 256) 255 ∙ ap (λ (m : ℕ). get_or before m 255) k)
 
-pub found : {library user : List ℕ} {nlib n : ℕ} {starts : List ℕ} → Indexed library user nlib n starts → formRefusal library user ≡ none → {before row s : List ℕ} {d : ℕ} → Emptied 256 before row
+pub found : {library user : List ℕ} {nlib n : ℕ} {starts : List ℕ} → Indexed library user nlib n starts → form_refusal library user ≡ none → {before row s : List ℕ} {d : ℕ} → Emptied 256 before row
     → d < n → 256 ≤ length before
-    → Least (stepsOf (group library user) false) (outerOf (group library user)) n 1 (set row d 0) s → length s ≡ length before → s ≡ dependentRow library user d before
+    → Least (steps_of (group library user) false) (outer_of (group library user)) n 1 (set row d 0) s → length s ≡ length before → s ≡ dependent_row library user d before
 found {library} {user} {n = n} x ok {before} {row} {s} {d} f h long l e =
-    depending library user ok (omega (arith, x.few, x.n-is)) f (omega (arith, x.n-is)) long
-    (subst (λ (k : ℕ). Least (stepsOf (group library user) false) (outerOf (group library user)) k 1 (set row d 0) s) x.n-is l)
+    depending library user ok (omega (arith, x.few, x.n_is)) f (omega (arith, x.n_is)) long
+    (subst (λ (k : ℕ). Least (steps_of (group library user) false) (outer_of (group library user)) k 1 (set row d 0) s) x.n_is l)
     e

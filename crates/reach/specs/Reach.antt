@@ -4,31 +4,31 @@ use Rattle.std.specs.Prelude.{◌≡◌, Bool, true, false, ℕ, ◌≤◌, ◌<
 use mathlib.Core.List.{List, [], ◌∷◌, ◌++◌, map, Memᴰ}
 use Rattle.spec.specs.Lists.{gather, span}
 use Rattle.spec.specs.Record.{encloser}
-use Rattle.spec.specs.Sheet.{Group, classRecord}
-use Rattle.spec.specs.Verdicts.{dependsOn}
+use Rattle.spec.specs.Sheet.{Group, class_record}
+use Rattle.spec.specs.Verdicts.{depends_on}
 use Rattle.records.specs.Records.{between}
-use Rattle.named.specs.Named.{firstNamed, secondNamed}
-use Rattle.lanes.specs.Lanes.{entryAt, Run, SettledAt, Enclosers}
+use Rattle.named.specs.Named.{first_named, second_named}
+use Rattle.lanes.specs.Lanes.{entry_at, Run, SettledAt, Enclosers}
 
 -- the classes that a group names, 65535 where a record names fewer than two: along BUILDS or along every record
-unfoldable pub namedIn : Bool → Group → List ℕ
-namedIn builds g = gather (λ r. firstNamed builds r ∷ secondNamed builds r ∷ []) g
+unfoldable pub named_in : Bool → Group → List ℕ
+named_in builds g = gather (λ r. first_named builds r ∷ second_named builds r ∷ []) g
 
-abbrev pub stepsOf : (ℕ → Group) → Bool → ℕ → List ℕ
-stepsOf g builds m = namedIn builds (g m)
+abbrev pub steps_of : (ℕ → Group) → Bool → ℕ → List ℕ
+steps_of g builds m = named_in builds (g m)
 
 -- the encloser of a class; a number that is not lower is none
-unfoldable pub outerOf : (ℕ → Group) → ℕ → ℕ
-outerOf g m = encloser (classRecord (g m))
+unfoldable pub outer_of : (ℕ → Group) → ℕ → ℕ
+outer_of g m = encloser (class_record (g m))
 
 -- Class m has drawn along all that the records in these bytes name. Only the bytes and the row of marks were asked, so it holds for all steps and enclosers that they are right for.
 pub record Scanned (bytes marks : List ℕ) (builds : Bool) (n lanes m : ℕ) (s₀ s : List ℕ) (r : ℕ) : Type 0 where
-  pub run : (step : ℕ → List ℕ) (outer : ℕ → ℕ) → step m ≡ namedIn builds (between bytes 0 (length bytes)) → Enclosers outer m marks
+  pub run : (step : ℕ → List ℕ) (outer : ℕ → ℕ) → step m ≡ named_in builds (between bytes 0 (length bytes)) → Enclosers outer m marks
       → Run step outer n lanes (SettledAt step outer n lanes m) s₀ s r
 
 -- told false: none of these classes has in any lane a lower owner than m
 pub record Content (row : List ℕ) (n lanes m : ℕ) (ts : List ℕ) (told : Bool) : Type 0 where
-  pub is : told ≡ false → (t : ℕ) → Memᴰ t ts → t < n → (k : ℕ) → k < lanes → entryAt row k m ≤ entryAt row k t
+  pub is : told ≡ false → (t : ℕ) → Memᴰ t ts → t < n → (k : ℕ) → k < lanes → entry_at row k m ≤ entry_at row k t
 
 -- the first k entries of a row are none, the others are kept
 pub record Emptied (k : ℕ) (before after : List ℕ) : Type 0 where
@@ -37,5 +37,5 @@ pub record Emptied (k : ℕ) (before after : List ℕ) : Type 0 where
   pub kept : (i : ℕ) → k ≤ i → get_or after i 255 ≡ get_or before i 255
 
 -- 0 at each class that depends on d, 255 at the others; past 256 entries the row is kept
-unfoldable pub dependentRow : List ℕ → List ℕ → ℕ → List ℕ → List ℕ
-dependentRow library user d row = map (λ c. elim (dependsOn library user d c) as (λ (b : Bool). ℕ) [ true ↦ 0 | false ↦ 255 ]) (span 0 256) ++ drop 256 row
+unfoldable pub dependent_row : List ℕ → List ℕ → ℕ → List ℕ → List ℕ
+dependent_row library user d row = map (λ c. elim (depends_on library user d c) as (λ (b : Bool). ℕ) [ true ↦ 0 | false ↦ 255 ]) (span 0 256) ++ drop 256 row

@@ -3,11 +3,11 @@
 
 ghost use Rattle.std.specs.Prelude.{◌≡◌, [], ◌∷◌, ℕ, ◌≤◌, ◌<◌, length};
 ghost use Rattle.std.proofs.Math.Option.{none};
-ghost use Rattle.spec.specs.Sheet.{Group, group as groupOf};
-ghost use Rattle.spec.specs.Refusals.{formRefusal};
+ghost use Rattle.spec.specs.Sheet.{Group, group as group_of};
+ghost use Rattle.spec.specs.Refusals.{form_refusal};
 ghost use Rattle.groups.specs.Groups.{Indexed};
-ghost use Rattle.lanes.specs.Lanes.{Room, markedUp, Run, SettledAt, AllSettled, SeedsFit, Least};
-ghost use Rattle.reach.specs.Reach.{namedIn, stepsOf, outerOf, Scanned, Content, dependentRow};
+ghost use Rattle.lanes.specs.Lanes.{Room, marked_up, Run, SettledAt, AllSettled, SeedsFit, Least};
+ghost use Rattle.reach.specs.Reach.{named_in, steps_of, outer_of, Scanned, Content, dependent_row};
 ghost use Rattle.records.specs.Records.{between, AtRecord};
 
 use groups::{Classes, class_bytes, class_word};
@@ -25,11 +25,11 @@ pub fn enclosers<'a>(
     marks: &mut [u8],
 )
     ghost g: { ℕ → Group }
-    requires groups { groupOf library.now user.now ≡ g }
+    requires groups { group_of library.now user.now ≡ g }
     requires indexed { Indexed library.now user.now classes.library classes.all starts.now }
     requires there { (m < classes.all) × (m ≤ length marks.old) }
     ensures { marks.new
-        ≡ markedUp (outerOf g) m m marks.old }
+        ≡ marked_up (outer_of g) m m marks.old }
 {
     let mut c = m;
     let mut e = wide(class_word(library, user, starts, classes, m, ENCLOSER_AT));
@@ -98,7 +98,7 @@ fn wants(bytes: &[u8], n: usize, builds: bool, lanes: usize, m: usize, row: &[u8
     requires at_record { AtRecord bytes.now (length bytes.now) 0 }
     requires room { Room n lanes row.now }
     requires there { m < n }
-    ensures { Content row.now n lanes m (namedIn builds (between bytes.now 0 (length bytes.now))) result }
+    ensures { Content row.now n lanes m (named_in builds (between bytes.now 0 (length bytes.now))) result }
 {
     let mut at = 0;
     while at < bytes.len() {
@@ -126,12 +126,12 @@ fn visit<'a>(
     row: &mut [u8],
 ) -> usize
     ghost g: { ℕ → Group }
-    requires groups { groupOf library.now user.now ≡ g }
+    requires groups { group_of library.now user.now ≡ g }
     requires indexed { Indexed library.now user.now classes.library classes.all starts.now }
     requires room { Room classes.all lanes row.old }
     requires there { m < classes.all }
-    ensures { Run (stepsOf g builds) (outerOf g) classes.all lanes
-        (SettledAt (stepsOf g builds) (outerOf g) classes.all lanes m) row.old row.new result }
+    ensures { Run (steps_of g builds) (outer_of g) classes.all lanes
+        (SettledAt (steps_of g builds) (outer_of g) classes.all lanes m) row.old row.new result }
 {
     if lanes == 1 {
         if row[m] == 0 {
@@ -169,11 +169,11 @@ fn sweep<'a>(
     row: &mut [u8],
 ) -> usize
     ghost g: { ℕ → Group }
-    requires groups { groupOf library.now user.now ≡ g }
+    requires groups { group_of library.now user.now ≡ g }
     requires indexed { Indexed library.now user.now classes.library classes.all starts.now }
     requires room { Room classes.all lanes row.old }
-    ensures { Run (stepsOf g builds) (outerOf g) classes.all lanes
-        (AllSettled (stepsOf g builds) (outerOf g) classes.all lanes) row.old row.new result }
+    ensures { Run (steps_of g builds) (outer_of g) classes.all lanes
+        (AllSettled (steps_of g builds) (outer_of g) classes.all lanes) row.old row.new result }
 {
     let mut added = 0;
     let mut i = 0;
@@ -197,11 +197,11 @@ pub fn close<'a>(
     row: &mut [u8],
 )
     ghost g: { ℕ → Group }
-    requires groups { groupOf library.now user.now ≡ g }
+    requires groups { group_of library.now user.now ≡ g }
     requires indexed { Indexed library.now user.now classes.library classes.all starts.now }
     requires room { Room classes.all lanes row.old }
-    requires seeds_fit { SeedsFit (outerOf g) classes.all lanes row.old }
-    ensures { Least (stepsOf g builds) (outerOf g) classes.all lanes row.old row.new }
+    requires seeds_fit { SeedsFit (outer_of g) classes.all lanes row.old }
+    ensures { Least (steps_of g builds) (outer_of g) classes.all lanes row.old row.new }
 {
     let mut up = true;
     let mut added = 1;
@@ -221,11 +221,11 @@ pub fn dependents<'a>(
     row: &mut [u8],
 )
     ghost g: { ℕ → Group }
-    requires groups { groupOf library.now user.now ≡ g }
+    requires groups { group_of library.now user.now ≡ g }
     requires indexed { Indexed library.now user.now classes.library classes.all starts.now }
-    requires accepted { formRefusal library.now user.now ≡ none }
+    requires accepted { form_refusal library.now user.now ≡ none }
     requires there { (d < classes.all) × (256 ≤ length row.old) }
-    ensures { row.new ≡ dependentRow library.now user.now d row.old }
+    ensures { row.new ≡ dependent_row library.now user.now d row.old }
 {
     fill(row, CLASS_LIMIT, EMPTY);
     row[d] = 0;

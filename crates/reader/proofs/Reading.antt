@@ -13,144 +13,144 @@ use lib.ListN.{length, get_or, take, drop, length-append}
 use lib.Seq.{take-suc, drop-cons, take-length, drop-length}
 use borrow.Author.Tests.{le-ltb, lt-ltb, le-leb, lt-leb, eq-eqb, ne_eqb}
 use Rattle.spec.specs.Lists.{concat}
-use Rattle.spec.specs.Sheet.{recordsOf, wholeEnd}
-use Rattle.laws.proofs.Bools.{and_l, un_not, not-and-r}
+use Rattle.spec.specs.Sheet.{records_of, whole_end}
+use Rattle.laws.proofs.Bools.{and_l, un_not, not_and_r}
 use Rattle.laws.proofs.Parts.{part_length}
-use Rattle.theory.proofs.Cut.{concat-append, records-stop}
-use Rattle.records.specs.Lengths.{wholeLength}
-use Rattle.records.proofs.Lengths.{Stands, length_some, length-zero, records-here}
-use Rattle.reader.specs.Reading.{foundAt, afterAt, movesAt, nthAt}
+use Rattle.theory.proofs.Cut.{concat_append, records_stop}
+use Rattle.records.specs.Lengths.{whole_length}
+use Rattle.records.proofs.Lengths.{Stands, length_some, length_zero, records_here}
+use Rattle.reader.specs.Reading.{found_at, after_at, moves_at, nth_at}
 use Rattle.reader.specs.declared.Found.TheVariants.{Record, Broken, End}
 
 module _ (s : List ℕ) (at : ℕ) where
-  pub found-end : length s ≤ at → End ≡ foundAt s at
-  unfolding foundAt
-  found-end h = rw (le-leb (length s) at h, foundAt)
+  pub found_end : length s ≤ at → End ≡ found_at s at
+  unfolding found_at
+  found_end h = rw (le-leb (length s) at h, found_at)
 
-  module _ (h : at < length s) {n : ℕ} (e : n ≡ wholeLength s at) where
-    pub found-broken : n ≡ 0 → Broken at ≡ foundAt s at
-    unfolding foundAt
-    found-broken z = rw (lt-leb (length s) at h, eq-eqb (wholeLength s at) 0 (sym e ∙ z), foundAt)
+  module _ (h : at < length s) {n : ℕ} (e : n ≡ whole_length s at) where
+    pub found_broken : n ≡ 0 → Broken at ≡ found_at s at
+    unfolding found_at
+    found_broken z = rw (lt-leb (length s) at h, eq-eqb (whole_length s at) 0 (sym e ∙ z), found_at)
 
-    pub found-record : (n ≡ 0 → ⊥) → Record at n ≡ foundAt s at
-    unfolding foundAt
-    found-record z = rw (lt-leb (length s) at h, e, ne_eqb (wholeLength s at) 0 (λ q. z (e ∙ q)), foundAt)
+    pub found_record : (n ≡ 0 → ⊥) → Record at n ≡ found_at s at
+    unfolding found_at
+    found_record z = rw (lt-leb (length s) at h, e, ne_eqb (whole_length s at) 0 (λ q. z (e ∙ q)), found_at)
 
   module _ (i n : ℕ) where
-    pub moves_not : n ≤ i → false ≡ movesAt s at i n
-    unfolding movesAt
-    moves_not h = rw (le-ltb i n h, movesAt)
+    pub moves_not : n ≤ i → false ≡ moves_at s at i n
+    unfolding moves_at
+    moves_not h = rw (le-ltb i n h, moves_at)
 
-    pub moves-is : i < n → {k : ℕ} → k ≡ wholeLength s at → not (eqb k 0) ≡ movesAt s at i n
-    unfolding movesAt
-    moves-is h e = rw (lt-ltb i n h, e, movesAt)
+    pub moves_is : i < n → {k : ℕ} → k ≡ whole_length s at → not (eqb k 0) ≡ moves_at s at i n
+    unfolding moves_at
+    moves_is h e = rw (lt-ltb i n h, e, moves_at)
 
-    pub moves_before : T (movesAt s at i n) → i < n
-    unfolding movesAt
-    moves_before t = ltb→lt i n (and_l (ltb i n) (not (eqb (wholeLength s at) 0)) t)
+    pub moves_before : T (moves_at s at i n) → i < n
+    unfolding moves_at
+    moves_before t = ltb→lt i n (and_l (ltb i n) (not (eqb (whole_length s at) 0)) t)
 
     -- no move: n records are passed, or no whole record stands here
-    moves-no : T (not (movesAt s at i n)) → i < n → wholeLength s at ≡ 0
-    unfolding movesAt
-    moves-no t h = eqb→eq (wholeLength s at) 0 (un_not (eqb (wholeLength s at) 0) (not-and-r (ltb i n) (not (eqb (wholeLength s at) 0)) t (lt→ltb i n h)))
+    moves_no : T (not (moves_at s at i n)) → i < n → whole_length s at ≡ 0
+    unfolding moves_at
+    moves_no t h = eqb→eq (whole_length s at) 0 (un_not (eqb (whole_length s at) 0) (not_and_r (ltb i n) (not (eqb (whole_length s at) 0)) t (lt→ltb i n h)))
 
 -- ---- where record n begins
 
 module _ (s : List ℕ) where
-  pub nth-zero : 0 ≡ nthAt s 0
-  unfolding nthAt
-  nth-zero = refl
+  pub nth_zero : 0 ≡ nth_at s 0
+  unfolding nth_at
+  nth_zero = refl
 
-  nth-suc : (i : ℕ) → nthAt s i + wholeLength s (nthAt s i) ≡ nthAt s (suc i)
-  unfolding nthAt afterAt
-  nth-suc i = refl
+  nth_suc : (i : ℕ) → nth_at s i + whole_length s (nth_at s i) ≡ nth_at s (suc i)
+  unfolding nth_at after_at
+  nth_suc i = refl
 
-  pub nth-step : (i : ℕ) → afterAt s (nthAt s i) ≡ nthAt s (i + 1)
-  unfolding afterAt
-  nth-step i = nth-suc i ∙ ap (nthAt s) (sym (add-one i))
+  pub nth_step : (i : ℕ) → after_at s (nth_at s i) ≡ nth_at s (i + 1)
+  unfolding after_at
+  nth_step i = nth_suc i ∙ ap (nth_at s) (sym (add-one i))
 
   -- where no whole record stands it stays
-  stays-for : (i k : ℕ) → wholeLength s (nthAt s i) ≡ 0 → nthAt s (k + i) ≡ nthAt s i
-  stays-for i zero z = ap (nthAt s) (zero-add i)
-  stays-for i (suc k) z =
-      ap (nthAt s) (suc-add k i) ∙ sym (nth-suc (k + i)) ∙ ap (λ (p : ℕ). p + wholeLength s p) (stays-for i k z) ∙ ap (λ (m : ℕ). nthAt s i + m) z ∙ add-zero (nthAt s i)
+  stays_for : (i k : ℕ) → whole_length s (nth_at s i) ≡ 0 → nth_at s (k + i) ≡ nth_at s i
+  stays_for i zero z = ap (nth_at s) (zero-add i)
+  stays_for i (suc k) z =
+      ap (nth_at s) (suc-add k i) ∙ sym (nth_suc (k + i)) ∙ ap (λ (p : ℕ). p + whole_length s p) (stays_for i k z) ∙ ap (λ (m : ℕ). nth_at s i + m) z ∙ add-zero (nth_at s i)
 
-  nth-stays : (i n : ℕ) → i ≤ n → wholeLength s (nthAt s i) ≡ 0 → nthAt s i ≡ nthAt s n
-  nth-stays i n h z = sym (stays-for i (n - i) z) ∙ ap (nthAt s) (omega arith)
+  nth_stays : (i n : ℕ) → i ≤ n → whole_length s (nth_at s i) ≡ 0 → nth_at s i ≡ nth_at s n
+  nth_stays i n h z = sym (stays_for i (n - i) z) ∙ ap (nth_at s) (omega arith)
 
   -- a search for record n that goes no further is there
-  pub nth_end : (i n : ℕ) → i ≤ n → T (not (movesAt s (nthAt s i) i n)) → nthAt s i ≡ nthAt s n
+  pub nth_end : (i n : ℕ) → i ≤ n → T (not (moves_at s (nth_at s i) i n)) → nth_at s i ≡ nth_at s n
   nth_end i n h t = go (ℕ_discrete i n)
     where
-      go : Dec (i ≡ n) → nthAt s i ≡ nthAt s n
-      go (yes e) = ap (nthAt s) e
-      go (no e) = nth-stays i n h (moves-no s (nthAt s i) i n t (omega arith))
+      go : Dec (i ≡ n) → nth_at s i ≡ nth_at s n
+      go (yes e) = ap (nth_at s) e
+      go (no e) = nth_stays i n h (moves_no s (nth_at s i) i n t (omega arith))
 
 -- ---- the records of the sheet
 
 -- n moves from the first byte pass the first n records, and leave the others
 record Passed (s : List ℕ) (n : ℕ) : Type 0 where
-  pub begins : nthAt s n ≡ length (concat (take n (recordsOf s)))
-  pub left : recordsOf (drop (nthAt s n) s) ≡ drop n (recordsOf s)
+  pub begins : nth_at s n ≡ length (concat (take n (records_of s)))
+  pub left : records_of (drop (nth_at s n) s) ≡ drop n (records_of s)
 
 module _ {s : List ℕ} {n : ℕ} (p : Passed s n) where
   abbrev at : ℕ
-  at = nthAt s n
+  at = nth_at s n
 
   abbrev len : ℕ
-  len = wholeLength s (nthAt s n)
+  len = whole_length s (nth_at s n)
 
   -- while a record is left, it stands here
-  module _ (h : n < length (recordsOf s)) where
-    others : recordsOf (drop at s) ≡ get_or (recordsOf s) n [] ∷ drop (suc n) (recordsOf s)
-    others = p.left ∙ drop-cons (recordsOf s) n [] h
+  module _ (h : n < length (records_of s)) where
+    others : records_of (drop at s) ≡ get_or (records_of s) n [] ∷ drop (suc n) (records_of s)
+    others = p.left ∙ drop-cons (records_of s) n [] h
 
     stands : Stands s at len
-    stands = length_some s at refl (λ z. let e = sym (records-stop (drop at s) (length-zero s at refl z)) ∙ others in let f : ◌≡◌ {A = ℕ} 0 1 = cc in omega arith)
+    stands = length_some s at refl (λ z. let e = sym (records_stop (drop at s) (length_zero s at refl z)) ∙ others in let f : ◌≡◌ {A = ℕ} 0 1 = cc in omega arith)
 
-    the-first : take len (drop at s) ∷ recordsOf (drop (at + len) s) ≡ get_or (recordsOf s) n [] ∷ drop (suc n) (recordsOf s)
-    the-first = sym (records-here stands) ∙ others
+    the_first : take len (drop at s) ∷ records_of (drop (at + len) s) ≡ get_or (records_of s) n [] ∷ drop (suc n) (records_of s)
+    the_first = sym (records_here stands) ∙ others
 
-    size : length (get_or (recordsOf s) n []) ≡ len
-    size = let f : get_or (recordsOf s) n [] ≡ take len (drop at s) = cc the-first in ap length f ∙ part_length s at len stands.ends
+    size : length (get_or (records_of s) n []) ≡ len
+    size = let f : get_or (records_of s) n [] ≡ take len (drop at s) = cc the_first in ap length f ∙ part_length s at len stands.ends
 
     one_more : Passed s (suc n)
     unfolding concat
     one_more = record {
-      begins = sym (nth-suc s n) ∙ rw (take-suc (recordsOf s) n [] h, concat-append, length-append, length-append (get_or (recordsOf s) n []) []) (omega (arith, p.begins, size));
-      left = ap (λ (i : ℕ). recordsOf (drop i s)) (sym (nth-suc s n)) ∙ cc the-first;
+      begins = sym (nth_suc s n) ∙ rw (take-suc (records_of s) n [] h, concat_append, length-append, length-append (get_or (records_of s) n []) []) (omega (arith, p.begins, size));
+      left = ap (λ (i : ℕ). records_of (drop i s)) (sym (nth_suc s n)) ∙ cc the_first;
     }
 
   -- once none is left, none stands here
-  none_left : n ≡ length (recordsOf s) → len ≡ 0
+  none_left : n ≡ length (records_of s) → len ≡ 0
   none_left e = go (ℕ_discrete len 0)
     where
       go : Dec (len ≡ 0) → len ≡ 0
       go (yes z) = z
       go (no z) =
-          let f = sym (records-here (length_some s at refl z)) ∙ p.left ∙ ap (λ (i : ℕ). drop i (recordsOf s)) e ∙ drop-length (recordsOf s) in
+          let f = sym (records_here (length_some s at refl z)) ∙ p.left ∙ ap (λ (i : ℕ). drop i (records_of s)) e ∙ drop-length (records_of s) in
           let g : ◌≡◌ {A = ℕ} 0 1 = cc in
           absurd (omega arith)
 
-passed : (s : List ℕ) (n : ℕ) → n ≤ length (recordsOf s) → Passed s n
-unfolding nthAt concat
+passed : (s : List ℕ) (n : ℕ) → n ≤ length (records_of s) → Passed s n
+unfolding nth_at concat
 passed s zero h = record { begins = refl; left = refl }
 passed s (suc n) h = one_more (passed s n (omega arith)) (omega arith)
 
 -- Record n of the sheet is what a reader finds after n moves, its first byte and its length; after the last record a reader stays at the byte after it.
-pub reader-finds : (s : List ℕ) (n : ℕ)
-    → (n < length (recordsOf s) → foundAt s (nthAt s n) ≡ Record (length (concat (take n (recordsOf s)))) (length (get_or (recordsOf s) n [])))
-    × (length (recordsOf s) ≤ n → nthAt s n ≡ wholeEnd s)
-unfolding wholeEnd
-reader-finds s n = (record-n, after)
+pub reader_finds : (s : List ℕ) (n : ℕ)
+    → (n < length (records_of s) → found_at s (nth_at s n) ≡ Record (length (concat (take n (records_of s)))) (length (get_or (records_of s) n [])))
+    × (length (records_of s) ≤ n → nth_at s n ≡ whole_end s)
+unfolding whole_end
+reader_finds s n = (record_n, after)
   where
-    record-n : n < length (recordsOf s) → foundAt s (nthAt s n) ≡ Record (length (concat (take n (recordsOf s)))) (length (get_or (recordsOf s) n []))
-    record-n h =
+    record_n : n < length (records_of s) → found_at s (nth_at s n) ≡ Record (length (concat (take n (records_of s)))) (length (get_or (records_of s) n []))
+    record_n h =
         let p = passed s n (omega arith) in
         let w = stands p h in
-        sym (found-record s (nthAt s n) (omega (arith, w)) refl (λ z. omega (arith, w))) ∙ ap₂ Record p.begins (sym (size p h))
+        sym (found_record s (nth_at s n) (omega (arith, w)) refl (λ z. omega (arith, w))) ∙ ap₂ Record p.begins (sym (size p h))
 
-    after : length (recordsOf s) ≤ n → nthAt s n ≡ wholeEnd s
+    after : length (records_of s) ≤ n → nth_at s n ≡ whole_end s
     after h =
-        let p = passed s (length (recordsOf s)) (omega arith) in
-        sym (nth-stays s (length (recordsOf s)) n h (none_left p refl)) ∙ p.begins ∙ ap (λ (rs : List (List ℕ)). length (concat rs)) (take-length (recordsOf s))
+        let p = passed s (length (records_of s)) (omega arith) in
+        sym (nth_stays s (length (records_of s)) n h (none_left p refl)) ∙ p.begins ∙ ap (λ (rs : List (List ℕ)). length (concat rs)) (take-length (records_of s))

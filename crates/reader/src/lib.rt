@@ -2,7 +2,7 @@
 #![tactic(auto)]
 
 ghost use Rattle.std.specs.Prelude.{◌≡◌};
-ghost use Rattle.reader.specs.Reading.{foundAt, afterAt, movesAt, nthAt};
+ghost use Rattle.reader.specs.Reading.{found_at, after_at, moves_at, nth_at};
 
 use records::whole_length;
 
@@ -23,7 +23,7 @@ pub enum Found {
 
 // What stands at a position of a sheet.
 pub fn found_at(bytes: &[u8], at: usize) -> Found
-    ensures { result ≡ foundAt bytes.now at }
+    ensures { result ≡ found_at bytes.now at }
 {
     if bytes.len() <= at {
         return Found::End;
@@ -37,14 +37,14 @@ pub fn found_at(bytes: &[u8], at: usize) -> Found
 
 // The position past the record at a position; where no whole record stands, the position itself.
 pub fn after_at(bytes: &[u8], at: usize) -> usize
-    ensures { result ≡ afterAt bytes.now at }
+    ensures { result ≡ after_at bytes.now at }
 {
     at + whole_length(bytes, at)
 }
 
 // Whether a search for record n, which has passed i records, goes on: not past the last whole record.
 pub fn moves(bytes: &[u8], at: usize, i: usize, n: usize) -> bool
-    ensures { result ≡ movesAt bytes.now at i n }
+    ensures { result ≡ moves_at bytes.now at i n }
 {
     if n <= i {
         return false;
@@ -61,14 +61,14 @@ pub fn new<'a>(bytes: &'a [u8]) -> Reader<'a>
 
 // What stands where the reader is.
 pub fn read<'a>(reader: Reader<'a>) -> Found
-    ensures { result ≡ foundAt reader.entry.bytes.now reader.entry.at }
+    ensures { result ≡ found_at reader.entry.bytes.now reader.entry.at }
 {
     found_at(reader.bytes, reader.at)
 }
 
 // The reader past the record where it is; it stays where no whole record stands.
 pub fn moved<'a>(reader: Reader<'a>) -> Reader<'a>
-    ensures { (result.bytes ≡ reader.entry.bytes) × (result.at ≡ afterAt reader.entry.bytes.now reader.entry.at) }
+    ensures { (result.bytes ≡ reader.entry.bytes) × (result.at ≡ after_at reader.entry.bytes.now reader.entry.at) }
 {
     let at = after_at(reader.bytes, reader.at);
     Reader {
@@ -79,7 +79,7 @@ pub fn moved<'a>(reader: Reader<'a>) -> Reader<'a>
 
 // Record n of a sheet, counted from 0, or what stands after its last whole record.
 pub fn nth(sheet: &[u8], n: usize) -> Found
-    ensures { result ≡ foundAt sheet.now (nthAt sheet.now n) }
+    ensures { result ≡ found_at sheet.now (nth_at sheet.now n) }
 {
     let mut reader = new(sheet);
     let mut i: usize = 0;

@@ -9,23 +9,23 @@ use lib.Dec.{eqb}
 use lib.ListN.{length, take, drop, length-append, length-drop, take-append-drop}
 use lib.Seq.{length-take-le, take-append_seam, drop_at}
 use Rattle.spec.specs.Lists.{keep, concat}
-use Rattle.spec.specs.Record.{u16, isKind}
-use Rattle.spec.specs.Sheet.{recordsIn, recordsOf, wholeEnd, ofKind}
-use Rattle.laws.proofs.All.{All, keep-yes, keep-no}
-use Rattle.laws.proofs.Parts.{part_length, part-word, part-kind}
-use Rattle.theory.proofs.Cut.{Whole, records-of-join, records-of-whole, join-records}
+use Rattle.spec.specs.Record.{u16, is_kind}
+use Rattle.spec.specs.Sheet.{records_in, records_of, whole_end, of_kind}
+use Rattle.laws.proofs.All.{All, keep_yes, keep_no}
+use Rattle.laws.proofs.Parts.{part_length, part_word, part_kind}
+use Rattle.theory.proofs.Cut.{Whole, records_of_join, records_of_whole, join_records}
 use Rattle.records.specs.Records.{between, Tiled}
 
 -- ---- whole records that stand in a sheet
 
 pub placed : (s p : List ℕ) (rs : List (List ℕ)) (t : List ℕ) (at end : ℕ) → All Whole rs → s ≡ p ++ (concat rs ++ t) → length p ≡ at → at + length (concat rs) ≡ end
     → Tiled s at end × (between s at end ≡ rs)
-unfolding between wholeEnd
+unfolding between whole_end
 placed s p rs t at end w e ea ee =
     let l : end - at ≡ length (concat rs) = omega arith in
     let b : take (end - at) (drop at s) ≡ concat rs =
     ap₂ (λ (n : ℕ) (x : List ℕ). take n (drop at x)) l e ∙ ap (take (length (concat rs))) (drop_at p (concat rs ++ t) at ea) ∙ take-append_seam (concat rs) t in
-    let r : recordsOf (take (end - at) (drop at s)) ≡ rs = ap recordsOf b ∙ records-of-join rs w in (
+    let r : records_of (take (end - at) (drop at s)) ≡ rs = ap records_of b ∙ records_of_join rs w in (
       record {
         ordered = omega arith;
         within = omega (arith, ap length e, length-append p (concat rs ++ t), length-append (concat rs) t);
@@ -36,17 +36,17 @@ placed s p rs t at end w e ea ee =
 
 -- ---- a walk from record to record
 
-pub tiled-end : (s : List ℕ) (at end : ℕ) → end ≤ at → between s at end ≡ []
-unfolding between recordsOf recordsIn
-tiled-end s at end h = let e : end - at ≡ 0 = omega arith in ap (λ (n : ℕ). recordsOf (take n (drop at s))) e
+pub tiled_end : (s : List ℕ) (at end : ℕ) → end ≤ at → between s at end ≡ []
+unfolding between records_of records_in
+tiled_end s at end h = let e : end - at ≡ 0 = omega arith in ap (λ (n : ℕ). records_of (take n (drop at s))) e
 
 -- the bytes from `at` on: the records up to `end`, and what follows them
-pub tiled-parts : {s : List ℕ} {at end : ℕ} → Tiled s at end → drop at s ≡ concat (between s at end) ++ drop (end - at) (drop at s)
+pub tiled_parts : {s : List ℕ} {at end : ℕ} → Tiled s at end → drop at s ≡ concat (between s at end) ++ drop (end - at) (drop at s)
 unfolding between
-tiled-parts {s} {at} {end} h =
+tiled_parts {s} {at} {end} h =
     let l : length (take (end - at) (drop at s)) ≡ end - at = part_length s at (end - at) (omega arith) in
     sym (take-append-drop (end - at) (drop at s))
-    ∙ ap (λ (x : List ℕ). x ++ drop (end - at) (drop at s)) (sym (join-records (take (end - at) (drop at s)) (h.whole ∙ sym l)))
+    ∙ ap (λ (x : List ℕ). x ++ drop (end - at) (drop at s)) (sym (join_records (take (end - at) (drop at s)) (h.whole ∙ sym l)))
 
 module _ (s : List ℕ) (at end : ℕ) where
   -- a walk that is at the record r, with rs after it
@@ -56,17 +56,17 @@ module _ (s : List ℕ) (at end : ℕ) where
       let ea : drop at s ≡ r ++ (concat rs ++ t) = e ∙ append_assoc r (concat rs) t in
       let here : take (length r) (drop at s) ≡ r = ap (take (length r)) ea ∙ take-append_seam r (concat rs ++ t) in
       let z : at ≡ at + 0 = omega arith in
-      let n : u16 s at ≡ length r = ap (u16 s) z ∙ sym (part-word s at (length r) 0 (omega (arith, w.four))) ∙ ap (λ (x : List ℕ). u16 x 0) here ∙ w.own in
+      let n : u16 s at ≡ length r = ap (u16 s) z ∙ sym (part_word s at (length r) 0 (omega (arith, w.four))) ∙ ap (λ (x : List ℕ). u16 x 0) here ∙ w.own in
       let p : s ≡ (take at s ++ r) ++ (concat rs ++ t) = sym (take-append-drop at s) ∙ ap (λ (x : List ℕ). take at s ++ x) ea ∙ sym (append_assoc (take at s) r (concat rs ++ t)) in
       let q = placed s (take at s ++ r) rs t (at + u16 s at) end ws p (omega (arith, length-append (take at s) r, length-take-le at s h)) (omega (arith, length-append r (concat rs))) in
       let f = w.four in
       let first : r ≡ take (u16 s at) (drop at s) = sym here ∙ ap (λ (m : ℕ). take m (drop at s)) (sym n) in
       (omega arith, omega (arith, length-append r (concat rs)), ap₂ (λ (x : List ℕ) (xs : List (List ℕ)). x ∷ xs) first (sym q.1), q.0)
 
-pub tiled-step : {s : List ℕ} {at end : ℕ} → Tiled s at end → at < end
+pub tiled_step : {s : List ℕ} {at end : ℕ} → Tiled s at end → at < end
     → (4 ≤ u16 s at) × (at + u16 s at ≤ end) × (between s at end ≡ take (u16 s at) (drop at s) ∷ between s (at + u16 s at) end) × Tiled s (at + u16 s at) end
 unfolding concat
-tiled-step {s} {at} {end} h l = go (between s at end) (unfold between in records-of-whole (take (end - at) (drop at s))) (tiled-parts h)
+tiled_step {s} {at} {end} h l = go (between s at end) (unfold between in records_of_whole (take (end - at) (drop at s))) (tiled_parts h)
   where
     go : (rs : List (List ℕ)) → All Whole rs → drop at s ≡ concat rs ++ drop (end - at) (drop at s)
         → (4 ≤ u16 s at) × (at + u16 s at ≤ end) × (rs ≡ take (u16 s at) (drop at s) ∷ between s (at + u16 s at) end) × Tiled s (at + u16 s at) end
@@ -76,51 +76,51 @@ tiled-step {s} {at} {end} h l = go (between s at end) (unfold between in records
         (omega (arith, ap length e, length-append (r ++ concat rs) (drop (end - at) (drop at s)), length-drop at s, length-drop (end - at) (drop at s), h.within))
 
 -- length and kind of the record at hand can be read
-pub tiled-room : {s : List ℕ} {at end : ℕ} → Tiled s at end → at < end → at + 4 ≤ length s
-tiled-room h l = let t = tiled-step h l in omega (arith, t.0, t.1, h.within)
+pub tiled_room : {s : List ℕ} {at end : ℕ} → Tiled s at end → at < end → at + 4 ≤ length s
+tiled_room h l = let t = tiled_step h l in omega (arith, t.0, t.1, h.within)
 
 -- ---- a walk that counts the records of a kind
 
-unfoldable pub oneIf : Bool → ℕ
-oneIf b = elim b [ true ↦ 1 | false ↦ 0 ]
+unfoldable pub one_if : Bool → ℕ
+one_if b = elim b [ true ↦ 1 | false ↦ 0 ]
 
-one-low : (b : Bool) → oneIf b ≤ 1
-unfolding oneIf
-one-low true = omega arith
-one-low false = omega arith
+one_low : (b : Bool) → one_if b ≤ 1
+unfolding one_if
+one_low true = omega arith
+one_low false = omega arith
 
 -- those passed, `m`, and those from `at` on are `all`; a record has a byte at least, and a sheet few bytes
 pub record Counted (s : List ℕ) (kind end all at m : ℕ) : Type 0 where
   pub tiled : Tiled s at end
-  pub sum : m + length (ofKind kind (between s at end)) ≡ all
+  pub sum : m + length (of_kind kind (between s at end)) ≡ all
   pub few : m ≤ at
   pub low : end ≤ 32768
 
 pub counted_start : {s : List ℕ} {at end : ℕ} {g : List (List ℕ)} (kind : ℕ) → Tiled s at end → between s at end ≡ g → end ≤ 32768
-    → Counted s kind end (length (ofKind kind g)) at 0
-counted_start kind h e l = record { tiled = h; sum = omega (arith, ap (λ (rs : List (List ℕ)). length (ofKind kind rs)) e); few = omega arith; low = l }
+    → Counted s kind end (length (of_kind kind g)) at 0
+counted_start kind h e l = record { tiled = h; sum = omega (arith, ap (λ (rs : List (List ℕ)). length (of_kind kind rs)) e); few = omega arith; low = l }
 
-pub counted-end : {s : List ℕ} {kind end all at m : ℕ} → Counted s kind end all at m → end ≤ at → m ≡ all
-unfolding ofKind keep
-counted-end {s} {kind} {end} {all} {at} {m} h l =
-    let e : length (ofKind kind (between s at end)) ≡ 0 = ap (λ (rs : List (List ℕ)). length (ofKind kind rs)) (tiled-end s at end l) in
+pub counted_end : {s : List ℕ} {kind end all at m : ℕ} → Counted s kind end all at m → end ≤ at → m ≡ all
+unfolding of_kind keep
+counted_end {s} {kind} {end} {all} {at} {m} h l =
+    let e : length (of_kind kind (between s at end)) ≡ 0 = ap (λ (rs : List (List ℕ)). length (of_kind kind rs)) (tiled_end s at end l) in
     omega (arith, h.sum)
 
-of-kind : (k : ℕ) (r : List ℕ) (rs : List (List ℕ)) (b : Bool) → isKind k r ≡ b → length (ofKind k (r ∷ rs)) ≡ oneIf b + length (ofKind k rs)
-unfolding ofKind oneIf
-of-kind k r rs true e = omega (arith, ap length (keep-yes (isKind k) r rs e))
-of-kind k r rs false e = omega (arith, ap length (keep-no (isKind k) r rs e))
+of_kind_lem : (k : ℕ) (r : List ℕ) (rs : List (List ℕ)) (b : Bool) → is_kind k r ≡ b → length (of_kind k (r ∷ rs)) ≡ one_if b + length (of_kind k rs)
+unfolding of_kind one_if
+of_kind_lem k r rs true e = omega (arith, ap length (keep_yes (is_kind k) r rs e))
+of_kind_lem k r rs false e = omega (arith, ap length (keep_no (is_kind k) r rs e))
 
 -- past the record at hand, whose length is `l` and whose kind is `k`
 pub counted_step : {s : List ℕ} {kind end all at m : ℕ} → Counted s kind end all at m → at < end
-    → {l k m' : ℕ} → l ≡ u16 s at → k ≡ u16 s (at + 2) → (b : Bool) → eqb k kind ≡ b → m' ≡ m + oneIf b → Counted s kind end all (at + l) m'
+    → {l k m' : ℕ} → l ≡ u16 s at → k ≡ u16 s (at + 2) → (b : Bool) → eqb k kind ≡ b → m' ≡ m + one_if b → Counted s kind end all (at + l) m'
 counted_step {s} {kind} {end} {all} {at} {m} h lt el ek b eb em =
-    let t = tiled-step h.tiled lt in
+    let t = tiled_step h.tiled lt in
     let r : List ℕ = take (u16 s at) (drop at s) in
-    let e : isKind kind r ≡ b = ap (λ (x : ℕ). eqb x kind) (part-kind s at (u16 s at) t.0 ∙ sym ek) ∙ eb in
+    let e : is_kind kind r ≡ b = ap (λ (x : ℕ). eqb x kind) (part_kind s at (u16 s at) t.0 ∙ sym ek) ∙ eb in
     rw (el, em) (record {
       tiled = t.3;
-      sum = omega (arith, h.sum, ap (λ (rs : List (List ℕ)). length (ofKind kind rs)) t.2, of-kind kind r (between s (at + u16 s at) end) b e);
-      few = omega (arith, h.few, t.0, one-low b);
+      sum = omega (arith, h.sum, ap (λ (rs : List (List ℕ)). length (of_kind kind rs)) t.2, of_kind_lem kind r (between s (at + u16 s at) end) b e);
+      few = omega (arith, h.few, t.0, one_low b);
       low = h.low;
     })

@@ -2,8 +2,8 @@
 -- Assumes nothing.
 use Rattle.std.specs.Prelude.{true, false, List, ℕ, drop}
 use Rattle.spec.specs.Record.{u16}
-use Rattle.spec.specs.Sheet.{wholeFirst}
+use Rattle.spec.specs.Sheet.{whole_first}
 
 -- 0 if no whole record begins there
-unfoldable pub wholeLength : List ℕ → ℕ → ℕ
-wholeLength s at = elim (wholeFirst (drop at s)) [ true ↦ u16 s at | false ↦ 0 ]
+unfoldable pub whole_length : List ℕ → ℕ → ℕ
+whole_length s at = elim (whole_first (drop at s)) [ true ↦ u16 s at | false ↦ 0 ]

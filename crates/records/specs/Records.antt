@@ -1,15 +1,15 @@
 -- Records in bytes: the record at a byte, the records between two, and a class's bytes, which are its records end to end.
 -- Assumes nothing.
 use Rattle.std.specs.Prelude.{◌≡◌, Bool, true, false, ◌&&◌, List, [], ◌∷◌, ℕ, ◌+◌, ◌-◌, ◌≤◌, T, eqb, leb, length, get_or, take, drop}
-use Rattle.spec.specs.Record.{u16, isKind, lengthFits}
-use Rattle.spec.specs.Sheet.{Group, recordsOf, wholeFirst, wholeEnd}
+use Rattle.spec.specs.Record.{u16, is_kind, length_fits}
+use Rattle.spec.specs.Sheet.{Group, records_of, whole_first, whole_end}
 use Rattle.laws.proofs.All.{All}
 
 -- ---- one record
 
 -- a record of the kind may have the length
-unfoldable pub sizeFits : ℕ → ℕ → Bool
-sizeFits k n = get_or
+unfoldable pub size_fits : ℕ → ℕ → Bool
+size_fits k n = get_or
     (false
     ∷ (leb 13 n && leb n 112)
     ∷ eqb n 6
@@ -22,31 +22,31 @@ sizeFits k n = get_or
     ∷ []) k false
 
 -- the record that begins at a byte
-unfoldable pub recordAt : List ℕ → ℕ → List ℕ
-recordAt s at = take (u16 s at) (drop at s)
+unfoldable pub record_at : List ℕ → ℕ → List ℕ
+record_at s at = take (u16 s at) (drop at s)
 
 -- a whole record begins at a byte, and its length is one of its kind
 pub record Sized (s : List ℕ) (at : ℕ) : Type 0 where
-  pub whole : wholeFirst (drop at s) ≡ true
-  pub size : lengthFits (recordAt s at) ≡ true
+  pub whole : whole_first (drop at s) ≡ true
+  pub size : length_fits (record_at s at) ≡ true
 
 -- ---- records end to end
 
 -- the records between two bytes of a sheet
 unfoldable pub between : List ℕ → ℕ → ℕ → List (List ℕ)
-between s at end = recordsOf (take (end - at) (drop at s))
+between s at end = records_of (take (end - at) (drop at s))
 
 -- the bytes between the two are whole records
 pub record Tiled (s : List ℕ) (at end : ℕ) : Type 0 where
   pub ordered : at ≤ end
   pub within : end ≤ length s
-  pub whole : wholeEnd (take (end - at) (drop at s)) ≡ end - at
+  pub whole : whole_end (take (end - at) (drop at s)) ≡ end - at
 
 -- the bytes from `at` up to `end` are whole records of lengths that their kinds can have
 pub record AtRecord (s : List ℕ) (end at : ℕ) : Type 0 where
   pub tiled : Tiled s at end
   pub small : end ≤ 32768
-  pub sizes : All (λ r. T (lengthFits r)) (between s at end)
+  pub sizes : All (λ r. T (length_fits r)) (between s at end)
 
 -- bytes that are the records of a group end to end
 pub record Carries (bytes : List ℕ) (h : Group) : Type 0 where
@@ -54,9 +54,9 @@ pub record Carries (bytes : List ℕ) (h : Group) : Type 0 where
   pub records : between bytes 0 (length bytes) ≡ h
 
 -- the byte where number i of a kind begins among records of which the first begins at `at`; the byte after the last one if there is none
-unfoldable pub nthByte : ℕ → ℕ → ℕ → Group → ℕ
-nthByte kind i at [] = at
-nthByte kind i at (r ∷ rs) = elim (isKind kind r) [
-  | true ↦ elim (eqb i 0) [ true ↦ at | false ↦ nthByte kind (i - 1) (at + length r) rs ]
-  | false ↦ nthByte kind i (at + length r) rs
+unfoldable pub nth_byte : ℕ → ℕ → ℕ → Group → ℕ
+nth_byte kind i at [] = at
+nth_byte kind i at (r ∷ rs) = elim (is_kind kind r) [
+  | true ↦ elim (eqb i 0) [ true ↦ at | false ↦ nth_byte kind (i - 1) (at + length r) rs ]
+  | false ↦ nth_byte kind i (at + length r) rs
 ]

@@ -3,9 +3,9 @@
 
 ghost use Rattle.std.specs.Prelude.{◌≡◌, ◌+◌, ◌-◌, ◌≤◌, ◌<◌, length};
 ghost use Rattle.spec.specs.Record.{u16};
-ghost use Rattle.spec.specs.Sheet.{ofKind};
-ghost use Rattle.records.specs.Lengths.{wholeLength};
-ghost use Rattle.records.specs.Records.{between, AtRecord, nthByte};
+ghost use Rattle.spec.specs.Sheet.{of_kind};
+ghost use Rattle.records.specs.Lengths.{whole_length};
+ghost use Rattle.records.specs.Records.{between, AtRecord, nth_byte};
 
 // The kinds of records.
 pub const CLASS: u16 = 1;
@@ -100,7 +100,7 @@ pub fn wide(x: u16) -> usize
 // How many records of a kind a class's bytes are.
 pub fn count_in(bytes: &[u8], kind: u16) -> usize
     requires { AtRecord bytes.now (length bytes.now) 0 }
-    ensures { result ≡ length (ofKind kind (between bytes.now 0 (length bytes.now))) }
+    ensures { result ≡ length (of_kind kind (between bytes.now 0 (length bytes.now))) }
 {
     let mut at = 0;
     let mut m = 0;
@@ -116,7 +116,7 @@ pub fn count_in(bytes: &[u8], kind: u16) -> usize
 // Where number i of a kind begins in a class's bytes; their end if there is none.
 pub fn nth_in(bytes: &[u8], kind: u16, i: usize) -> usize
     requires { AtRecord bytes.now (length bytes.now) 0 }
-    ensures { result ≡ nthByte kind i 0 (between bytes.now 0 (length bytes.now)) }
+    ensures { result ≡ nth_byte kind i 0 (between bytes.now 0 (length bytes.now)) }
 {
     let mut at = 0;
     let mut left = i;
@@ -134,7 +134,7 @@ pub fn nth_in(bytes: &[u8], kind: u16, i: usize) -> usize
 
 // The length of the whole record at `at`, 0 if none begins there.
 pub fn whole_length(bytes: &[u8], at: usize) -> usize
-    ensures { (result ≡ wholeLength bytes.now at) × (result ≤ length bytes.now - at) }
+    ensures { (result ≡ whole_length bytes.now at) × (result ≤ length bytes.now - at) }
 {
     if bytes.len() <= at {
         return 0;

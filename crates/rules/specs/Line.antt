@@ -3,5 +3,5 @@
 use Rattle.spec.specs.Rules as spec
 use Rattle.rules.specs.declared.Verdict.{Verdict}
 
-abbrev pub lineOf : Verdict → spec.Verdict
-lineOf v = record { rule = v.rule; recordNumber = v.record }
+abbrev pub line_of : Verdict → spec.Verdict
+line_of v = record { rule = v.rule; record_number = v.record }

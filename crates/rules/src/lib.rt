@@ -4,14 +4,14 @@
 ghost use Rattle.std.specs.Prelude.{◌≡◌, ℕ, ◌≤◌, ◌<◌, length};
 ghost use Rattle.std.proofs.Math.Option.{none};
 ghost use Rattle.spec.specs.Lists.{concat};
-ghost use Rattle.spec.specs.Sheet.{Group, group as groupOf};
-ghost use Rattle.spec.specs.Rules.{placeIn, verdictOf};
-ghost use Rattle.spec.specs.Refusals.{formRefusal};
+ghost use Rattle.spec.specs.Sheet.{Group, group as group_of};
+ghost use Rattle.spec.specs.Rules.{place_in, verdict_of};
+ghost use Rattle.spec.specs.Refusals.{form_refusal};
 ghost use Rattle.groups.specs.Groups.{Indexed};
 ghost use Rattle.overlay.specs.Types.{Known};
 ghost use Rattle.breaks.specs.Breaking.{Judging};
-ghost use Rattle.rules.specs.Walk.{onlyFirst, asked, firstClass, NextClass, keptAt, climbed, Empty, Kept};
-ghost use Rattle.rules.specs.Line.{lineOf};
+ghost use Rattle.rules.specs.Walk.{only_first, asked, first_class, NextClass, kept_at, climbed, Empty, Kept};
+ghost use Rattle.rules.specs.Line.{line_of};
 ghost use Rattle.records.specs.Records.{Carries};
 
 use breaks::{BANS_AT, Step, breaks};
@@ -42,11 +42,11 @@ fn first_class<'a>(
     c: usize,
 ) -> usize
     ghost g: { ℕ → Group }
-    requires groups { groupOf library.now user.now ≡ g }
+    requires groups { group_of library.now user.now ≡ g }
     requires indexed { Indexed library.now user.now classes.library classes.all starts.now }
     requires known { Known g markers.now }
     requires there { c < classes.all }
-    ensures { result ≡ firstClass classes.library g classes.all rule c }
+    ensures { result ≡ first_class classes.library g classes.all rule c }
 {
     if rule < 7 {
         return c;
@@ -78,7 +78,7 @@ fn next_class(classes: Classes, c: usize, t: usize, bytes: &[u8]) -> usize
 // Where the row of what earlier walks found keeps a rule and a class.
 fn kept_at(rule: u8, t: usize) -> usize
     requires { (7 ≤ rule) × (rule ≤ 10) × (t < 256) }
-    ensures { (result ≡ keptAt rule t) × (result < 1024) }
+    ensures { (result ≡ kept_at rule t) × (result < 1024) }
 {
     (rule as usize - 7) * CLASS_LIMIT + t
 }
@@ -112,9 +112,9 @@ fn keep<'a>(
     kept: &mut [u8],
 )
     ghost g: { ℕ → Group }
-    requires groups { groupOf library.now user.now ≡ g }
+    requires groups { group_of library.now user.now ≡ g }
     requires indexed { Indexed library.now user.now classes.library classes.all starts.now }
-    requires accepted { formRefusal library.now user.now ≡ none }
+    requires accepted { form_refusal library.now user.now ≡ none }
     requires rule { (7 ≤ rule) × (rule ≤ 10) × (c < classes.all) }
     requires empty { Empty classes.library g rule c }
     requires kept { Kept classes.library classes.all g kept.old }
@@ -131,7 +131,7 @@ fn keep<'a>(
 
 // Whether the CLASS record alone is asked: of the root, and by rules 3, 4 and 6.
 fn first_only(nlib: usize, rule: u8, t: usize) -> bool
-    ensures { result ≡ onlyFirst nlib rule t }
+    ensures { result ≡ only_first nlib rule t }
 {
     if t < nlib {
         return true;
@@ -159,7 +159,7 @@ fn asked_end(nlib: usize, rule: u8, t: usize, bytes: &[u8]) -> usize
 // Where a fault of record k of class t stands in class c.
 fn place(c: usize, t: usize, k: usize) -> u8
     requires { k < 256 }
-    ensures { result ≡ placeIn c (record { class = t; recordNumber = k }) }
+    ensures { result ≡ place_in c (record { class = t; record_number = k }) }
 {
     if t == c { k as u8 } else { 0 }
 }
@@ -176,11 +176,11 @@ pub fn verdict_of<'a>(
     kept: &mut [u8],
 ) -> Verdict
     ghost g: { ℕ → Group }
-    requires groups { groupOf library.now user.now ≡ g }
+    requires groups { group_of library.now user.now ≡ g }
     requires judging { Judging library.now user.now starts.now classes facts.now lanes.now }
     requires user_class { (classes.library ≤ c) × (c < classes.all) }
     requires kept { Kept classes.library classes.all g kept.old }
-    ensures verdict { lineOf result ≡ verdictOf classes.library g c }
+    ensures verdict { line_of result ≡ verdict_of classes.library g c }
     ensures kept { Kept classes.library classes.all g kept.new }
 {
     let n = classes.all;

@@ -10,47 +10,47 @@ use lib.Dec.{T, eqb→eq}
 use lib.ListN.{length}
 use borrow.Author.Tests.{eq-eqb, ne_eqb}
 use Rattle.spec.specs.Lists.{any}
-use Rattle.spec.specs.Record.{u16, kind, isClass, CLASS}
-use Rattle.spec.specs.Sheet.{Group, group, classRecord}
-use Rattle.spec.specs.Refusals.{oneClass, nameMet}
-use Rattle.laws.proofs.Bools.{t-false, true-t, and_l, and_r, not-or-l, not-or-r}
+use Rattle.spec.specs.Record.{u16, kind, is_class, CLASS}
+use Rattle.spec.specs.Sheet.{Group, group, class_record}
+use Rattle.spec.specs.Refusals.{one_class, name_met}
+use Rattle.laws.proofs.Bools.{t_false, true_t, and_l, and_r, not_or_l, not_or_r}
 use Rattle.laws.proofs.All.{All}
-use Rattle.theory.proofs.Form.{group-one-class}
-use Rattle.records.proofs.Whole.{length-here, kind-here}
+use Rattle.theory.proofs.Form.{group_one_class}
+use Rattle.records.proofs.Whole.{length_here, kind_here}
 use Rattle.pass.specs.declared.Pass.{Pass}
 use Rattle.pass.specs.declared.Pass.TheVariants.{Fine, Refused}
-use Rattle.records.proofs.Between.{tiled-end}
-use Rattle.groups.specs.Groups.{startOf, Indexed}
-use Rattle.records.proofs.Walks.{walk-on, walk_here, walk-next}
-use Rattle.fingerprints.proofs.Printing.{first-length, class-first, class-opens}
-use Rattle.records.specs.Records.{Sized, recordAt, between, AtRecord, Carries}
-use Rattle.second.specs.Second.{classNumber, formNumber, formOf}
-use Rattle.records.proofs.Positions.{walk-sized, whole}
-use Rattle.second.proofs.ByKind.{class-refused, class-named}
+use Rattle.records.proofs.Between.{tiled_end}
+use Rattle.groups.specs.Groups.{start_of, Indexed}
+use Rattle.records.proofs.Walks.{walk_on, walk_here, walk_next}
+use Rattle.fingerprints.proofs.Printing.{first_length_lem, class_first, class_opens}
+use Rattle.records.specs.Records.{Sized, record_at, between, AtRecord, Carries}
+use Rattle.second.specs.Second.{class_number, form_number, form_of}
+use Rattle.records.proofs.Positions.{walk_sized, whole}
+use Rattle.second.proofs.ByKind.{class_refused, class_named}
 
 -- ---- one record more
 
 module _ (g : ℕ → Group) (nlib n c at : ℕ) (r : List ℕ) (rs : Group) where
-  pub form-stop : (formNumber g nlib n c r ≡ 0 → ⊥) → formOf g nlib n c at (r ∷ rs) ≡ Refused (formNumber g nlib n c r) at
-  unfolding formOf
-  form-stop h = rw (ne_eqb (formNumber g nlib n c r) 0 h, formOf)
+  pub form_stop : (form_number g nlib n c r ≡ 0 → ⊥) → form_of g nlib n c at (r ∷ rs) ≡ Refused (form_number g nlib n c r) at
+  unfolding form_of
+  form_stop h = rw (ne_eqb (form_number g nlib n c r) 0 h, form_of)
 
-  pub form-on : formNumber g nlib n c r ≡ 0 → formOf g nlib n c at (r ∷ rs) ≡ formOf g nlib n c (at + length r) rs
-  unfolding formOf
-  form-on h = rw (eq-eqb (formNumber g nlib n c r) 0 h, formOf)
+  pub form_on : form_number g nlib n c r ≡ 0 → form_of g nlib n c at (r ∷ rs) ≡ form_of g nlib n c (at + length r) rs
+  unfolding form_of
+  form_on h = rw (eq-eqb (form_number g nlib n c r) 0 h, form_of)
 
 -- ---- records that are no CLASS records
 
-pub others : (rs : Group) → T (not (any isClass rs)) → All (λ r. isClass r ≡ false) rs
+pub others : (rs : Group) → T (not (any is_class rs)) → All (λ r. is_class r ≡ false) rs
 unfolding any
 others [] t = tt
-others (r ∷ rs) t = (t-false (isClass r) (not-or-l (isClass r) (any isClass rs) t), others rs (not-or-r (isClass r) (any isClass rs) t))
+others (r ∷ rs) t = (t_false (is_class r) (not_or_l (is_class r) (any is_class rs) t), others rs (not_or_r (is_class r) (any is_class rs) t))
 
 -- the walk over those of class c stands at `at` of its bytes; what is left comes to `all`
 pub record Going (g : ℕ → Group) (nlib n c start : ℕ) (bytes : List ℕ) (all : Pass) (at : ℕ) : Type 0 where
   pub place : AtRecord bytes (length bytes) at
-  pub others : All (λ r. isClass r ≡ false) (between bytes at (length bytes))
-  pub rest : formOf g nlib n c (start + at) (between bytes at (length bytes)) ≡ all
+  pub others : All (λ r. is_class r ≡ false) (between bytes at (length bytes))
+  pub rest : form_of g nlib n c (start + at) (between bytes at (length bytes)) ≡ all
 
 module _ {g : ℕ → Group} {nlib n c start : ℕ} {bytes : List ℕ} {all : Pass} {at : ℕ} (w : Going g nlib n c start bytes all at) where
   -- the records after the one at hand
@@ -58,40 +58,40 @@ module _ {g : ℕ → Group} {nlib n c start : ℕ} {bytes : List ℕ} {all : Pa
   later = between bytes (at + u16 bytes at) (length bytes)
 
   pub goes_end : length bytes ≤ at → Fine c ≡ all
-  unfolding formOf
-  goes_end h = ap (formOf g nlib n c (start + at)) (sym (tiled-end bytes at (length bytes) h)) ∙ w.rest
+  unfolding form_of
+  goes_end h = ap (form_of g nlib n c (start + at)) (sym (tiled_end bytes at (length bytes) h)) ∙ w.rest
 
   module _ (h : at < length bytes) where
-    pub goes-room : (4 ≤ u16 bytes at) × (at + u16 bytes at ≤ length bytes)
-    goes-room = walk-on w.place h
+    pub goes_room : (4 ≤ u16 bytes at) × (at + u16 bytes at ≤ length bytes)
+    goes_room = walk_on w.place h
 
-    pub goes-sized : Sized bytes at
-    goes-sized = walk-sized w.place h
+    pub goes_sized : Sized bytes at
+    goes_sized = walk_sized w.place h
 
-    split : between bytes at (length bytes) ≡ recordAt bytes at ∷ later
-    unfolding recordAt
+    split : between bytes at (length bytes) ≡ record_at bytes at ∷ later
+    unfolding record_at
     split = walk_here w.place h
 
-    no-class : All (λ r. isClass r ≡ false) (recordAt bytes at ∷ later)
-    no-class = subst (All (λ r. isClass r ≡ false)) split w.others
+    no_class_lem : All (λ r. is_class r ≡ false) (record_at bytes at ∷ later)
+    no_class_lem = subst (All (λ r. is_class r ≡ false)) split w.others
 
     pub goes_other : {k : ℕ} → k ≡ u16 bytes (at + 2) → k ≡ 1 → ⊥
-    goes_other ek e = true-t (sym no-class.0 ∙ eq-eqb (kind (recordAt bytes at)) 1 (kind-here (whole goes-sized) ∙ sym ek ∙ e))
+    goes_other ek e = true_t (sym no_class_lem.0 ∙ eq-eqb (kind (record_at bytes at)) 1 (kind_here (whole goes_sized) ∙ sym ek ∙ e))
 
-    module _ {number : ℕ} (en : number ≡ formNumber g nlib n c (recordAt bytes at)) where
-      pub goes-stop : (number ≡ 0 → ⊥) → {b : ℕ} → b ≡ start → Refused number (b + at) ≡ all
-      goes-stop z eb =
-          rw (en, eb) (sym (form-stop g nlib n c (start + at) (recordAt bytes at) later (λ q. z (en ∙ q))) ∙ ap (formOf g nlib n c (start + at)) (sym split) ∙ w.rest)
+    module _ {number : ℕ} (en : number ≡ form_number g nlib n c (record_at bytes at)) where
+      pub goes_stop : (number ≡ 0 → ⊥) → {b : ℕ} → b ≡ start → Refused number (b + at) ≡ all
+      goes_stop z eb =
+          rw (en, eb) (sym (form_stop g nlib n c (start + at) (record_at bytes at) later (λ q. z (en ∙ q))) ∙ ap (form_of g nlib n c (start + at)) (sym split) ∙ w.rest)
 
       pub goes_on : number ≡ 0 → {l v : ℕ} → l ≡ v → v ≡ u16 bytes at → Going g nlib n c start bytes all (at + l)
       goes_on z {l} el ev =
-          let m : start + at + length (recordAt bytes at) ≡ start + (at + u16 bytes at) = omega (arith, length-here (whole goes-sized)) in
+          let m : start + at + length (record_at bytes at) ≡ start + (at + u16 bytes at) = omega (arith, length_here (whole goes_sized)) in
           rw (el ∙ ev) (record {
-            place = walk-next w.place h;
-            others = no-class.1;
-            rest = ap (λ (i : ℕ). formOf g nlib n c i later) (sym m)
-                ∙ sym (form-on g nlib n c (start + at) (recordAt bytes at) later (sym en ∙ z))
-                ∙ ap (formOf g nlib n c (start + at)) (sym split)
+            place = walk_next w.place h;
+            others = no_class_lem.1;
+            rest = ap (λ (i : ℕ). form_of g nlib n c i later) (sym m)
+                ∙ sym (form_on g nlib n c (start + at) (record_at bytes at) later (sym en ∙ z))
+                ∙ ap (form_of g nlib n c (start + at)) (sym split)
                 ∙ w.rest;
           })
 
@@ -102,59 +102,59 @@ module _ {library user : List ℕ} {nlib n : ℕ} {row : List ℕ} (x : Indexed 
   g = group library user
 
   abbrev start : ℕ
-  start = startOf library user c
+  start = start_of library user c
 
   -- those after the CLASS record
   abbrev tail : Group
   tail = between bytes (u16 bytes 0) (length bytes)
 
   nonempty : 0 < length bytes
-  nonempty = omega (arith, class-opens x h k)
+  nonempty = omega (arith, class_opens x h k)
 
-  parts : g c ≡ classRecord (g c) ∷ tail
-  unfolding recordAt
+  parts : g c ≡ class_record (g c) ∷ tail
+  unfolding record_at
   parts =
       sym k.records
       ∙ walk_here k.place nonempty
-      ∙ ap₂ (λ (r : List ℕ) (i : ℕ). r ∷ between bytes i (length bytes)) (class-first x h k) (zero-add (u16 bytes 0))
+      ∙ ap₂ (λ (r : List ℕ) (i : ℕ). r ∷ between bytes i (length bytes)) (class_first x h k) (zero-add (u16 bytes 0))
 
-  one : T (oneClass (classRecord (g c) ∷ tail))
-  one = subst (λ (p : Group). T (oneClass p)) parts (group-one-class library user c (omega (arith, x.n-is)))
+  one : T (one_class (class_record (g c) ∷ tail))
+  one = subst (λ (p : Group). T (one_class p)) parts (group_one_class library user c (omega (arith, x.n_is)))
 
-  its-kind : kind (classRecord (g c)) ≡ CLASS
-  unfolding oneClass
-  its-kind = eqb→eq (kind (classRecord (g c))) CLASS (and_l (isClass (classRecord (g c))) (not (any isClass tail)) one)
+  its_kind : kind (class_record (g c)) ≡ CLASS
+  unfolding one_class
+  its_kind = eqb→eq (kind (class_record (g c))) CLASS (and_l (is_class (class_record (g c))) (not (any is_class tail)) one)
 
   -- `l` is the length of the CLASS record, and `v` the same as it stands there
-  pub goes-start : {l v : ℕ} → l ≡ v → v ≡ u16 bytes 0 → Going g nlib n c start bytes (formOf g nlib n c (start + u16 bytes 0) tail) l
-  unfolding oneClass
-  goes-start el ev = rw (el ∙ ev) (record {
-    place = subst (AtRecord bytes (length bytes)) (zero-add (u16 bytes 0)) (walk-next k.place nonempty);
-    others = others tail (and_r (isClass (classRecord (g c))) (not (any isClass tail)) one);
+  pub goes_start : {l v : ℕ} → l ≡ v → v ≡ u16 bytes 0 → Going g nlib n c start bytes (form_of g nlib n c (start + u16 bytes 0) tail) l
+  unfolding one_class
+  goes_start el ev = rw (el ∙ ev) (record {
+    place = subst (AtRecord bytes (length bytes)) (zero-add (u16 bytes 0)) (walk_next k.place nonempty);
+    others = others tail (and_r (is_class (class_record (g c))) (not (any is_class tail)) one);
     rest = refl;
   })
 
-  first-is : recordAt bytes 0 ≡ classRecord (g c)
-  first-is = class-first x h k
+  first_is : record_at bytes 0 ≡ class_record (g c)
+  first_is = class_first x h k
 
   -- refused by the number
-  stops : {number : ℕ} → number ≡ formNumber g nlib n c (classRecord (g c)) → (number ≡ 0 → ⊥) → {b : ℕ} → b ≡ start → Refused number b ≡ formOf g nlib n c start (g c)
-  stops en z eb = rw (en, eb) (sym (form-stop g nlib n c start (classRecord (g c)) tail (λ q. z (en ∙ q))) ∙ ap (formOf g nlib n c start) (sym parts))
+  stops : {number : ℕ} → number ≡ form_number g nlib n c (class_record (g c)) → (number ≡ 0 → ⊥) → {b : ℕ} → b ≡ start → Refused number b ≡ form_of g nlib n c start (g c)
+  stops en z eb = rw (en, eb) (sym (form_stop g nlib n c start (class_record (g c)) tail (λ q. z (en ∙ q))) ∙ ap (form_of g nlib n c start) (sym parts))
 
   -- `number` is what all but the name say, `met` whether a class below has the name
-  module _ {number : ℕ} (en : number ≡ classNumber g nlib n c (recordAt bytes 0) 0) where
-    by_form : number ≡ classNumber g nlib n c (classRecord (g c)) 0
-    by_form = en ∙ ap (λ (r : List ℕ). classNumber g nlib n c r 0) first-is
+  module _ {number : ℕ} (en : number ≡ class_number g nlib n c (record_at bytes 0) 0) where
+    by_form : number ≡ class_number g nlib n c (class_record (g c)) 0
+    by_form = en ∙ ap (λ (r : List ℕ). class_number g nlib n c r 0) first_is
 
-    pub form-stops : (number ≡ 0 → ⊥) → {b : ℕ} → b ≡ start → Refused number b ≡ formOf g nlib n c start (g c)
-    form-stops z eb = stops (class-refused g nlib n c (classRecord (g c)) its-kind by_form z) z eb
+    pub form_stops : (number ≡ 0 → ⊥) → {b : ℕ} → b ≡ start → Refused number b ≡ form_of g nlib n c start (g c)
+    form_stops z eb = stops (class_refused g nlib n c (class_record (g c)) its_kind by_form z) z eb
 
-    module _ (z : number ≡ 0) {met : Bool} (em : met ≡ nameMet g c (classRecord (g c))) where
-      pub name-stops : met ≡ true → {b : ℕ} → b ≡ start → Refused 10 b ≡ formOf g nlib n c start (g c)
-      name-stops t eb = stops (class-named g nlib n c (classRecord (g c)) its-kind by_form z em t) (λ q. omega arith) eb
+    module _ (z : number ≡ 0) {met : Bool} (em : met ≡ name_met g c (class_record (g c))) where
+      pub name_stops : met ≡ true → {b : ℕ} → b ≡ start → Refused 10 b ≡ form_of g nlib n c start (g c)
+      name_stops t eb = stops (class_named g nlib n c (class_record (g c)) its_kind by_form z em t) (λ q. omega arith) eb
 
-      pub class-passes : met ≡ false → {p : Pass} → p ≡ formOf g nlib n c (start + u16 bytes 0) tail → p ≡ formOf g nlib n c start (g c)
-      class-passes t ep =
-          let m : length (classRecord (g c)) ≡ u16 bytes 0 = ap length (sym first-is) ∙ first-length (class-opens x h k) in
-          let none = sym (class-named g nlib n c (classRecord (g c)) its-kind by_form z em t) in
-          ep ∙ ap (λ (i : ℕ). formOf g nlib n c (start + i) tail) (sym m) ∙ sym (form-on g nlib n c start (classRecord (g c)) tail none) ∙ ap (formOf g nlib n c start) (sym parts)
+      pub class_passes : met ≡ false → {p : Pass} → p ≡ form_of g nlib n c (start + u16 bytes 0) tail → p ≡ form_of g nlib n c start (g c)
+      class_passes t ep =
+          let m : length (class_record (g c)) ≡ u16 bytes 0 = ap length (sym first_is) ∙ first_length_lem (class_opens x h k) in
+          let none = sym (class_named g nlib n c (class_record (g c)) its_kind by_form z em t) in
+          ep ∙ ap (λ (i : ℕ). form_of g nlib n c (start + i) tail) (sym m) ∙ sym (form_on g nlib n c start (class_record (g c)) tail none) ∙ ap (form_of g nlib n c start) (sym parts)

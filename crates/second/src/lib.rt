@@ -6,14 +6,14 @@ mod numbers;
 
 ghost use Rattle.std.specs.Prelude.{◌≡◌, ℕ, ◌+◌, ◌≤◌, ◌<◌, length, drop, replicate};
 ghost use Rattle.spec.specs.Record.{u16};
-ghost use Rattle.spec.specs.Sheet.{Group, group as groupOf, classCount};
-ghost use Rattle.theory.specs.Claims.{sheetOf};
+ghost use Rattle.spec.specs.Sheet.{Group, group as group_of, class_count};
+ghost use Rattle.theory.specs.Claims.{sheet_of};
 ghost use Rattle.view.specs.View.{spliced, Views};
-ghost use Rattle.pass.specs.Pass.{passOf};
-ghost use Rattle.groups.specs.Groups.{startOf};
+ghost use Rattle.pass.specs.Pass.{pass_of};
+ghost use Rattle.groups.specs.Groups.{start_of};
 ghost use Rattle.fingerprints.specs.Fingerprints.{Printed};
 ghost use Rattle.records.specs.Records.{between, Carries};
-ghost use Rattle.second.specs.Second.{Heads, Enclosing, countedKind, headOf, formOf, formIn, classesStart, classesEnd};
+ghost use Rattle.second.specs.Second.{Heads, Enclosing, counted_kind, head_of, form_of, form_in, classes_start, classes_end};
 
 use naming::name_met;
 use numbers::{class_number, other_number};
@@ -23,7 +23,7 @@ use view::{View, view_bytes, view_word};
 
 // The kind of the records of class c that others name by an index: MEMBER in the library, LOCAL in the user sheet.
 fn counted_kind(nlib: usize, c: usize) -> u16
-    ensures { result ≡ countedKind nlib c }
+    ensures { result ≡ counted_kind nlib c }
 {
     if c < nlib { MEMBER } else { LOCAL }
 }
@@ -38,10 +38,10 @@ fn head_of<'a>(
     c: usize,
 ) -> u16
     ghost g: { ℕ → Group }
-    requires groups { groupOf library.now (spliced user.now group.now view.cut) ≡ g }
+    requires groups { group_of library.now (spliced user.now group.now view.cut) ≡ g }
     requires views { Views view library.now user.now group.now starts.now }
     requires there { c < view.classes.all }
-    ensures { result ≡ headOf view.classes.library g c }
+    ensures { result ≡ head_of view.classes.library g c }
 {
     let classes = view.classes;
     let bytes = view_bytes(library, user, group, starts, view, c);
@@ -59,7 +59,7 @@ pub fn heads<'a>(
     row: &mut [u16],
 )
     ghost g: { ℕ → Group }
-    requires groups { groupOf library.now (spliced user.now group.now view.cut) ≡ g }
+    requires groups { group_of library.now (spliced user.now group.now view.cut) ≡ g }
     requires views { Views view library.now user.now group.now starts.now }
     requires long { view.classes.all ≤ length row.old }
     ensures first { Heads g view.classes row.new }
@@ -85,7 +85,7 @@ fn mark_enclosers<'a>(
     row: &mut [u8],
 )
     ghost g: { ℕ → Group }
-    requires groups { groupOf library.now (spliced user.now group.now view.cut) ≡ g }
+    requires groups { group_of library.now (spliced user.now group.now view.cut) ≡ g }
     requires views { Views view library.now user.now group.now starts.now }
     requires there { (c < view.classes.all) × (row.old ≡ replicate 256 0) }
     ensures { Enclosing g view.classes.all c row.new }
@@ -118,13 +118,13 @@ fn others_pass<'a>(
     bytes: &[u8],
 ) -> Pass
     ghost g: { ℕ → Group }
-    requires groups { groupOf library.now (spliced user.now group.now view.cut) ≡ g }
+    requires groups { group_of library.now (spliced user.now group.now view.cut) ≡ g }
     requires views { Views view library.now user.now group.now starts.now }
     requires heads { Heads g view.classes heads.now }
     requires there { c < view.classes.all }
     requires carries { Carries bytes.now (g c) }
-    ensures { result ≡ formOf g view.classes.library view.classes.all c
-        (startOf library.now (spliced user.now group.now view.cut) c + u16 bytes.now 0)
+    ensures { result ≡ form_of g view.classes.library view.classes.all c
+        (start_of library.now (spliced user.now group.now view.cut) c + u16 bytes.now 0)
         (between bytes.now (u16 bytes.now 0) (length bytes.now)) }
 {
     let mut marks = [0u8; CLASS_LIMIT];
@@ -153,13 +153,13 @@ fn class_pass<'a>(
     c: usize,
 ) -> Pass
     ghost g: { ℕ → Group }
-    requires groups { groupOf library.now (spliced user.now group.now view.cut) ≡ g }
+    requires groups { group_of library.now (spliced user.now group.now view.cut) ≡ g }
     requires views { Views view library.now user.now group.now starts.now }
     requires printed { Printed g view.classes.all prints.now }
     requires heads { Heads g view.classes heads.now }
     requires there { c < view.classes.all }
-    ensures { result ≡ formOf g view.classes.library view.classes.all c
-        (startOf library.now (spliced user.now group.now view.cut) c) (g c) }
+    ensures { result ≡ form_of g view.classes.library view.classes.all c
+        (start_of library.now (spliced user.now group.now view.cut) c) (g c) }
 {
     let classes = view.classes;
     let bytes = view_bytes(library, user, group, starts, view, c);
@@ -175,7 +175,7 @@ fn class_pass<'a>(
 
 // How many classes stand before a sheet.
 fn classes_start(nlib: usize, sheet: u8) -> usize
-    ensures { result ≡ classesStart nlib sheet }
+    ensures { result ≡ classes_start nlib sheet }
 {
     if sheet == 0 {
         return 0;
@@ -185,7 +185,7 @@ fn classes_start(nlib: usize, sheet: u8) -> usize
 
 // The class after the last one of a sheet.
 fn classes_end(nlib: usize, n: usize, sheet: u8) -> usize
-    ensures { result ≡ classesEnd nlib n sheet }
+    ensures { result ≡ classes_end nlib n sheet }
 {
     if sheet == 0 {
         return nlib;
@@ -205,15 +205,15 @@ pub fn second_pass<'a>(
     sheet: u8,
 ) -> Pass
     ghost g: { ℕ → Group }
-    requires groups { groupOf library.now (spliced user.now group.now view.cut) ≡ g }
+    requires groups { group_of library.now (spliced user.now group.now view.cut) ≡ g }
     requires views { Views view library.now user.now group.now starts.now }
     requires printed { Printed g view.classes.all prints.now }
     requires heads { Heads g view.classes heads.now }
     requires bounds { sheet < 2 }
-    ensures { result ≡ passOf (formIn g view.classes.library view.classes.all sheet (classesStart view.classes.library sheet)
-        (sheetOf library.now (spliced user.now group.now view.cut) sheet))
-        (classesStart view.classes.library sheet
-        + classCount (sheetOf library.now (spliced user.now group.now view.cut) sheet)) }
+    ensures { result ≡ pass_of (form_in g view.classes.library view.classes.all sheet (classes_start view.classes.library sheet)
+        (sheet_of library.now (spliced user.now group.now view.cut) sheet))
+        (classes_start view.classes.library sheet
+        + class_count (sheet_of library.now (spliced user.now group.now view.cut) sheet)) }
 {
     let classes = view.classes;
     let end = classes_end(classes.library, classes.all, sheet);

@@ -1,12 +1,12 @@
 // Whether a name is new.
 ghost use Rattle.std.specs.Prelude.{◌≡◌, ℕ, ◌<◌};
-ghost use Rattle.spec.specs.Lists.{sameList};
-ghost use Rattle.spec.specs.Record.{className};
-ghost use Rattle.spec.specs.Sheet.{Group, group as groupOf, classRecord};
-ghost use Rattle.spec.specs.Refusals.{nameMet};
+ghost use Rattle.spec.specs.Lists.{same_list};
+ghost use Rattle.spec.specs.Record.{class_name};
+ghost use Rattle.spec.specs.Sheet.{Group, group as group_of, class_record};
+ghost use Rattle.spec.specs.Refusals.{name_met};
 ghost use Rattle.view.specs.View.{spliced, Views};
 ghost use Rattle.fingerprints.specs.Fingerprints.{Opens, Printed};
-ghost use Rattle.records.specs.Records.{recordAt, Carries};
+ghost use Rattle.records.specs.Records.{record_at, Carries};
 
 use fingerprints::met;
 use records::{NAME_AT, wide, word_in};
@@ -16,7 +16,7 @@ use view::{View, view_bytes};
 fn same_name(a: &[u8], b: &[u8]) -> bool
     requires opens { Opens a.now }
     requires other_opens { Opens b.now }
-    ensures { result ≡ sameList (className (recordAt a.now 0)) (className (recordAt b.now 0)) }
+    ensures { result ≡ same_list (class_name (record_at a.now 0)) (class_name (record_at b.now 0)) }
 {
     let len = wide(word_in(b, 0));
     if wide(word_in(a, 0)) != len {
@@ -43,11 +43,11 @@ fn named_as<'a>(
     d: usize,
 ) -> bool
     ghost g: { ℕ → Group }
-    requires groups { groupOf library.now (spliced user.now group.now view.cut) ≡ g }
+    requires groups { group_of library.now (spliced user.now group.now view.cut) ≡ g }
     requires views { Views view library.now user.now group.now starts.now }
     requires there { d < view.classes.all }
     requires opens { Opens bytes.now }
-    ensures { result ≡ sameList (className (classRecord (g d))) (className (recordAt bytes.now 0)) }
+    ensures { result ≡ same_list (class_name (class_record (g d))) (class_name (record_at bytes.now 0)) }
 {
     same_name(view_bytes(library, user, group, starts, view, d), bytes)
 }
@@ -64,12 +64,12 @@ pub fn name_met<'a>(
     bytes: &[u8],
 ) -> bool
     ghost g: { ℕ → Group }
-    requires groups { groupOf library.now (spliced user.now group.now view.cut) ≡ g }
+    requires groups { group_of library.now (spliced user.now group.now view.cut) ≡ g }
     requires views { Views view library.now user.now group.now starts.now }
     requires printed { Printed g view.classes.all prints.now }
     requires there { c < view.classes.all }
     requires carries { Carries bytes.now (g c) }
-    ensures { result ≡ nameMet g c (classRecord (g c)) }
+    ensures { result ≡ name_met g c (class_record (g c)) }
 {
     let print = prints[c];
     if !met(prints, c, print) {

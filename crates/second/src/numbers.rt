@@ -1,12 +1,12 @@
 // The number that refuses a record: what it asks of other classes stands in the row of heads, so no sheet is read.
 ghost use Rattle.std.specs.Prelude.{◌≡◌, not, ◌&&◌, ◌||◌, ℕ, ◌+◌, ◌≤◌, ◌<◌, eqb, length};
-ghost use Rattle.spec.specs.Record.{u16, bit, tyAt, LOCAL, MEMBER};
-ghost use Rattle.spec.specs.Sheet.{Group, ofKind};
+ghost use Rattle.spec.specs.Record.{u16, bit, ty_at, LOCAL, MEMBER};
+ghost use Rattle.spec.specs.Sheet.{Group, of_kind};
 ghost use Rattle.groups.specs.declared.Classes.{Classes};
 ghost use Rattle.fingerprints.specs.Fingerprints.{Opens};
-ghost use Rattle.records.specs.Records.{Sized, recordAt};
-ghost use Rattle.second.specs.Second.{Heads, Enclosing, typeThere, classNumber, implementsNumber, fieldNumber, usesNumber, refersNumber};
-ghost use Rattle.second.specs.Second.{formNumber, thereOrNone, superclassOk, encloserOk};
+ghost use Rattle.records.specs.Records.{Sized, record_at};
+ghost use Rattle.second.specs.Second.{Heads, Enclosing, type_there, class_number, implements_number, field_number, uses_number, refers_number};
+ghost use Rattle.second.specs.Second.{form_number, there_or_none, superclass_ok, encloser_ok};
 
 use groups::Classes;
 use records::{
@@ -18,7 +18,7 @@ use records::{
 // Whether the type at i names a class that isn't there.
 fn type_absent(bytes: &[u8], n: usize, i: usize) -> bool
     requires { i + 3 < length bytes.now }
-    ensures { result ≡ not (typeThere n (tyAt bytes.now i)) }
+    ensures { result ≡ not (type_there n (ty_at bytes.now i)) }
 {
     if bytes[i + CODE_AT] == 0 {
         return n <= wide(word_in(bytes, i + TYPE_CLASS_AT));
@@ -28,7 +28,7 @@ fn type_absent(bytes: &[u8], n: usize, i: usize) -> bool
 
 // Whether a superclass or an encloser is named that isn't there; 65535 is none.
 fn absent(n: usize, d: usize) -> bool
-    ensures { result ≡ not (thereOrNone n d) }
+    ensures { result ≡ not (there_or_none n d) }
 {
     if d == NONE {
         return false;
@@ -59,7 +59,7 @@ fn zero_breaks(c: usize, flags: u16) -> bool
 // Whether class c with those flags may not have that superclass.
 fn superclass_breaks(heads: &[u16], c: usize, flags: u16, up: usize) -> bool
     requires { c ≤ length heads.now }
-    ensures { (g : ℕ → Group) (k : Classes) → Heads g k heads.now → c < k.all → result ≡ not (superclassOk g c flags up) }
+    ensures { (g : ℕ → Group) (k : Classes) → Heads g k heads.now → c < k.all → result ≡ not (superclass_ok g c flags up) }
 {
     if bare(c, flags) {
         return up != NONE;
@@ -72,7 +72,7 @@ fn superclass_breaks(heads: &[u16], c: usize, flags: u16, up: usize) -> bool
 
 // Whether class c with those flags may not have that encloser.
 fn encloser_breaks(nlib: usize, c: usize, flags: u16, outer: usize) -> bool
-    ensures { result ≡ not (encloserOk nlib c flags outer) }
+    ensures { result ≡ not (encloser_ok nlib c flags outer) }
 {
     if outer == NONE {
         return flags / INNER % 2 == 1;
@@ -91,7 +91,7 @@ pub fn class_number(heads: &[u16], classes: Classes, c: usize, bytes: &[u8]) -> 
     requires long { (classes.all ≤ length heads.now) × (c < classes.all) }
     requires opens { Opens bytes.now }
     ensures { (g : ℕ → Group) → Heads g classes heads.now
-        → result ≡ classNumber g classes.library classes.all c (recordAt bytes.now 0) 0 }
+        → result ≡ class_number g classes.library classes.all c (record_at bytes.now 0) 0 }
 {
     let n = classes.all;
     let up = wide(word_in(bytes, SUPERCLASS_AT));
@@ -118,7 +118,7 @@ pub fn class_number(heads: &[u16], classes: Classes, c: usize, bytes: &[u8]) -> 
 // The number that refuses an IMPLEMENTS of class c that names t, or 0.
 fn implements_number(heads: &[u16], classes: Classes, c: usize, t: usize) -> u8
     requires { (classes.all ≤ length heads.now) × (c < classes.all) }
-    ensures { (g : ℕ → Group) → Heads g classes heads.now → result ≡ implementsNumber g classes.all c t }
+    ensures { (g : ℕ → Group) → Heads g classes heads.now → result ≡ implements_number g classes.all c t }
 {
     if classes.all <= t {
         return 9;
@@ -135,7 +135,7 @@ fn implements_number(heads: &[u16], classes: Classes, c: usize, t: usize) -> u8
 // The number that refuses the FIELD at `at`, or 0; `face` says whether its class is an interface.
 fn field_number(bytes: &[u8], n: usize, face: bool, at: usize) -> u8
     requires { at + 9 < length bytes.now }
-    ensures { result ≡ fieldNumber n face (bit 2 (u16 bytes.now (at + 4))) (tyAt bytes.now (at + 6)) }
+    ensures { result ≡ field_number n face (bit 2 (u16 bytes.now (at + 4))) (ty_at bytes.now (at + 6)) }
 {
     if type_absent(bytes, n, at + FIELD_TYPE_AT) {
         return 9;
@@ -151,7 +151,7 @@ fn field_number(bytes: &[u8], n: usize, face: bool, at: usize) -> u8
 // The number of LOCAL records of class t: a library class has none.
 fn locals(heads: &[u16], classes: Classes, t: usize) -> usize
     requires { (classes.all ≤ length heads.now) × (t < classes.all) }
-    ensures { (g : ℕ → Group) → Heads g classes heads.now → result ≡ length (ofKind LOCAL (g t)) }
+    ensures { (g : ℕ → Group) → Heads g classes heads.now → result ≡ length (of_kind LOCAL (g t)) }
 {
     if t < classes.library {
         return 0;
@@ -162,7 +162,7 @@ fn locals(heads: &[u16], classes: Classes, t: usize) -> usize
 // The number of MEMBER records of class t: a user class has none.
 fn members(heads: &[u16], classes: Classes, t: usize) -> usize
     requires { (classes.all ≤ length heads.now) × (t < classes.all) }
-    ensures { (g : ℕ → Group) → Heads g classes heads.now → result ≡ length (ofKind MEMBER (g t)) }
+    ensures { (g : ℕ → Group) → Heads g classes heads.now → result ≡ length (of_kind MEMBER (g t)) }
 {
     if t < classes.library {
         return wide(heads[t] / 2);
@@ -174,7 +174,7 @@ fn members(heads: &[u16], classes: Classes, t: usize) -> usize
 fn uses_number(heads: &[u16], marks: &[u8], classes: Classes, t: usize, i: usize) -> u8
     requires { (classes.all ≤ length heads.now) × (classes.all ≤ length marks.now) }
     ensures { (g : ℕ → Group) (c : ℕ) → Heads g classes heads.now → Enclosing g classes.all c marks.now
-        → result ≡ usesNumber g classes.all c t i }
+        → result ≡ uses_number g classes.all c t i }
 {
     if classes.all <= t {
         return 9;
@@ -191,7 +191,7 @@ fn uses_number(heads: &[u16], marks: &[u8], classes: Classes, t: usize, i: usize
 // The number that refuses a REFERS that names member i of class t, or 0.
 fn refers_number(heads: &[u16], classes: Classes, t: usize, i: usize) -> u8
     requires { classes.all ≤ length heads.now }
-    ensures { (g : ℕ → Group) → Heads g classes heads.now → result ≡ refersNumber g classes.all t i }
+    ensures { (g : ℕ → Group) → Heads g classes heads.now → result ≡ refers_number g classes.all t i }
 {
     if classes.all <= t {
         return 9;
@@ -215,7 +215,7 @@ pub fn other_number(
     requires there { c < classes.all }
     requires sized { Sized bytes.now at × (u16 bytes.now (at + 2) ≡ 1 → ⊥) }
     ensures { (g : ℕ → Group) → Heads g classes heads.now → Enclosing g classes.all c marks.now
-        → result ≡ formNumber g classes.library classes.all c (recordAt bytes.now at) }
+        → result ≡ form_number g classes.library classes.all c (record_at bytes.now at) }
 {
     let kind = word_in(bytes, at + KIND_AT);
     if kind == MEMBER {

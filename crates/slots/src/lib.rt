@@ -4,8 +4,8 @@
 
 ghost use Rattle.std.specs.Prelude.{◌≡◌, true, false, ◌+◌, ◌^◌, ◌≤◌, ◌<◌, length};
 ghost use Rattle.spec.specs.Record.{u16};
-ghost use Rattle.records.specs.Records.{Sized, recordAt, between, AtRecord};
-ghost use Rattle.slots.specs.Slots.{ruleMarker, Passes, slotBy, FieldSet, FieldsSet, RootSet, encloserBy, capturedBy, HeadSet, baseBy};
+ghost use Rattle.records.specs.Records.{Sized, record_at, between, AtRecord};
+ghost use Rattle.slots.specs.Slots.{rule_marker, Passes, slot_by, FieldSet, FieldsSet, RootSet, encloser_by, captured_by, HeadSet, base_by};
 
 use captured::lacking;
 use markers::{ALL, DEEP_SELFLESS, IMMUTABLE, POWERLESS, SELFLESS, common, has, union};
@@ -29,7 +29,7 @@ const NOT_DEEP_SELFLESS: u8 = ALL - DEEP_SELFLESS;
 // The marker of a rule, as a set of its own.
 pub fn rule_set(rule: u8) -> u8
     requires { 7 ≤ rule }
-    ensures { (result ≡ 2 ^ ruleMarker rule) × (0 < result) }
+    ensures { (result ≡ 2 ^ rule_marker rule) × (0 < result) }
 {
     if rule == 7 {
         return IMMUTABLE;
@@ -45,7 +45,7 @@ pub fn rule_set(rule: u8) -> u8
 
 // By the flags of a field and the markers of its type. One that is not final passes neither rule 7 nor rule 9, a transient one not rule 9.
 fn slot_set(flags: u16, m: u8) -> u8
-    ensures { Passes (slotBy flags m) result }
+    ensures { Passes (slot_by flags m) result }
 {
     if flags % 2 == 0 {
         return common(m, CHANGING);
@@ -60,7 +60,7 @@ fn slot_set(flags: u16, m: u8) -> u8
 pub fn field_set(bytes: &[u8], at: usize, markers: &[u8]) -> u8
     requires sized { Sized bytes.now at }
     requires short { (length bytes.now ≤ 32768) × (u16 bytes.now (at + 2) ≡ 3) }
-    ensures { FieldSet markers.now (recordAt bytes.now at) result }
+    ensures { FieldSet markers.now (record_at bytes.now at) result }
 {
     let flags = word_in(bytes, at + FLAGS_AT);
     if flags / STATIC % 2 == 1 {
@@ -98,7 +98,7 @@ fn root_set(markers: &[u8], d: usize) -> u8
 // Those that the encloser of an inner class passes.
 fn encloser_set(bytes: &[u8], markers: &[u8]) -> u8
     requires { 13 ≤ length bytes.now }
-    ensures { Passes (encloserBy bytes.now markers.now) result }
+    ensures { Passes (encloser_by bytes.now markers.now) result }
 {
     if word_in(bytes, FLAGS_AT) / INNER % 2 == 0 {
         return ALL;
@@ -116,7 +116,7 @@ fn all_or(lacks: bool, mask: u8) -> u8
 // Those that the captured variables of class t pass: each lane is one marker's.
 fn captured_set(row: &[u8], t: usize) -> u8
     requires { t < 256 }
-    ensures { Passes (capturedBy row.now t) result }
+    ensures { Passes (captured_by row.now t) result }
 {
     let a = all_or(lacking(row, 0, t), NOT_IMMUTABLE);
     let b = all_or(lacking(row, 1, t), NOT_POWERLESS);
@@ -138,7 +138,7 @@ pub fn head_set(bytes: &[u8], markers: &[u8], lanes: &[u8], nlib: usize, t: usiz
 // Rule 9's second part: the superclass is not Selfless, nor class 0 with two flags.
 pub fn base_breaks(bytes: &[u8], markers: &[u8]) -> bool
     requires { 13 ≤ length bytes.now }
-    ensures { result ≡ baseBy bytes.now markers.now }
+    ensures { result ≡ base_by bytes.now markers.now }
 {
     let s = wide(word_in(bytes, SUPERCLASS_AT));
     if has(known(markers, s), SELFLESS) {

@@ -2,13 +2,13 @@
 -- Assumes nothing.
 use mathlib.Core.Path.{refl}
 use Rattle.spec.specs.Evaluate.{evaluation}
-use Rattle.spec.specs.Examples.{AllHold, rowFor, answerOver, rowOver, answerTo, stateTo}
+use Rattle.spec.specs.Examples.{AllHold, row_for, answer_over, row_over, answer_to, state_to}
 use Rattle.spec.specs.Changes.{changes}
 use Rattle.spec.proofs.Also.{◌also◌}
 
-pub changes-hold : AllHold changes
-unfolding changes rowFor answerOver rowOver answerTo stateTo evaluation
-changes-hold =
+pub changes_hold : AllHold changes
+unfolding changes row_for answer_over row_over answer_to state_to evaluation
+changes_hold =
     (refl, refl) also (refl, refl) also (refl, refl) also (refl, refl) also (refl, refl) also (refl, refl) also (refl, refl) also (refl, refl) also (refl, refl) also (refl, refl) also
     (refl, refl) also (refl, refl) also (refl, refl) also (refl, refl) also (refl, refl) also (refl, refl) also (refl, refl) also (refl, refl) also
     refl also (refl, refl) also refl also refl also refl also (refl, refl) also tt

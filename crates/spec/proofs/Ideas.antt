@@ -2,10 +2,10 @@
 -- Assumes nothing.
 use mathlib.Core.Path.{refl}
 use Rattle.spec.specs.Evaluate.{evaluation}
-use Rattle.spec.specs.Examples.{AllHold, rowFor, answerOver, rowOver, answerTo, stateTo}
+use Rattle.spec.specs.Examples.{AllHold, row_for, answer_over, row_over, answer_to, state_to}
 use Rattle.spec.specs.Ideas.{ideas}
 use Rattle.spec.proofs.Also.{◌also◌}
 
-pub ideas-fail : AllHold ideas
-unfolding ideas rowFor answerOver rowOver answerTo stateTo evaluation
-ideas-fail = (refl, refl) also (refl, refl) also (refl, refl) also (refl, refl) also tt
+pub ideas_fail : AllHold ideas
+unfolding ideas row_for answer_over row_over answer_to state_to evaluation
+ideas_fail = (refl, refl) also (refl, refl) also (refl, refl) also (refl, refl) also tt

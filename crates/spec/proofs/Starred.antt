@@ -2,11 +2,11 @@
 -- Assumes nothing.
 use mathlib.Core.Path.{refl}
 use Rattle.spec.specs.Evaluate.{evaluation}
-use Rattle.spec.specs.Examples.{AllHold, starred, rowFor, answerOver, rowOver}
+use Rattle.spec.specs.Examples.{AllHold, starred, row_for, answer_over, row_over}
 use Rattle.spec.proofs.Also.{◌also◌}
 
-pub starred-hold : AllHold starred
-unfolding starred rowFor answerOver rowOver evaluation
-starred-hold =
+pub starred_hold : AllHold starred
+unfolding starred row_for answer_over row_over evaluation
+starred_hold =
     (refl, refl) also (refl, refl) also (refl, refl) also (refl, refl) also (refl, refl) also (refl, refl) also (refl, refl) also (refl, refl) also refl also refl also refl also refl
     also (refl, refl) also (refl, refl) also refl also tt

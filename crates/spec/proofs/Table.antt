@@ -4,21 +4,21 @@
 use mathlib.Core.List.{map}
 use lib.Dec.{T, eqb}
 use Rattle.spec.specs.Lists.{all, keep}
-use Rattle.spec.specs.Markers.{sets, singles, isClosed, contains, unionAll, closure, isLeastIn}
+use Rattle.spec.specs.Markers.{sets, singles, is_closed, contains, union_all, closure, is_least_in}
 use Rattle.spec.specs.Evaluate.{evaluation}
 
-pub entries-closed : T (all (λ m. isClosed (closure m)) sets)
+pub entries_closed : T (all (λ m. is_closed (closure m)) sets)
 unfolding evaluation
-entries-closed = tt
+entries_closed = tt
 
-pub entries-contain : T (all (λ m. contains (closure m) m) sets)
+pub entries_contain : T (all (λ m. contains (closure m) m) sets)
 unfolding evaluation
-entries-contain = tt
+entries_contain = tt
 
-pub entries-least : T (all (isLeastIn (keep isClosed sets)) sets)
+pub entries_least : T (all (is_least_in (keep is_closed sets)) sets)
 unfolding evaluation
-entries-least = tt
+entries_least = tt
 
-pub entries-union : T (all (λ m. eqb (closure m) (unionAll (map closure (singles m)))) sets)
+pub entries_union : T (all (λ m. eqb (closure m) (union_all (map closure (singles m)))) sets)
 unfolding evaluation
-entries-union = tt
+entries_union = tt

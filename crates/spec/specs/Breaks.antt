@@ -2,7 +2,7 @@
 -- Assumes nothing.
 use Rattle.std.specs.Prelude.{◌≡◌, ◌⊎◌, ◌≢◌, ℕ, ◌<◌, T}
 use mathlib.Core.List.{List, Memᴰ}
-use Rattle.spec.specs.Record.{bit, isKind, FIELD, LOCAL, MEMBER, REFERS, flags, ownMarkers, target, index, Ty, fieldTy, localTy, isFinal, isTransient, isStatic, references}
+use Rattle.spec.specs.Record.{bit, is_kind, FIELD, LOCAL, MEMBER, REFERS, flags, own_markers, target, index, Ty, field_ty, local_ty, is_final, is_transient, is_static, references}
 use Rattle.spec.specs.Sheet.{Group}
 use Rattle.spec.specs.Markers.{Immutable, Powerless, Selfless, Equatable, Token, Throwable, Enum, DeepSelfless}
 use Rattle.spec.specs.Relations.{At, Superclass, Encloser, Nth, Marked, Lineage, Root, Captures}
@@ -23,9 +23,9 @@ pub data Satisfies (group : ℕ → Group) (k : ℕ) (t : Ty) : Type 0 where
 
 -- MEMBER number i of the group is allowed: "flags u16 (bit 0 allowed)"
 pub record Allowed (g : Group) (i : ℕ) : Type 0 where
-  pub recordNumber : ℕ
+  pub record_number : ℕ
   pub bytes : List ℕ
-  pub member : Nth MEMBER g i recordNumber bytes
+  pub member : Nth MEMBER g i record_number bytes
   pub set : T (bit 0 (flags bytes))
 
 -- ---- slots
@@ -35,23 +35,23 @@ pub data SlotShape : Type 0 where
   field : List ℕ → SlotShape
   fixed : Ty → SlotShape
 
-abbrev pub typeOf : SlotShape → Ty
-typeOf (field r) = fieldTy r
-typeOf (fixed t) = t
+abbrev pub type_of : SlotShape → Ty
+type_of (field r) = field_ty r
+type_of (fixed t) = t
 
 abbrev pub Final : SlotShape → Type 0
-Final (field r) = T (isFinal r)
+Final (field r) = T (is_final r)
 Final (fixed t) = Unit {0}
 
 abbrev pub Transient : SlotShape → Type 0
-Transient (field r) = T (isTransient r)
+Transient (field r) = T (is_transient r)
 Transient (fixed t) = ⊥
 
 -- "The slots of a class are its instance fields, its encloser if it is inner, its captured variables": each with the record where its fault stands
 pub data OwnSlot (group : ℕ → Group) (c : ℕ) : ℕ → SlotShape → Type 0 where
-  instance : {k : ℕ} {r : List ℕ} → At (group c) k r → T (isKind FIELD r) → Not (T (isStatic r)) → OwnSlot group c k (field r)
+  instance : {k : ℕ} {r : List ℕ} → At (group c) k r → T (is_kind FIELD r) → Not (T (is_static r)) → OwnSlot group c k (field r)
   outer : {e : ℕ} → Flag 1 (group c) → Encloser (group c) e → OwnSlot group c 0 (fixed (record { dims = 0; code = 0; class = e }))
-  captured : {d i k : ℕ} {r : List ℕ} → Captures group c d i → Nth LOCAL (group d) i k r → OwnSlot group c 0 (fixed (localTy r))
+  captured : {d i k : ℕ} {r : List ℕ} → Captures group c d i → Nth LOCAL (group d) i k r → OwnSlot group c 0 (fixed (local_ty r))
 
 -- "and those of each user superclass upward": "inherited .. faults, stand at record 0"
 pub data HasSlot (nlib : ℕ) (group : ℕ → Group) (c : ℕ) : ℕ → SlotShape → Type 0 where
@@ -63,7 +63,7 @@ pub data HasSlot (nlib : ℕ) (group : ℕ → Group) (c : ℕ) : ℕ → SlotSh
 module _ (nlib : ℕ) (group : ℕ → Group) where
   -- "every slot's type is", "the root is class 0 or": at record k this part of rules 7, 8 and 10 is broken for marker m
   pub data Lacks (m c : ℕ) : ℕ → Type 0 where
-    slot : {k : ℕ} {s : SlotShape} → HasSlot nlib group c k s → Not (Satisfies group m (typeOf s)) → Lacks m c k
+    slot : {k : ℕ} {s : SlotShape} → HasSlot nlib group c k s → Not (Satisfies group m (type_of s)) → Lacks m c k
     root : {d : ℕ} → Root nlib group c d → d ≢ 0 → Not (Marked group d m) → Lacks m c 0
 
   -- "every field slot is final", broken
@@ -95,13 +95,13 @@ module _ (nlib : ℕ) (group : ℕ → Group) where
     -- 1. "No record names a library class that isn't allowed"
     rule1 : {k d : ℕ} {r : List ℕ} → At (group c) k r → Memᴰ d (references r) → d < nlib → Not (Flag 8 (group d)) → Breaks c 1 k
     -- 2. "No REFERS to a member that isn't allowed"
-    rule2 : {k : ℕ} {r : List ℕ} → At (group c) k r → T (isKind REFERS r) → Not (Allowed (group (target r)) (index r)) → Breaks c 2 k
+    rule2 : {k : ℕ} {r : List ℕ} → At (group c) k r → T (is_kind REFERS r) → Not (Allowed (group (target r)) (index r)) → Breaks c 2 k
     -- 3. "Own marks hold none of Token, Throwable, Enum"
-    rule3 : {r : List ℕ} → At (group c) 0 r → T (bit Token (ownMarkers r)) ⊎ (T (bit Throwable (ownMarkers r)) ⊎ T (bit Enum (ownMarkers r))) → Breaks c 3 0
+    rule3 : {r : List ℕ} → At (group c) 0 r → T (bit Token (own_markers r)) ⊎ (T (bit Throwable (own_markers r)) ⊎ T (bit Enum (own_markers r))) → Breaks c 3 0
     -- 4. "Overlay marks don't clash": "Powerless with Token, Selfless with Equatable"
     rule4 : (Marked group c Powerless × Marked group c Token) ⊎ (Marked group c Selfless × Marked group c Equatable) → Breaks c 4 0
     -- 5. 02, C-11: "a static field must be final and of a Powerless type"
-    rule5 : {k : ℕ} {r : List ℕ} → At (group c) k r → T (isKind FIELD r) → T (isStatic r) → Not (T (isFinal r) × Satisfies group Powerless (fieldTy r)) → Breaks c 5 k
+    rule5 : {k : ℕ} {r : List ℕ} → At (group c) k r → T (is_kind FIELD r) → T (is_static r) → Not (T (is_final r) × Satisfies group Powerless (field_ty r)) → Breaks c 5 k
     -- 6. "None of the flags 5 to 7"
     rule6 : Flag 5 (group c) ⊎ (Flag 6 (group c) ⊎ Flag 7 (group c)) → Breaks c 6 0
     -- 7. "If Immutable: every field slot is final, every slot's type is Immutable, the root is class 0 or Immutable"

@@ -8,8 +8,8 @@ abbrev pub static : ℕ → List ℕ → List ℕ
 static markers fields = class markers 0 none² 0x41 ++ (class 0 0 none² 0x42 ++ fields)
 
 -- an interface B without own markers
-abbrev pub interfaceB : List ℕ
-interfaceB = 13 ∷ 0 ∷ 1 ∷ 0 ∷ 1 ∷ 0 ∷ 0 ∷ 0 ∷ none² ++ (none² ++ (0x42 ∷ []))
+abbrev pub interface_b : List ℕ
+interface_b = 13 ∷ 0 ∷ 1 ∷ 0 ∷ 1 ∷ 0 ∷ 0 ∷ 0 ∷ none² ++ (none² ++ (0x42 ∷ []))
 
 -- classes A and B, 1 and 2, each by itself
 abbrev pub A : List ℕ
@@ -33,7 +33,7 @@ changes =
     ∷ judges (static 2 (x 4 0 0 1)) 2 1 (0 ∷ 0 ∷ 5 ∷ 1 ∷ [])
     -- "the place stays the lowest such field"; an interface is asked too
     ∷ judges (static 1 (x 5 0 4 0 ++ (x 5 0 0 1 ++ x 5 1 0 1))) 2 1 (0 ∷ 0 ∷ 5 ∷ 2 ∷ [])
-    ∷ judges (class 1 0 none² 0x41 ++ (interfaceB ++ x 5 0 0 1)) 2 1 (0 ∷ 0 ∷ 5 ∷ 1 ∷ [])
+    ∷ judges (class 1 0 none² 0x41 ++ (interface_b ++ x 5 0 0 1)) 2 1 (0 ∷ 0 ∷ 5 ∷ 1 ∷ [])
     -- C-12, "Its bytes in the buffer become zero, the used length falls, its line becomes 0 0": a faulted class; what stands past it stays; then the first class; then 13
     ∷ withdraws (A ++ (class 16 0 none² 0x42 ++ (9 ∷ []))) 26 (7 ∷ 7 ∷ 3 ∷ 0 ∷ 7 ∷ 7 ∷ 7 ∷ []) 2 (A ++ (replicate 13 0 ++ (9 ∷ []))) 13 (7 ∷ 7 ∷ 0 ∷ 0 ∷ 7 ∷ 7 ∷ 7 ∷ [])
     ∷ withdraws (A ++ (9 ∷ [])) 13 (7 ∷ 7 ∷ []) 1 (replicate 13 0 ++ (9 ∷ [])) 0 (0 ∷ 0 ∷ [])

@@ -2,9 +2,9 @@
 -- Assumes nothing.
 use Rattle.std.specs.Prelude.{◌≡◌, List, [], ◌∷◌, ◌++◌, ℕ, ◌*◌, length, replicate}
 use Rattle.spec.specs.Markers.{closure}
-use Rattle.spec.specs.Refusals.{Refusal, scratchLength, replacedSheet, judgeRefusal}
-use Rattle.spec.specs.Verdicts.{verdictBytes, flat}
-use Rattle.spec.specs.Promises.{Answer, refused, accepted, answerOf, afterwards, Counts, countsOf, judgedRow, State, Edit, edited, replacement, withdrawal}
+use Rattle.spec.specs.Refusals.{Refusal, scratch_length, replaced_sheet, judge_refusal}
+use Rattle.spec.specs.Verdicts.{verdict_bytes, flat}
+use Rattle.spec.specs.Promises.{Answer, refused, accepted, answer_of, afterwards, Counts, counts_of, judged_row, State, Edit, edited, replacement, withdrawal}
 
 -- ---- Judge over a library, with scratch enough
 
@@ -16,34 +16,34 @@ abbrev pub past : List ℕ
 past = 99 ∷ 99 ∷ 99 ∷ []
 
 -- a row with room for n verdicts and more
-unfoldable pub rowFor : ℕ → List ℕ
-rowFor n = replicate (verdictBytes * n) 99 ++ past
+unfoldable pub row_for : ℕ → List ℕ
+row_for n = replicate (verdict_bytes * n) 99 ++ past
 
 module _ (library user row : List ℕ) where
-  unfoldable pub answerOver : Answer Counts
-  answerOver = answerOf (judgeRefusal library user (length user) (flat.lines row) scratchLength) (countsOf library user)
+  unfoldable pub answer_over : Answer Counts
+  answer_over = answer_of (judge_refusal library user (length user) (flat.lines row) scratch_length) (counts_of library user)
 
-  unfoldable pub rowOver : List ℕ
-  rowOver = afterwards (judgeRefusal library user (length user) (flat.lines row) scratchLength) row (judgedRow flat library user (length user) row [])
+  unfoldable pub row_over : List ℕ
+  row_over = afterwards (judge_refusal library user (length user) (flat.lines row) scratch_length) row (judged_row flat library user (length user) row [])
 
 -- ---- Replace, with scratch enough, and Withdraw over a library
 
 -- what an edit answers, and what it leaves
-unfoldable pub answerTo : Edit → Answer ℕ
-answerTo e = answerOf e.refusal e.answer
+unfoldable pub answer_to : Edit → Answer ℕ
+answer_to e = answer_of e.refusal e.answer
 
-unfoldable pub stateTo : Edit → State flat → State flat
-stateTo e s = afterwards e.refusal s (edited flat e s)
+unfoldable pub state_to : Edit → State flat → State flat
+state_to e s = afterwards e.refusal s (edited flat e s)
 
 abbrev pub holding : List ℕ → ℕ → List ℕ → State flat
 holding user used row = record { user = user; used = used; verdicts = row }
 
 module _ (library user : List ℕ) (used : ℕ) (row : List ℕ) where
-  abbrev pub replaceOver : ℕ → List ℕ → Edit
-  replaceOver c g = replacement flat library (holding user used row) c g scratchLength
+  abbrev pub replace_over : ℕ → List ℕ → Edit
+  replace_over c g = replacement flat library (holding user used row) c g scratch_length
 
-  abbrev pub withdrawOver : Edit
-  withdrawOver = withdrawal flat library (holding user used row)
+  abbrev pub withdraw_over : Edit
+  withdraw_over = withdrawal flat library (holding user used row)
 
 -- ---- the claims
 
@@ -62,16 +62,16 @@ pub data Claim : Type 0 where
   keeps : List ℕ → ℕ → List ℕ → Refusal → Claim
 
 abbrev pub Holds : Claim → Type 0
-Holds (judges user n f row) = (answerOver L user (rowFor n) ≡ accepted (record { classes = n; faulted = f })) × (rowOver L user (rowFor n) ≡ row ++ past)
-Holds (refuses user r) = answerOver L user [] ≡ refused r
+Holds (judges user n f row) = (answer_over L user (row_for n) ≡ accepted (record { classes = n; faulted = f })) × (row_over L user (row_for n) ≡ row ++ past)
+Holds (refuses user r) = answer_over L user [] ≡ refused r
 Holds (closes m s) = closure m ≡ s
-Holds (replaces user row c g n buffer rowAfter) =
-    (answerTo (replaceOver L user (length user) (row ++ past) c g) ≡ accepted n)
-    × (stateTo (replaceOver L user (length user) (row ++ past) c g) (holding user (length user) (row ++ past))
-    ≡ holding buffer (length (replacedSheet L user c g)) (rowAfter ++ past))
-Holds (withdraws user used row n buffer usedAfter rowAfter) =
-    (answerTo (withdrawOver L user used row) ≡ accepted n) × (stateTo (withdrawOver L user used row) (holding user used row) ≡ holding buffer usedAfter rowAfter)
-Holds (keeps user used row r) = (answerTo (withdrawOver L user used row) ≡ refused r) × (stateTo (withdrawOver L user used row) (holding user used row) ≡ holding user used row)
+Holds (replaces user row c g n buffer row_after) =
+    (answer_to (replace_over L user (length user) (row ++ past) c g) ≡ accepted n)
+    × (state_to (replace_over L user (length user) (row ++ past) c g) (holding user (length user) (row ++ past))
+    ≡ holding buffer (length (replaced_sheet L user c g)) (row_after ++ past))
+Holds (withdraws user used row n buffer used_after row_after) =
+    (answer_to (withdraw_over L user used row) ≡ accepted n) × (state_to (withdraw_over L user used row) (holding user used row) ≡ holding buffer used_after row_after)
+Holds (keeps user used row r) = (answer_to (withdraw_over L user used row) ≡ refused r) × (state_to (withdraw_over L user used row) (holding user used row) ≡ holding user used row)
 
 abbrev pub AllHold : List Claim → Type 0
 AllHold [] = Unit {0}

@@ -29,13 +29,13 @@ module _ {A : Type 0} where
   numbered i (x ∷ xs) = (i, x) ∷ numbered (suc i) xs
 
   -- the list if the test passes, else nothing
-  unfoldable pub onlyIf : Bool → List A → List A
-  onlyIf b xs = elim b [ true ↦ xs | false ↦ [] ]
+  unfoldable pub only_if : Bool → List A → List A
+  only_if b xs = elim b [ true ↦ xs | false ↦ [] ]
 
   -- the first answer along a list of answers
-  unfoldable pub firstOf : List (Option A) → Option A
-  firstOf [] = none
-  firstOf (o ∷ os) = elim o [ none ↦ firstOf os | some a ↦ some a ]
+  unfoldable pub first_of : List (Option A) → Option A
+  first_of [] = none
+  first_of (o ∷ os) = elim o [ none ↦ first_of os | some a ↦ some a ]
 
 unfoldable pub gather : {A B : Type 0} → (A → List B) → List A → List B
 gather f [] = []
@@ -44,11 +44,11 @@ gather f (x ∷ xs) = f x ++ gather f xs
 unfoldable pub elem : ℕ → List ℕ → Bool
 elem n xs = any (eqb n) xs
 
-unfoldable pub sameList : List ℕ → List ℕ → Bool
-sameList [] [] = true
-sameList [] (y ∷ ys) = false
-sameList (x ∷ xs) [] = false
-sameList (x ∷ xs) (y ∷ ys) = eqb x y && sameList xs ys
+unfoldable pub same_list : List ℕ → List ℕ → Bool
+same_list [] [] = true
+same_list [] (y ∷ ys) = false
+same_list (x ∷ xs) [] = false
+same_list (x ∷ xs) (y ∷ ys) = eqb x y && same_list xs ys
 
 -- the n numbers from i on
 unfoldable pub span : ℕ → ℕ → List ℕ

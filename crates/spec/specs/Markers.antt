@@ -47,8 +47,8 @@ unfoldable pub implies : Bool → Bool → Bool
 implies a b = not a || b
 
 -- a set is "closed" if it holds what its markers give
-unfoldable pub isClosed : ℕ → Bool
-isClosed m = all (λ g. implies (bit g.0 m) (bit g.1 m)) gives
+unfoldable pub is_closed : ℕ → Bool
+is_closed m = all (λ g. implies (bit g.0 m) (bit g.1 m)) gives
 
 -- set s holds set m
 unfoldable pub contains : ℕ → ℕ → Bool
@@ -58,9 +58,9 @@ contains s m = all (λ k. implies (bit k m) (bit k s)) markers
 unfoldable pub union : ℕ → ℕ → ℕ
 union a b = bit_or a b
 
-unfoldable pub unionAll : List ℕ → ℕ
-unionAll [] = 0
-unionAll (m ∷ ms) = union m (unionAll ms)
+unfoldable pub union_all : List ℕ → ℕ
+union_all [] = 0
+union_all (m ∷ ms) = union m (union_all ms)
 
 -- "A table of 256 entries gives for each set of marks the least closed set that holds it"
 unfoldable pub closures : List ℕ
@@ -94,8 +94,8 @@ unfoldable pub singles : ℕ → List ℕ
 singles m = map (λ k. 2 ^ k) (keep (λ k. bit k m) markers)
 
 -- of the given closed sets, each that holds m holds its closure
-unfoldable pub isLeastIn : List ℕ → ℕ → Bool
-isLeastIn closed m = all (λ s. implies (contains s m) (contains s (closure m))) closed
+unfoldable pub is_least_in : List ℕ → ℕ → Bool
+is_least_in closed m = all (λ s. implies (contains s m) (contains s (closure m))) closed
 
 -- "Marks that clash: Powerless with Token, Selfless with Equatable"
 unfoldable pub clash : ℕ → Bool

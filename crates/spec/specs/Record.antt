@@ -53,25 +53,25 @@ REFERS = 8
 unfoldable pub kind : List ℕ → ℕ
 kind r = u16 r 2
 
-abbrev pub isKind : ℕ → List ℕ → Bool
-isKind k r = eqb (kind r) k
+abbrev pub is_kind : ℕ → List ℕ → Bool
+is_kind k r = eqb (kind r) k
 
-abbrev pub isClass : List ℕ → Bool
-isClass r = isKind CLASS r
+abbrev pub is_class : List ℕ → Bool
+is_class r = is_kind CLASS r
 
 -- what the eight kinds give, in the order of their numbers; `d` for an unknown kind
-unfoldable pub byKind : {A : Type 0} → List ℕ → A → List A → A
-byKind r d choices = get_or (d ∷ choices) (kind r) d
+unfoldable pub by_kind : {A : Type 0} → List ℕ → A → List A → A
+by_kind r d choices = get_or (d ∷ choices) (kind r) d
 
 -- CLASS: "flags u16, own marks u8, zero u8, superclass u16, encloser u16, name". FIELD and MEMBER have their flags there too.
 unfoldable pub flags : List ℕ → ℕ
 flags r = u16 r 4
 
-unfoldable pub ownMarkers : List ℕ → ℕ
-ownMarkers r = u8 r 6
+unfoldable pub own_markers : List ℕ → ℕ
+own_markers r = u8 r 6
 
-unfoldable pub zeroByte : List ℕ → ℕ
-zeroByte r = u8 r 7
+unfoldable pub zero_byte : List ℕ → ℕ
+zero_byte r = u8 r 7
 
 unfoldable pub superclass : List ℕ → ℕ
 superclass r = u16 r 8
@@ -80,11 +80,11 @@ unfoldable pub encloser : List ℕ → ℕ
 encloser r = u16 r 10
 
 -- where the name begins in a CLASS record
-abbrev pub nameStart : ℕ
-nameStart = 12
+abbrev pub name_start : ℕ
+name_start = 12
 
-unfoldable pub className : List ℕ → List ℕ
-className r = drop nameStart r
+unfoldable pub class_name : List ℕ → List ℕ
+class_name r = drop name_start r
 
 -- IMPLEMENTS, USES, BUILDS, REFERS: "class u16", and for USES and REFERS "index u16"
 unfoldable pub target : List ℕ → ℕ
@@ -99,41 +99,41 @@ pub record Ty : Type 0 where
   pub code : ℕ
   pub class : ℕ
 
-unfoldable pub tyAt : List ℕ → ℕ → Ty
-tyAt r i = record { dims = u8 r i; code = u8 r (i + 1); class = u16 r (i + 2) }
+unfoldable pub ty_at : List ℕ → ℕ → Ty
+ty_at r i = record { dims = u8 r i; code = u8 r (i + 1); class = u16 r (i + 2) }
 
-unfoldable pub fieldTy : List ℕ → Ty
-fieldTy r = tyAt r 6
+unfoldable pub field_ty : List ℕ → Ty
+field_ty r = ty_at r 6
 
-unfoldable pub localTy : List ℕ → Ty
-localTy r = tyAt r 4
+unfoldable pub local_ty : List ℕ → Ty
+local_ty r = ty_at r 4
 
 -- FIELD flags: "bit 0 final, 1 transient, 2 static"
-unfoldable pub isFinal : List ℕ → Bool
-isFinal r = bit 0 (flags r)
+unfoldable pub is_final : List ℕ → Bool
+is_final r = bit 0 (flags r)
 
-unfoldable pub isTransient : List ℕ → Bool
-isTransient r = bit 1 (flags r)
+unfoldable pub is_transient : List ℕ → Bool
+is_transient r = bit 1 (flags r)
 
-unfoldable pub isStatic : List ℕ → Bool
-isStatic r = bit 2 (flags r)
+unfoldable pub is_static : List ℕ → Bool
+is_static r = bit 2 (flags r)
 
 -- ---- references: the paper's namings
 
-unfoldable pub unlessNone : ℕ → List ℕ
-unlessNone c = elim (eqb c none16) [ true ↦ [] | false ↦ c ∷ [] ]
+unfoldable pub unless_none : ℕ → List ℕ
+unless_none c = elim (eqb c none16) [ true ↦ [] | false ↦ c ∷ [] ]
 
 -- "code 0 is a class, 1 to 8 are .. with class 0, which is then no naming"; an array names its class too
-unfoldable pub tyReferences : Ty → List ℕ
-tyReferences t = elim (eqb t.code 0) [ true ↦ t.class ∷ [] | false ↦ [] ]
+unfoldable pub ty_references : Ty → List ℕ
+ty_references t = elim (eqb t.code 0) [ true ↦ t.class ∷ [] | false ↦ [] ]
 
 -- the classes that a record names
 unfoldable pub references : List ℕ → List ℕ
-references r = byKind r []
-    ((unlessNone (superclass r) ++ unlessNone (encloser r))
+references r = by_kind r []
+    ((unless_none (superclass r) ++ unless_none (encloser r))
     ∷ (target r ∷ [])
-    ∷ tyReferences (fieldTy r)
-    ∷ tyReferences (localTy r)
+    ∷ ty_references (field_ty r)
+    ∷ ty_references (local_ty r)
     ∷ (target r ∷ [])
     ∷ (target r ∷ [])
     ∷ []
@@ -143,8 +143,8 @@ references r = byKind r []
 -- ---- what the first pass asks of one record. Sheet 0 is the library's, sheet 1 the user's.
 
 -- the column "Sheet" of the table
-unfoldable pub kindFits : ℕ → List ℕ → Bool
-kindFits sheet r = byKind r false
+unfoldable pub kind_fits : ℕ → List ℕ → Bool
+kind_fits sheet r = by_kind r false
     (true
     ∷ true
     ∷ eqb sheet 1
@@ -156,42 +156,42 @@ kindFits sheet r = byKind r false
     ∷ [])
 
 -- "Names have 1 to 100 bytes": one follows the first n bytes
-unfoldable pub withName : ℕ → List ℕ → Bool
-withName n r = leb (n + 1) (length r) && leb (length r) (n + 100)
+unfoldable pub with_name : ℕ → List ℕ → Bool
+with_name n r = leb (n + 1) (length r) && leb (length r) (n + 100)
 
 -- the column "Body" of the table, as lengths
-unfoldable pub lengthFits : List ℕ → Bool
-lengthFits r = byKind r false
-    (withName nameStart r
+unfoldable pub length_fits : List ℕ → Bool
+length_fits r = by_kind r false
+    (with_name name_start r
     ∷ eqb (length r) 6
-    ∷ withName 10 r
-    ∷ withName 8 r
+    ∷ with_name 10 r
+    ∷ with_name 8 r
     ∷ eqb (length r) 8
     ∷ eqb (length r) 6
-    ∷ withName 6 r
+    ∷ with_name 6 r
     ∷ eqb (length r) 8
     ∷ [])
 
 -- "each 33 to 126"
-unfoldable pub nameFits : List ℕ → Bool
-nameFits bs = all (λ b. leb 33 b && leb b 126) bs
+unfoldable pub name_fits : List ℕ → Bool
+name_fits bs = all (λ b. leb 33 b && leb b 126) bs
 
 -- "a code over 8, a primitive with a class"
-unfoldable pub tyFits : Ty → Bool
-tyFits t = leb t.code 8 && (eqb t.code 0 || eqb t.class 0)
+unfoldable pub ty_fits : Ty → Bool
+ty_fits t = leb t.code 8 && (eqb t.code 0 || eqb t.class 0)
 
 -- "CLASS flags, user: bit 0 .. 7"; "Library: bit 0, and bit 8 allowed"
-unfoldable pub classFlagsFit : ℕ → ℕ → Bool
-classFlagsFit sheet f = elim (eqb sheet 0) [ true ↦ eqb f 0 || eqb f 1 || eqb f 256 || eqb f 257 | false ↦ ltb f 256 ]
+unfoldable pub class_flags_fit : ℕ → ℕ → Bool
+class_flags_fit sheet f = elim (eqb sheet 0) [ true ↦ eqb f 0 || eqb f 1 || eqb f 256 || eqb f 257 | false ↦ ltb f 256 ]
 
-unfoldable pub bodyFits : ℕ → List ℕ → Bool
-bodyFits sheet r = byKind r false
-    ((classFlagsFit sheet (flags r) && eqb (zeroByte r) 0 && nameFits (className r))
+unfoldable pub body_fits : ℕ → List ℕ → Bool
+body_fits sheet r = by_kind r false
+    ((class_flags_fit sheet (flags r) && eqb (zero_byte r) 0 && name_fits (class_name r))
     ∷ true
-    ∷ (ltb (flags r) 8 && tyFits (fieldTy r) && nameFits (drop 10 r))
-    ∷ (tyFits (localTy r) && nameFits (drop 8 r))
+    ∷ (ltb (flags r) 8 && ty_fits (field_ty r) && name_fits (drop 10 r))
+    ∷ (ty_fits (local_ty r) && name_fits (drop 8 r))
     ∷ true
     ∷ true
-    ∷ (ltb (flags r) 2 && nameFits (drop 6 r))
+    ∷ (ltb (flags r) 2 && name_fits (drop 6 r))
     ∷ true
     ∷ [])

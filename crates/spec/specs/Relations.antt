@@ -2,7 +2,7 @@
 -- Assumes nothing.
 use Rattle.std.specs.Prelude.{◌≡◌, ◌≢◌, ℕ, suc, ◌≤◌, ◌<◌, T}
 use mathlib.Core.List.{List, ◌∷◌, Memᴰ}
-use Rattle.spec.specs.Record.{kind, bit, none16, isKind, CLASS, IMPLEMENTS, USES, BUILDS, ownMarkers, superclass, encloser, target, index, references}
+use Rattle.spec.specs.Record.{kind, bit, none16, is_kind, CLASS, IMPLEMENTS, USES, BUILDS, own_markers, superclass, encloser, target, index, references}
 use Rattle.spec.specs.Sheet.{Group}
 use Rattle.spec.specs.Markers.{gives}
 
@@ -21,7 +21,7 @@ Rising g = (k : ℕ) (r s : List ℕ) → At g k r → At g (suc k) s → kind r
 pub record Says (kind : ℕ) (number : List ℕ → ℕ) (g : Group) (v : ℕ) : Type 0 where
   pub bytes : List ℕ
   pub member : Memᴰ bytes g
-  pub ofKind : T (isKind kind bytes)
+  pub of_kind : T (is_kind kind bytes)
   pub is : number bytes ≡ v
 
 -- s is the superclass, e the encloser: "65,535 means none"
@@ -43,15 +43,15 @@ Builds g m = Says BUILDS target g m
 pub record Uses (g : Group) (d i : ℕ) : Type 0 where
   pub bytes : List ℕ
   pub member : Memᴰ bytes g
-  pub ofKind : T (isKind USES bytes)
+  pub of_kind : T (is_kind USES bytes)
   pub owner : target bytes ≡ d
   pub variable : index bytes ≡ i
 
 -- record k of the group is r, and it is number i of its kind: "Indexes count from 0 in record order"
 pub data Nth (kind : ℕ) : Group → ℕ → ℕ → List ℕ → Type 0 where
-  here : {r : List ℕ} {g : Group} → T (isKind kind r) → Nth kind (r ∷ g) 0 0 r
-  over : {r l : List ℕ} {g : Group} {i k : ℕ} → T (isKind kind l) → Nth kind g i k r → Nth kind (l ∷ g) (suc i) (suc k) r
-  past : {r x : List ℕ} {g : Group} {i k : ℕ} → (T (isKind kind x) → ⊥) → Nth kind g i k r → Nth kind (x ∷ g) i (suc k) r
+  here : {r : List ℕ} {g : Group} → T (is_kind kind r) → Nth kind (r ∷ g) 0 0 r
+  over : {r l : List ℕ} {g : Group} {i k : ℕ} → T (is_kind kind l) → Nth kind g i k r → Nth kind (l ∷ g) (suc i) (suc k) r
+  past : {r x : List ℕ} {g : Group} {i k : ℕ} → (T (is_kind kind x) → ⊥) → Nth kind g i k r → Nth kind (x ∷ g) i (suc k) r
 
 -- a record of the group names d
 pub record References (g : Group) (d : ℕ) : Type 0 where
@@ -74,7 +74,7 @@ pub data Supertype (group : ℕ → Group) (c : ℕ) : ℕ → Type 0 where
 
 -- c "has" marker k by its overlay: an own marker of itself or a supertype, or one that such a marker gives
 pub data Marked (group : ℕ → Group) (c : ℕ) : ℕ → Type 0 where
-  own : {d k : ℕ} {r : List ℕ} → Supertype group c d → At (group d) 0 r → k < 8 → T (bit k (ownMarkers r)) → Marked group c k
+  own : {d k : ℕ} {r : List ℕ} → Supertype group c d → At (group d) 0 r → k < 8 → T (bit k (own_markers r)) → Marked group c k
   given : {j k : ℕ} → Marked group c j → Memᴰ (j, k) gives → Marked group c k
 
 -- c or a user superclass upward

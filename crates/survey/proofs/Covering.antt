@@ -6,8 +6,8 @@ use Prim.Native.Nat.{ℕ, ◌/◌, ◌%◌}
 use lib.Dec.{eqb}
 use Rattle.spec.specs.Lists.{any}
 use Rattle.spec.specs.Record.{bit}
-use Rattle.slots.specs.Slots.{fromSeven, ruleMarker}
-use Rattle.survey.specs.Survey.{anyLate}
+use Rattle.slots.specs.Slots.{from_seven, rule_marker}
+use Rattle.survey.specs.Survey.{any_late}
 
 -- ---- one test after the other
 
@@ -21,9 +21,9 @@ past q e = rw (e, q)
 -- ---- a set against the markers of a class
 
 module _ (m set : ℕ) where
-  abbrev pub lacksBy : ℕ → Bool
-  lacksBy k = eqb (m / k % 2) 1 && not (eqb (set / k % 2) 1)
+  abbrev pub lacks_by : ℕ → Bool
+  lacks_by k = eqb (m / k % 2) 1 && not (eqb (set / k % 2) 1)
 
-  pub covers-by : {a b c d : Bool} → a ≡ lacksBy 1 → b ≡ lacksBy 2 → c ≡ lacksBy 4 → d ≡ lacksBy 128 → anyLate m (λ rule. not (bit (ruleMarker rule) set)) ≡ (a || (b || (c || (d || false))))
-  unfolding anyLate any ruleMarker fromSeven bit
-  covers-by ea eb ec ed = rw (ea, eb, ec, ed)
+  pub covers_by : {a b c d : Bool} → a ≡ lacks_by 1 → b ≡ lacks_by 2 → c ≡ lacks_by 4 → d ≡ lacks_by 128 → any_late m (λ rule. not (bit (rule_marker rule) set)) ≡ (a || (b || (c || (d || false))))
+  unfolding any_late any rule_marker from_seven bit
+  covers_by ea eb ec ed = rw (ea, eb, ec, ed)

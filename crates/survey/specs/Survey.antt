@@ -3,52 +3,52 @@
 use Rattle.std.specs.Prelude.{◌≡◌, Bool, true, false, not, ◌&&◌, ◌||◌, List, [], ◌∷◌, ℕ, ◌+◌, ◌≤◌, ◌<◌, eqb, length, get_or, take, drop}
 use Rattle.std.proofs.Math.Option.{none}
 use Rattle.spec.specs.Lists.{any}
-use Rattle.spec.specs.Record.{bit, isKind, REFERS, flags, ownMarkers, target, index, references}
-use Rattle.spec.specs.Sheet.{Group, group, classRecord, isInterface}
+use Rattle.spec.specs.Record.{bit, is_kind, REFERS, flags, own_markers, target, index, references}
+use Rattle.spec.specs.Sheet.{Group, group, class_record, is_interface}
 use Rattle.spec.specs.Markers.{Selfless, Token, Throwable, Enum, clash}
 use Rattle.spec.specs.Classes.{overlay}
-use Rattle.spec.specs.Rules.{Verdict, staticBreaks, memberAllowed, forbidden}
-use Rattle.spec.specs.Refusals.{formRefusal}
+use Rattle.spec.specs.Rules.{Verdict, static_breaks, member_allowed, forbidden}
+use Rattle.spec.specs.Refusals.{form_refusal}
 use Rattle.groups.specs.declared.Classes.{Classes}
 use Rattle.groups.specs.Groups.{Indexed}
-use Rattle.breaks.specs.Breaking.{lineBreaks, Facts}
-use Rattle.slots.specs.Slots.{ruleMarker, baseBreaks, Passes}
+use Rattle.breaks.specs.Breaking.{line_breaks, Facts}
+use Rattle.slots.specs.Slots.{rule_marker, base_breaks, Passes}
 
 -- "clean is 0 and 0"
-unfoldable pub isClean : Verdict → Bool
-isClean v = eqb v.rule 0 && eqb v.recordNumber 0
+unfoldable pub is_clean : Verdict → Bool
+is_clean v = eqb v.rule 0 && eqb v.record_number 0
 
 -- ---- what a class breaks
 
 -- a CLASS record with the overlay markers m breaks rule 3, 4 or 6
-unfoldable pub headFails : List ℕ → ℕ → Bool
-headFails r m =
-    (bit Token (ownMarkers r) || bit Throwable (ownMarkers r) || bit Enum (ownMarkers r))
+unfoldable pub head_fails : List ℕ → ℕ → Bool
+head_fails r m =
+    (bit Token (own_markers r) || bit Throwable (own_markers r) || bit Enum (own_markers r))
     || (clash m || (bit 5 (flags r) || bit 6 (flags r) || bit 7 (flags r)))
 
 -- some of rules 7 to 10: those whose markers the class has
-unfoldable pub anyLate : ℕ → (ℕ → Bool) → Bool
-anyLate m bad = any (λ rule. bit (ruleMarker rule) m && bad rule) (7 ∷ 8 ∷ 9 ∷ 10 ∷ [])
+unfoldable pub any_late : ℕ → (ℕ → Bool) → Bool
+any_late m bad = any (λ rule. bit (rule_marker rule) m && bad rule) (7 ∷ 8 ∷ 9 ∷ 10 ∷ [])
 
 module _ (nlib : ℕ) (g : ℕ → Group) where
   -- a record breaks rule 1, 2 or 5
-  unfoldable pub recordBreaks : List ℕ → Bool
-  recordBreaks r =
+  unfoldable pub record_breaks : List ℕ → Bool
+  record_breaks r =
       any (forbidden nlib g) (references r)
-      || ((isKind REFERS r && not (memberAllowed g (target r) (index r))) || staticBreaks g r)
+      || ((is_kind REFERS r && not (member_allowed g (target r) (index r))) || static_breaks g r)
 
-  unfoldable pub lateBreaks : ℕ → Bool
-  lateBreaks c = (bit Selfless (overlay g c) && baseBreaks g c) || anyLate (overlay g c) (λ rule. lineBreaks nlib g rule c)
+  unfoldable pub late_breaks : ℕ → Bool
+  late_breaks c = (bit Selfless (overlay g c) && base_breaks g c) || any_late (overlay g c) (λ rule. line_breaks nlib g rule c)
 
-  unfoldable pub classBreaks : ℕ → Bool
-  classBreaks c = any recordBreaks (g c) || (headFails (classRecord (g c)) (overlay g c) || (not (isInterface (g c)) && lateBreaks c))
+  unfoldable pub class_breaks : ℕ → Bool
+  class_breaks c = any record_breaks (g c) || (head_fails (class_record (g c)) (overlay g c) || (not (is_interface (g c)) && late_breaks c))
 
 -- ---- sets
 
 -- class t and its superclasses up to the root; an interface, which those rules do not ask, has no marker
 pub record ClassSet (nlib : ℕ) (g : ℕ → Group) (t set : ℕ) : Type 0 where
-  pub class : isInterface (g t) ≡ false → Passes (λ rule. not (lineBreaks nlib g rule t)) set
-  pub interface : nlib ≤ t → isInterface (g t) ≡ true → set ≡ 0
+  pub class : is_interface (g t) ≡ false → Passes (λ rule. not (line_breaks nlib g rule t)) set
+  pub interface : nlib ≤ t → is_interface (g t) ≡ true → set ≡ 0
 
 -- a row that has such a set for each of the classes below n
 pub record Passing (nlib n : ℕ) (g : ℕ → Group) (row : List ℕ) : Type 0 where
@@ -58,8 +58,8 @@ pub record Passing (nlib n : ℕ) (g : ℕ → Group) (row : List ℕ) : Type 0 
 -- ---- where they stand
 
 -- the third part of the row of facts
-abbrev pub setsIn : List ℕ → List ℕ
-setsIn facts = take 256 (drop 512 facts)
+abbrev pub sets_in : List ℕ → List ℕ
+sets_in facts = take 256 (drop 512 facts)
 
 -- all but the sets of n classes is as it was
 pub record KeepsFacts (n : ℕ) (before after : List ℕ) : Type 0 where
@@ -70,6 +70,6 @@ pub record KeepsFacts (n : ℕ) (before after : List ℕ) : Type 0 where
 -- two sheets that passed both passes, and the row with all that is known of their classes
 pub record Surveyed (library user starts : List ℕ) (classes : Classes) (row : List ℕ) : Type 0 where
   pub indexed : Indexed library user classes.library classes.all starts
-  pub formed : formRefusal library user ≡ none
+  pub formed : form_refusal library user ≡ none
   pub facts : Facts classes.library (group library user) row
-  pub sets : Passing classes.library classes.all (group library user) (setsIn row)
+  pub sets : Passing classes.library classes.all (group library user) (sets_in row)

@@ -4,15 +4,15 @@
 ghost use Rattle.std.specs.Prelude.{◌≡◌, true, false, not, ◌&&◌, ℕ, ◌+◌, ◌/◌, ◌%◌, ◌≤◌, ◌<◌, eqb, length};
 ghost use Rattle.spec.specs.Lists.{any};
 ghost use Rattle.spec.specs.Record.{u16, bit};
-ghost use Rattle.spec.specs.Sheet.{Group, group as groupOf};
-ghost use Rattle.spec.specs.Rules.{verdictOf};
+ghost use Rattle.spec.specs.Sheet.{Group, group as group_of};
+ghost use Rattle.spec.specs.Rules.{verdict_of};
 ghost use Rattle.laws.proofs.All.{All};
 ghost use Rattle.groups.specs.Groups.{Indexed};
 ghost use Rattle.overlay.specs.Types.{Known};
 ghost use Rattle.records.specs.Records.{between, AtRecord};
-ghost use Rattle.slots.specs.Slots.{ruleMarker, baseBy};
+ghost use Rattle.slots.specs.Slots.{rule_marker, base_by};
 ghost use Rattle.breaks.specs.Breaking.{Bans, Refers, Judging};
-ghost use Rattle.survey.specs.Survey.{isClean, headFails, anyLate, recordBreaks, ClassSet, Passing, setsIn, KeepsFacts, Surveyed};
+ghost use Rattle.survey.specs.Survey.{is_clean, head_fails, any_late, record_breaks, ClassSet, Passing, sets_in, KeepsFacts, Surveyed};
 
 use breaks::{
     BANS_AT, FACTS, SETS_AT, lets_out, names_forbidden, refers_forbidden, reserved, static_breaks,
@@ -35,9 +35,9 @@ fn class_set<'a>(
     t: usize,
 ) -> u8
     ghost g: { ℕ → Group }
-    requires groups { groupOf library.now user.now ≡ g }
+    requires groups { group_of library.now user.now ≡ g }
     requires judging { Judging library.now user.now starts.now classes facts.now lanes.now }
-    requires there { (t < classes.all) × Passing classes.library t g (setsIn facts.now) }
+    requires there { (t < classes.all) × Passing classes.library t g (sets_in facts.now) }
     ensures { ClassSet classes.library g t result }
 {
     let bytes = class_bytes(library, user, starts, classes, t);
@@ -65,9 +65,9 @@ pub fn passes<'a>(
     lanes: &[u8],
 )
     ghost g: { ℕ → Group }
-    requires groups { groupOf library.now user.now ≡ g }
+    requires groups { group_of library.now user.now ≡ g }
     requires judging { Judging library.now user.now starts.now classes facts.old lanes.now }
-    ensures sets { Passing classes.library classes.all g (setsIn facts.new) }
+    ensures sets { Passing classes.library classes.all g (sets_in facts.new) }
     ensures rest { KeepsFacts classes.all facts.old facts.new }
 {
     let end = classes.all;
@@ -91,7 +91,7 @@ fn lacks(m: u8, set: u8, marker: u8) -> bool
 
 // The set has each of the four markers that a class with the markers m has.
 fn covers(m: u8, set: u8) -> bool
-    ensures { result ≡ not (anyLate m (λ rule. not (bit (ruleMarker rule) set))) }
+    ensures { result ≡ not (any_late m (λ rule. not (bit (rule_marker rule) set))) }
 {
     if lacks(m, set, IMMUTABLE) {
         return false;
@@ -108,7 +108,7 @@ fn covers(m: u8, set: u8) -> bool
 // Rule 9's second part, for a class with the markers m.
 fn base_lacks(m: u8, bytes: &[u8], markers: &[u8]) -> bool
     requires { 13 ≤ length bytes.now }
-    ensures { result ≡ (eqb (m / 4 % 2) 1 && baseBy bytes.now markers.now) }
+    ensures { result ≡ (eqb (m / 4 % 2) 1 && base_by bytes.now markers.now) }
 {
     if has(m, SELFLESS) {
         return base_breaks(bytes, markers);
@@ -129,13 +129,13 @@ fn records_fine<'a>(
     bytes: &[u8],
 ) -> bool
     ghost g: { ℕ → Group }
-    requires groups { groupOf library.now user.now ≡ g }
+    requires groups { group_of library.now user.now ≡ g }
     requires indexed { Indexed library.now user.now classes.library classes.all starts.now }
     requires known { Known g markers.now }
     requires at_record { AtRecord bytes.now (length bytes.now) 0 }
     requires all { All (Refers classes.all g) (between bytes.now 0 (length bytes.now)) }
     requires bans { Bans classes.library g banned.now }
-    ensures { result ≡ not (any (recordBreaks classes.library g) (between bytes.now 0 (length bytes.now))) }
+    ensures { result ≡ not (any (record_breaks classes.library g) (between bytes.now 0 (length bytes.now))) }
 {
     let mut at = 0;
     while at < bytes.len() {
@@ -156,7 +156,7 @@ fn records_fine<'a>(
 // The CLASS record breaks none of rules 3, 4 and 6, where m are the class's overlay markers.
 fn head_fine(bytes: &[u8], m: u8) -> bool
     requires { 13 ≤ length bytes.now }
-    ensures { result ≡ not (headFails bytes.now m) }
+    ensures { result ≡ not (head_fails bytes.now m) }
 {
     if reserved(bytes[MARKERS_AT]) {
         return false;
@@ -179,10 +179,10 @@ pub fn clean<'a>(
     c: usize,
 ) -> bool
     ghost g: { ℕ → Group }
-    requires groups { groupOf library.now user.now ≡ g }
+    requires groups { group_of library.now user.now ≡ g }
     requires surveyed { Surveyed library.now user.now starts.now classes facts.now }
     requires user_class { (classes.library ≤ c) × (c < classes.all) }
-    ensures { result ≡ isClean (verdictOf classes.library g c) }
+    ensures { result ≡ is_clean (verdict_of classes.library g c) }
 {
     let bytes = class_bytes(library, user, starts, classes, c);
     let markers = &facts[0..BANS_AT];

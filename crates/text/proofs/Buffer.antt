@@ -7,32 +7,32 @@ use native.Mathlib.Nat.{add-zero}
 use native.Mathlib.Omega.{arith}
 use lib.ListN.{length, get_or, set, take, drop, length-set, length-append, length-drop}
 use lib.Seq.{take-nil, append_snoc, take-suc, length-take-le, get_or-drop}
-use Rattle.text.specs.Text.{putAll, overlaid}
+use Rattle.text.specs.Text.{put_all, overlaid}
 
 -- ---- lengths
 
-pub put-length : (out : List ℕ) (at : ℕ) (bs : List ℕ) → length (putAll out at bs) ≡ length out
-unfolding putAll
-put-length out at [] = refl
-put-length out at (b ∷ bs) = put-length (set out at b) (at + 1) bs ∙ length-set out at b
+pub put_length : (out : List ℕ) (at : ℕ) (bs : List ℕ) → length (put_all out at bs) ≡ length out
+unfolding put_all
+put_length out at [] = refl
+put_length out at (b ∷ bs) = put_length (set out at b) (at + 1) bs ∙ length-set out at b
 
 -- ---- one part after another
 
-pub put-append : (out : List ℕ) (at : ℕ) (xs ys : List ℕ) → putAll out at (xs ++ ys) ≡ putAll (putAll out at xs) (at + length xs) ys
-unfolding putAll
-put-append out at [] ys = rw add-zero
-put-append out at (x ∷ xs) ys =
-    put-append (set out at x) (at + 1) xs ys ∙ ap (λ (k : ℕ). putAll (putAll (set out at x) (at + 1) xs) k ys) (omega arith)
+pub put_append : (out : List ℕ) (at : ℕ) (xs ys : List ℕ) → put_all out at (xs ++ ys) ≡ put_all (put_all out at xs) (at + length xs) ys
+unfolding put_all
+put_append out at [] ys = rw add-zero
+put_append out at (x ∷ xs) ys =
+    put_append (set out at x) (at + 1) xs ys ∙ ap (λ (k : ℕ). put_all (put_all (set out at x) (at + 1) xs) k ys) (omega arith)
 
-pub put-snoc : (out : List ℕ) (at : ℕ) (xs : List ℕ) (b : ℕ) → putAll out at (xs ++ (b ∷ [])) ≡ set (putAll out at xs) (at + length xs) b
-unfolding putAll
-put-snoc out at xs b = put-append out at xs (b ∷ [])
+pub put_snoc : (out : List ℕ) (at : ℕ) (xs : List ℕ) (b : ℕ) → put_all out at (xs ++ (b ∷ [])) ≡ set (put_all out at xs) (at + length xs) b
+unfolding put_all
+put_snoc out at xs b = put_append out at xs (b ∷ [])
 
 -- ---- a text that grows
 
-pub put-nothing : (out : List ℕ) → overlaid [] out ≡ out
+pub put_nothing : (out : List ℕ) → overlaid [] out ≡ out
 unfolding overlaid
-put-nothing out = rw take-nil
+put_nothing out = rw take-nil
 
 pub put_byte : (text out : List ℕ) (b : ℕ) → set (overlaid text out) (length text) b ≡ overlaid (text ++ (b ∷ [])) out
 unfolding overlaid
@@ -41,20 +41,20 @@ put_byte [] (y ∷ ys) b = rw (take-nil {A = ℕ} (length ys))
 put_byte (x ∷ xs) [] b = refl
 put_byte (x ∷ xs) (y ∷ ys) b = ap (λ (r : List ℕ). x ∷ r) (put_byte xs ys b)
 
-pub put-text : (text out bs : List ℕ) → putAll (overlaid text out) (length text) bs ≡ overlaid (text ++ bs) out
-unfolding putAll
-put-text text out [] = rw append-nil
-put-text text out (b ∷ bs) =
+pub put_text : (text out bs : List ℕ) → put_all (overlaid text out) (length text) bs ≡ overlaid (text ++ bs) out
+unfolding put_all
+put_text text out [] = rw append-nil
+put_text text out (b ∷ bs) =
     rw (put_byte text out b)
-    (ap (λ (k : ℕ). putAll (overlaid (text ++ (b ∷ [])) out) k bs) (simp length-append)
-    ∙ put-text (text ++ (b ∷ [])) out bs
+    (ap (λ (k : ℕ). put_all (overlaid (text ++ (b ∷ [])) out) k bs) (simp length-append)
+    ∙ put_text (text ++ (b ∷ [])) out bs
     ∙ rw append_snoc)
 
 -- ---- a part of a text, byte by byte
 
-pub part-snoc : (text : List ℕ) {from i : ℕ} → from ≤ i → i < length text
+pub part_snoc : (text : List ℕ) {from i : ℕ} → from ≤ i → i < length text
     → take (i + 1 - from) (drop from text) ≡ take (i - from) (drop from text) ++ (get_or text i 0 ∷ [])
-part-snoc text {from} {i} h l =
+part_snoc text {from} {i} h l =
     let e : i + 1 - from ≡ suc (i - from) = omega arith in
     let back : from + (i - from) ≡ i = omega arith in
     let room : i - from < length (drop from text) = simp length-drop (omega arith) in
@@ -64,12 +64,12 @@ pub record Copied (out₀ : List ℕ) (at : ℕ) (text : List ℕ) (from to : �
   pub low : from ≤ i
   pub high : i ≤ to
   pub place : to_at ≡ at + (i - from)
-  pub written : out ≡ putAll out₀ at (take (i - from) (drop from text))
+  pub written : out ≡ put_all out₀ at (take (i - from) (drop from text))
 
 module _ {out₀ : List ℕ} {at : ℕ} {text : List ℕ} {from to : ℕ} where
-  pub copied-start : from ≤ to → Copied out₀ at text from to out₀ from at
-  unfolding putAll
-  copied-start h =
+  pub copied_start : from ≤ to → Copied out₀ at text from to out₀ from at
+  unfolding put_all
+  copied_start h =
       let e : from - from ≡ 0 = omega arith in
       record { low = omega arith; high = h; place = omega arith; written = rw e }
 
@@ -84,5 +84,5 @@ module _ {out₀ : List ℕ} {at : ℕ} {text : List ℕ} {from to : ℕ} where
         high = omega arith;
         place = omega arith;
         written =
-            e ∙ rw (c.written, c.place, part-snoc text c.low (omega arith), put-snoc out₀ at done (get_or text i 0), long);
+            e ∙ rw (c.written, c.place, part_snoc text c.low (omega arith), put_snoc out₀ at done (get_or text i 0), long);
       }

@@ -14,9 +14,9 @@ use Rattle.text.specs.Text.{digits, decimal}
 -- ---- a digit, and the digits before it
 
 module _ (k n : ℕ) where
-  digits-one : n < 10 → digits (suc k) n ≡ (48 + n) ∷ []
+  digits_one : n < 10 → digits (suc k) n ≡ (48 + n) ∷ []
   unfolding digits
-  digits-one h = rw (digits, lt-ltb n 10 h)
+  digits_one h = rw (digits, lt-ltb n 10 h)
 
   digits_more : 10 ≤ n → digits (suc k) n ≡ digits k (n / 10) ++ ((48 + n % 10) ∷ [])
   unfolding digits
@@ -24,20 +24,20 @@ module _ (k n : ℕ) where
 
 -- ---- how many there are
 
-digits-some : (k n : ℕ) → 1 ≤ length (digits (suc k) n)
-digits-some k n = go (ltb n 10) refl
+digits_some : (k n : ℕ) → 1 ≤ length (digits (suc k) n)
+digits_some k n = go (ltb n 10) refl
   where
     go : (t : Bool) → ltb n 10 ≡ t → 1 ≤ length (digits (suc k) n)
-    go true h = rw (digits-one k n (ltb-true n 10 h)) (omega arith)
+    go true h = rw (digits_one k n (ltb-true n 10 h)) (omega arith)
     go false h = rw (digits_more k n (ltb-false n 10 h)) (simp length-append (omega arith))
 
-digits-most : (k n : ℕ) → length (digits k n) ≤ k
+digits_most : (k n : ℕ) → length (digits k n) ≤ k
 unfolding digits
-digits-most zero n = omega arith
-digits-most (suc k) n = go (digits-most k (n / 10)) (ltb n 10) refl
+digits_most zero n = omega arith
+digits_most (suc k) n = go (digits_most k (n / 10)) (ltb n 10) refl
   where
     go : length (digits k (n / 10)) ≤ k → (t : Bool) → ltb n 10 ≡ t → length (digits (suc k) n) ≤ suc k
-    go i true h = rw (digits-one k n (ltb-true n 10 h)) (omega arith)
+    go i true h = rw (digits_one k n (ltb-true n 10 h)) (omega arith)
     go i false h = rw (digits_more k n (ltb-false n 10 h)) (simp length-append (omega arith))
 
 -- ---- numbers below a power of ten
@@ -50,28 +50,28 @@ tenth : (m n : ℕ) → n < power (suc m) → n / 10 < power m
 tenth m n h = (div-lt_iff_lt-mul {k = 10} {x = n} {y = power m} (omega arith)).1 h
 
 -- more places than that add nothing
-digits-enough : (k n : ℕ) → n < power (suc k) → digits (suc (suc k)) n ≡ digits (suc k) n
-digits-enough zero n h = digits-one 1 n (omega arith) ∙ sym (digits-one 0 n (omega arith))
-digits-enough (suc k) n h = go (digits-enough k (n / 10) (tenth (suc k) n h)) (ltb n 10) refl
+digits_enough : (k n : ℕ) → n < power (suc k) → digits (suc (suc k)) n ≡ digits (suc k) n
+digits_enough zero n h = digits_one 1 n (omega arith) ∙ sym (digits_one 0 n (omega arith))
+digits_enough (suc k) n h = go (digits_enough k (n / 10) (tenth (suc k) n h)) (ltb n 10) refl
   where
     go : digits (suc (suc k)) (n / 10) ≡ digits (suc k) (n / 10) → (t : Bool) → ltb n 10 ≡ t
         → digits (suc (suc (suc k))) n ≡ digits (suc (suc k)) n
-    go i true q = let l = ltb-true n 10 q in digits-one (suc (suc k)) n l ∙ sym (digits-one (suc k) n l)
+    go i true q = let l = ltb-true n 10 q in digits_one (suc (suc k)) n l ∙ sym (digits_one (suc k) n l)
     go i false q =
         let l = ltb-false n 10 q in
         digits_more (suc (suc k)) n l ∙ ap (λ (r : List ℕ). r ++ ((48 + n % 10) ∷ [])) i ∙ sym (digits_more (suc k) n l)
 
 -- ---- decimal
 
-pub decimal-length : (n : ℕ) → (1 ≤ length (decimal n)) × (length (decimal n) ≤ 20)
+pub decimal_length : (n : ℕ) → (1 ≤ length (decimal n)) × (length (decimal n) ≤ 20)
 unfolding decimal
-decimal-length n = (digits-some 19 n, digits-most 20 n)
+decimal_length n = (digits_some 19 n, digits_most 20 n)
 
-pub decimal-one : (n : ℕ) → n < 10 → decimal n ≡ (48 + n) ∷ []
+pub decimal_one : (n : ℕ) → n < 10 → decimal n ≡ (48 + n) ∷ []
 unfolding decimal
-decimal-one n h = digits-one 19 n h
+decimal_one n h = digits_one 19 n h
 
-pub decimal-more : (n : ℕ) → 10 ≤ n → n < 18446744073709551616 → decimal n ≡ decimal (n / 10) ++ ((48 + n % 10) ∷ [])
+pub decimal_more : (n : ℕ) → 10 ≤ n → n < 18446744073709551616 → decimal n ≡ decimal (n / 10) ++ ((48 + n % 10) ∷ [])
 unfolding decimal
-decimal-more n l h =
-    digits_more 19 n l ∙ ap (λ (r : List ℕ). r ++ ((48 + n % 10) ∷ [])) (sym (digits-enough 18 (n / 10) (tenth 19 n (omega arith))))
+decimal_more n l h =
+    digits_more 19 n l ∙ ap (λ (r : List ℕ). r ++ ((48 + n % 10) ∷ [])) (sym (digits_enough 18 (n / 10) (tenth 19 n (omega arith))))

@@ -6,33 +6,33 @@ use Prim.Native.Nat.{ℕ, ◌+◌, ◌-◌, ◌≤◌}
 use native.Mathlib.Omega.{arith}
 use lib.ListN.{length, set, take, drop, length-append, length-drop}
 use lib.Seq.{length-take-le}
-use Rattle.text.specs.Text.{decimal, putAll, overlaid}
+use Rattle.text.specs.Text.{decimal, put_all, overlaid}
 use Rattle.text.specs.Written.{Written}
-use Rattle.text.proofs.Buffer.{put-length, put-append, put-nothing, put-text}
+use Rattle.text.proofs.Buffer.{put_length, put_append, put_nothing, put_text}
 
 module _ {out : List ℕ} {at : ℕ} {out' : List ℕ} {after : ℕ} where
   -- what the functions of `text` promise
   pub one_byte : {b : ℕ} → after ≡ at + 1 → out' ≡ set out at b → Written out at (b ∷ []) out' after
-  unfolding putAll
+  unfolding put_all
   one_byte e f = record { place = e; bytes = f }
 
-  pub a-number : (x : ℕ) → after ≡ at + length (decimal x) → out' ≡ putAll out at (decimal x) → Written out at (decimal x) out' after
-  a-number x e f = record { place = e; bytes = f }
+  pub a_number : (x : ℕ) → after ≡ at + length (decimal x) → out' ≡ put_all out at (decimal x) → Written out at (decimal x) out' after
+  a_number x e f = record { place = e; bytes = f }
 
-  pub a-part : (text : List ℕ) (from to : ℕ) → from ≤ to → to ≤ length text → after ≡ at + (to - from) → out' ≡ putAll out at (take (to - from) (drop from text))
+  pub a_part : (text : List ℕ) (from to : ℕ) → from ≤ to → to ≤ length text → after ≡ at + (to - from) → out' ≡ put_all out at (take (to - from) (drop from text))
       → Written out at (take (to - from) (drop from text)) out' after
-  a-part text from to l h e f =
+  a_part text from to l h e f =
       record { place = e ∙ ap (λ (k : ℕ). at + k) (sym (length-take-le (to - from) (drop from text) (omega (arith, length-drop from text)))); bytes = f }
 
   -- the buffer's length stays
   pub same_size : {text : List ℕ} → Written out at text out' after → length out' ≡ length out
-  same_size {text} w = ap length w.bytes ∙ put-length out at text
+  same_size {text} w = ap length w.bytes ∙ put_length out at text
 
   pub same_text : {s t : List ℕ} → s ≡ t → Written out at s out' after → Written out at t out' after
   same_text e w = subst (λ (x : List ℕ). Written out at x out' after) e w
 
   pub no_text : out' ≡ out → after ≡ at → Written out at [] out' after
-  unfolding putAll
+  unfolding put_all
   no_text e q = record { place = omega arith; bytes = e }
 
 -- one text, then another
@@ -40,12 +40,12 @@ pub then : {out : List ℕ} {at : ℕ} {out' : List ℕ} {place : ℕ} {out'' : 
     → Written out at s out' place → Written out' place t out'' after → Written out at (s ++ t) out'' after
 then {out} {at} {s = s} {t = t} v w = record {
   place = w.place ∙ rw v.place (simp length-append (omega arith));
-  bytes = w.bytes ∙ rw (v.place, v.bytes) (sym (put-append out at s t));
+  bytes = w.bytes ∙ rw (v.place, v.bytes) (sym (put_append out at s t));
 }
 
 -- a text from the buffer's start
 pub from_start : {out : List ℕ} {text : List ℕ} {out' : List ℕ} {after : ℕ} → Written out 0 text out' after → (after ≡ length text) × (out' ≡ overlaid text out)
 from_start {out} {text} w = (
   omega (arith, w.place),
-  w.bytes ∙ ap (λ (o : List ℕ). putAll o 0 text) (sym (put-nothing out)) ∙ put-text [] out text,
+  w.bytes ∙ ap (λ (o : List ℕ). put_all o 0 text) (sym (put_nothing out)) ∙ put_text [] out text,
 )

@@ -12,9 +12,9 @@ unfoldable pub decimal : ℕ → List ℕ
 decimal n = digits 20 n
 
 -- some bytes written from a place on; what finds no room is left out
-unfoldable pub putAll : List ℕ → ℕ → List ℕ → List ℕ
-putAll out at [] = out
-putAll out at (b ∷ bs) = putAll (set out at b) (at + 1) bs
+unfoldable pub put_all : List ℕ → ℕ → List ℕ → List ℕ
+put_all out at [] = out
+put_all out at (b ∷ bs) = put_all (set out at b) (at + 1) bs
 
 -- what a buffer holds after a text was written from its start
 unfoldable pub overlaid : List ℕ → List ℕ → List ℕ

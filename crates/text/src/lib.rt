@@ -3,7 +3,7 @@
 #![tactic(auto)]
 
 ghost use Rattle.std.specs.Prelude.{◌≡◌, ◌+◌, ◌-◌, ◌≤◌, ◌<◌, length, set, take, drop};
-ghost use Rattle.text.specs.Text.{decimal, putAll};
+ghost use Rattle.text.specs.Text.{decimal, put_all};
 
 // One byte.
 pub fn put(out: &mut [u8], at: usize, byte: u8) -> usize
@@ -21,7 +21,7 @@ pub fn put(out: &mut [u8], at: usize, byte: u8) -> usize
 pub fn put_part(out: &mut [u8], at: usize, text: &[u8], from: usize, to: usize) -> usize
     requires { (at < 900000) × (from ≤ to) × (to ≤ length text.now) × (to ≤ 65536) }
     ensures answer { result ≡ at + (to - from) }
-    ensures out { out.new ≡ putAll out.old at (take (to - from) (drop from text.now)) }
+    ensures out { out.new ≡ put_all out.old at (take (to - from) (drop from text.now)) }
 {
     let mut i = from;
     let mut to_at = at;
@@ -36,7 +36,7 @@ pub fn put_part(out: &mut [u8], at: usize, text: &[u8], from: usize, to: usize) 
 pub fn put_number(out: &mut [u8], at: usize, x: usize) -> usize
     requires { at < 900000 }
     ensures answer { result ≡ at + length (decimal x) }
-    ensures out { out.new ≡ putAll out.old at (decimal x) }
+    ensures out { out.new ≡ put_all out.old at (decimal x) }
 {
     if x < 10 {
         return put(out, at, 48 + x as u8);

@@ -7,11 +7,11 @@ use mathlib.Core.List.{List, Memᴰ}
 use Prim.Native.Nat.{ℕ, ◌<◌}
 use lib.Dec.{T, eqb, leb, ltb, eqb→eq, ltb→lt}
 use Rattle.spec.specs.Record.{bit, none16, flags, superclass, encloser, target}
-use Rattle.spec.specs.Sheet.{Group, isInterface}
+use Rattle.spec.specs.Sheet.{Group, is_interface}
 use Rattle.spec.specs.Relations.{Superclass, Encloser, Implements}
-use Rattle.spec.specs.Refusals.{superclassFits, encloserFits, implementsFits}
-use Rattle.laws.proofs.Bools.{true-t, and_l, and_r}
-use Rattle.laws.proofs.All.{All, at-member}
+use Rattle.spec.specs.Refusals.{superclass_fits, encloser_fits, implements_fits}
+use Rattle.laws.proofs.Bools.{true_t, and_l, and_r}
+use Rattle.laws.proofs.All.{All, at_member}
 use Rattle.theory.proofs.Accept.{RecordFits}
 
 -- superclass, encloser and interfaces of a class have lower numbers
@@ -22,36 +22,36 @@ pub record Falls (g : ℕ → Group) : Type 0 where
 
 module _ (nlib n : ℕ) (g : ℕ → Group) (f : (c : ℕ) → All (RecordFits nlib n g c) (g c)) where
   fit : {c : ℕ} {r : List ℕ} → Memᴰ r (g c) → RecordFits nlib n g c r
-  fit {c} m = at-member (RecordFits nlib n g c) (g c) (f c) m
+  fit {c} m = at_member (RecordFits nlib n g c) (g c) (f c) m
 
-  super-lower : (c : ℕ) (r : List ℕ) → T (superclassFits g c r) → superclass r ≢ none16 → superclass r < c
-  unfolding superclassFits
-  super-lower c r t h = go (eqb c 0 || bit 0 (flags r)) t
+  super_lower : (c : ℕ) (r : List ℕ) → T (superclass_fits g c r) → superclass r ≢ none16 → superclass r < c
+  unfolding superclass_fits
+  super_lower c r t h = go (eqb c 0 || bit 0 (flags r)) t
     where
-      go : (b : Bool) → T (elim b as (λ (x : Bool). Bool) [ true ↦ eqb (superclass r) none16 | false ↦ ltb (superclass r) c && not (isInterface (g (superclass r))) ])
+      go : (b : Bool) → T (elim b as (λ (x : Bool). Bool) [ true ↦ eqb (superclass r) none16 | false ↦ ltb (superclass r) c && not (is_interface (g (superclass r))) ])
           → superclass r < c
       go true t = absurd (h (eqb→eq (superclass r) none16 t))
-      go false t = ltb→lt (superclass r) c (and_l (ltb (superclass r) c) (not (isInterface (g (superclass r)))) t)
+      go false t = ltb→lt (superclass r) c (and_l (ltb (superclass r) c) (not (is_interface (g (superclass r)))) t)
 
-  encl-lower : (c : ℕ) (r : List ℕ) → T (encloserFits nlib c r) → encloser r ≢ none16 → encloser r < c
-  unfolding encloserFits
-  encl-lower c r t h = go (eqb (encloser r) none16) refl t
+  encl_lower : (c : ℕ) (r : List ℕ) → T (encloser_fits nlib c r) → encloser r ≢ none16 → encloser r < c
+  unfolding encloser_fits
+  encl_lower c r t h = go (eqb (encloser r) none16) refl t
     where
       go : (b : Bool) → eqb (encloser r) none16 ≡ b
           → T (elim b as (λ (x : Bool). Bool) [ true ↦ not (bit 1 (flags r)) | false ↦ leb nlib c && leb nlib (encloser r) && ltb (encloser r) c ]) → encloser r < c
-      go true e t = absurd (h (eqb→eq (encloser r) none16 (true-t e)))
+      go true e t = absurd (h (eqb→eq (encloser r) none16 (true_t e)))
       go false e t = ltb→lt (encloser r) c (and_r (leb nlib c && leb nlib (encloser r)) (ltb (encloser r) c) t)
 
   pub falls : Falls g
-  unfolding implementsFits
+  unfolding implements_fits
   falls = record {
     superclass = λ c s h.
         let w = h.said in
-        subst (λ (x : ℕ). x < c) w.is (super-lower c w.bytes ((fit w.member).superclassFits w.ofKind) (λ e. h.some (sym w.is ∙ e)));
+        subst (λ (x : ℕ). x < c) w.is (super_lower c w.bytes ((fit w.member).superclass_fits w.of_kind) (λ e. h.some (sym w.is ∙ e)));
     encloser = λ c e h.
         let w = h.said in
-        subst (λ (x : ℕ). x < c) w.is (encl-lower c w.bytes ((fit w.member).encloserFits w.ofKind) (λ q. h.some (sym w.is ∙ q)));
+        subst (λ (x : ℕ). x < c) w.is (encl_lower c w.bytes ((fit w.member).encloser_fits w.of_kind) (λ q. h.some (sym w.is ∙ q)));
     implements = λ c i h.
         subst (λ (x : ℕ). x < c) h.is
-        (ltb→lt (target h.bytes) c (and_l (ltb (target h.bytes) c) (isInterface (g (target h.bytes))) ((fit h.member).implementsFits h.ofKind)));
+        (ltb→lt (target h.bytes) c (and_l (ltb (target h.bytes) c) (is_interface (g (target h.bytes))) ((fit h.member).implements_fits h.of_kind)));
   }

@@ -12,7 +12,7 @@ use native.Mathlib.Omega.{arith}
 use lib.ListN.{get_or}
 use lib.Dec.{T, leb, leb→le, nleb→lt}
 use Rattle.spec.specs.Lists.{lowest}
-use Rattle.spec.specs.Rules.{Verdict, clean, firstBroken}
+use Rattle.spec.specs.Rules.{Verdict, clean, first_broken}
 use Rattle.spec.specs.Breaks.{Not}
 use Rattle.theory.specs.Claims.{Right}
 use Rattle.laws.proofs.Bools.{decide}
@@ -29,10 +29,10 @@ min_cases k m = go (decide (leb k m))
     go (inl t) = let h : k ≤ m = leb→le k m t in inl (omega arith, h)
     go (inr t) = let h : m < k = nleb→lt k m t in inr (omega arith, omega arith)
 
-lowest-least : (ks : List ℕ) → Least ks (lowest ks)
+lowest_least : (ks : List ℕ) → Least ks (lowest ks)
 unfolding lowest
-lowest-least [] = nothing (λ k m. Memᴰ.not-nil m)
-lowest-least (k ∷ ks) = go (lowest ks) (lowest-least ks)
+lowest_least [] = nothing (λ k m. Memᴰ.not-nil m)
+lowest_least (k ∷ ks) = go (lowest ks) (lowest_least ks)
   where
     go : (o : Option ℕ) → Least ks o → Least (k ∷ ks) (elim o as (λ (x : Option ℕ). Option ℕ) [ none ↦ some k | some m ↦ some (min k m) ])
     go none (nothing h) = least (Memᴰ.head refl) (λ j m. at j (Memᴰ.cases_cons m))
@@ -58,19 +58,19 @@ lowest-least (k ∷ ks) = go (lowest ks) (lowest-least ks)
 pub data Outcome (n : ℕ) (pss : List (List ℕ)) : Verdict → Type 0 where
   unbroken : ((i k : ℕ) → Not (Memᴰ k (get_or pss i []))) → Outcome n pss clean
   broken : {i k r : ℕ} → r ≡ n + i → Memᴰ k (get_or pss i []) → ((j : ℕ) → j < i → (l : ℕ) → Not (Memᴰ l (get_or pss j [])))
-      → ((l : ℕ) → Memᴰ l (get_or pss i []) → k ≤ l) → Outcome n pss (record { rule = r; recordNumber = k })
+      → ((l : ℕ) → Memᴰ l (get_or pss i []) → k ≤ l) → Outcome n pss (record { rule = r; record_number = k })
 
-pub outcome : (n : ℕ) (pss : List (List ℕ)) → Outcome n pss (firstBroken n pss)
-unfolding firstBroken
+pub outcome : (n : ℕ) (pss : List (List ℕ)) → Outcome n pss (first_broken n pss)
+unfolding first_broken
 outcome n [] = unbroken (λ i k m. Memᴰ.not-nil m)
-outcome n (ks ∷ pss) = go (lowest ks) (lowest-least ks) (firstBroken (suc n) pss) (outcome (suc n) pss)
+outcome n (ks ∷ pss) = go (lowest ks) (lowest_least ks) (first_broken (suc n) pss) (outcome (suc n) pss)
   where
     later : ((k : ℕ) → Not (Memᴰ k ks)) → (v : Verdict) → Outcome (suc n) pss v → Outcome n (ks ∷ pss) v
-    later h v (unbroken u) = unbroken none-at
+    later h v (unbroken u) = unbroken none_at
       where
-        none-at : (i k : ℕ) → Not (Memᴰ k (get_or (ks ∷ pss) i []))
-        none-at zero k m = h k m
-        none-at (suc i) k m = u i k m
+        none_at : (i k : ℕ) → Not (Memᴰ k (get_or (ks ∷ pss) i []))
+        none_at zero k m = h k m
+        none_at (suc i) k m = u i k m
     later h v (broken {i} e m below low) = broken {i = suc i} (e ∙ suc-add n i ∙ sym (add-suc n i)) m none_below low
       where
         none_below : (j : ℕ) → j < suc i → (l : ℕ) → Not (Memᴰ l (get_or (ks ∷ pss) j []))
@@ -78,7 +78,7 @@ outcome n (ks ∷ pss) = go (lowest ks) (lowest-least ks) (firstBroken (suc n) p
         none_below (suc j) q l m = below j (le_of_suc-le-suc q) l m
 
     go : (o : Option ℕ) → Least ks o → (v : Verdict) → Outcome (suc n) pss v
-        → Outcome n (ks ∷ pss) (elim o as (λ (x : Option ℕ). Verdict) [ none ↦ v | some k ↦ record { rule = n; recordNumber = k } ])
+        → Outcome n (ks ∷ pss) (elim o as (λ (x : Option ℕ). Verdict) [ none ↦ v | some k ↦ record { rule = n; record_number = k } ])
     go none (nothing h) v ih = later h v ih
     go (some k) (least p low) v ih = broken {i = 0} (sym (add-zero n)) p (λ j q. absurd (not-suc-le-zero q)) low
 
@@ -100,8 +100,8 @@ module _ (B : ℕ → ℕ → Type 0) (pss : List (List ℕ)) (told : Told B 1 p
   right_of v (unbroken u) = record {
     cleanly = ((λ e r k b. let c = complete r k b in u c.0 k c.2), (λ h. refl));
     broken = λ ne. absurd (ne refl);
-    lowestRule = λ ne. absurd (ne refl);
-    lowestRecord = λ ne. absurd (ne refl);
+    lowest_rule = λ ne. absurd (ne refl);
+    lowest_record = λ ne. absurd (ne refl);
   }
   right_of v (broken {i} {k} {r} e m below low) =
       let b : B r k = subst (λ (x : ℕ). B x k) (sym e) (told_at B 1 pss told i k m) in
@@ -112,8 +112,8 @@ module _ (B : ℕ → ℕ → Type 0) (pss : List (List ℕ)) (told : Told B 1 p
           (λ h. absurd (h r k b)),
         );
         broken = λ ne. b;
-        lowestRule = λ ne r' k' b'. go r' k' (complete r' k' b');
-        lowestRecord = λ ne k' b'. at k' (complete r k' b');
+        lowest_rule = λ ne r' k' b'. go r' k' (complete r' k' b');
+        lowest_record = λ ne k' b'. at k' (complete r k' b');
       }
     where
       go : (r' k' : ℕ) → (j : ℕ) × (r' ≡ suc j) × Memᴰ k' (get_or pss j []) → r ≤ r'
@@ -133,5 +133,5 @@ module _ (B : ℕ → ℕ → Type 0) (pss : List (List ℕ)) (told : Told B 1 p
           let p : r ≡ suc c.0 = c.1 in
           low k' (subst (λ (j : ℕ). Memᴰ k' (get_or pss j [])) (let w : c.0 ≡ i = omega arith in w) c.2)
 
-  pub right : Right B (firstBroken 1 pss)
-  right = right_of (firstBroken 1 pss) (outcome 1 pss)
+  pub right : Right B (first_broken 1 pss)
+  right = right_of (first_broken 1 pss) (outcome 1 pss)

@@ -5,42 +5,42 @@ use mathlib.Core.List.{List, [], ◌∷◌, ◌++◌}
 use Prim.Native.Nat.{ℕ}
 use lib.Dec.{T, eqb→eq}
 use lib.ListN.{get_or}
-use Rattle.spec.specs.Record.{kind, isKind, CLASS, IMPLEMENTS, FIELD, LOCAL, USES, BUILDS, MEMBER}
-use Rattle.spec.specs.Record.{REFERS, byKind, superclass, encloser, target, fieldTy, localTy, unlessNone, tyReferences, references}
+use Rattle.spec.specs.Record.{kind, is_kind, CLASS, IMPLEMENTS, FIELD, LOCAL, USES, BUILDS, MEMBER}
+use Rattle.spec.specs.Record.{REFERS, by_kind, superclass, encloser, target, field_ty, local_ty, unless_none, ty_references, references}
 
-pub by-kind : {A : Type 0} (r : List ℕ) (d : A) (choices : List A) (k : ℕ) → T (isKind k r) → byKind r d choices ≡ get_or (d ∷ choices) k d
-unfolding byKind
-by-kind r d choices k t = ap (λ (n : ℕ). get_or (d ∷ choices) n d) (eqb→eq (kind r) k t)
+pub by_kind_lem : {A : Type 0} (r : List ℕ) (d : A) (choices : List A) (k : ℕ) → T (is_kind k r) → by_kind r d choices ≡ get_or (d ∷ choices) k d
+unfolding by_kind
+by_kind_lem r d choices k t = ap (λ (n : ℕ). get_or (d ∷ choices) n d) (eqb→eq (kind r) k t)
 
 module _ (r : List ℕ) where
-  pub references-class : T (isKind CLASS r) → references r ≡ unlessNone (superclass r) ++ unlessNone (encloser r)
+  pub references_class : T (is_kind CLASS r) → references r ≡ unless_none (superclass r) ++ unless_none (encloser r)
   unfolding references
-  references-class t = by-kind r [] _ CLASS t
+  references_class t = by_kind_lem r [] _ CLASS t
 
-  pub references-implements : T (isKind IMPLEMENTS r) → references r ≡ target r ∷ []
+  pub references_implements : T (is_kind IMPLEMENTS r) → references r ≡ target r ∷ []
   unfolding references
-  references-implements t = by-kind r [] _ IMPLEMENTS t
+  references_implements t = by_kind_lem r [] _ IMPLEMENTS t
 
-  pub references-field : T (isKind FIELD r) → references r ≡ tyReferences (fieldTy r)
+  pub references_field : T (is_kind FIELD r) → references r ≡ ty_references (field_ty r)
   unfolding references
-  references-field t = by-kind r [] _ FIELD t
+  references_field t = by_kind_lem r [] _ FIELD t
 
-  pub references-local : T (isKind LOCAL r) → references r ≡ tyReferences (localTy r)
+  pub references_local : T (is_kind LOCAL r) → references r ≡ ty_references (local_ty r)
   unfolding references
-  references-local t = by-kind r [] _ LOCAL t
+  references_local t = by_kind_lem r [] _ LOCAL t
 
-  pub references-uses : T (isKind USES r) → references r ≡ target r ∷ []
+  pub references_uses : T (is_kind USES r) → references r ≡ target r ∷ []
   unfolding references
-  references-uses t = by-kind r [] _ USES t
+  references_uses t = by_kind_lem r [] _ USES t
 
-  pub references-builds : T (isKind BUILDS r) → references r ≡ target r ∷ []
+  pub references_builds : T (is_kind BUILDS r) → references r ≡ target r ∷ []
   unfolding references
-  references-builds t = by-kind r [] _ BUILDS t
+  references_builds t = by_kind_lem r [] _ BUILDS t
 
-  pub references-member : T (isKind MEMBER r) → references r ≡ []
+  pub references_member : T (is_kind MEMBER r) → references r ≡ []
   unfolding references
-  references-member t = by-kind r [] _ MEMBER t
+  references_member t = by_kind_lem r [] _ MEMBER t
 
-  pub references-refers : T (isKind REFERS r) → references r ≡ target r ∷ []
+  pub references_refers : T (is_kind REFERS r) → references r ≡ target r ∷ []
   unfolding references
-  references-refers t = by-kind r [] _ REFERS t
+  references_refers t = by_kind_lem r [] _ REFERS t

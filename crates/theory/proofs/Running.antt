@@ -9,98 +9,98 @@ use lib.Dec.{T}
 use lib.ListN.{length, get_or, take, drop, length-append, take-append-drop}
 use lib.Seq.{take-suc, take-length, length-take-le, get_or-drop, drop_at}
 use Rattle.spec.specs.Lists.{concat}
-use Rattle.spec.specs.Sheet.{Group, recordsOf, splitGroups, groupsOf, classCount, groupStart}
-use Rattle.spec.specs.Refusals.{oneClass}
-use Rattle.theory.specs.Claims.{firstLength, running, Carried, RunningHolds}
+use Rattle.spec.specs.Sheet.{Group, records_of, split_groups, groups_of, class_count, group_start}
+use Rattle.spec.specs.Refusals.{one_class}
+use Rattle.theory.specs.Claims.{first_length, running, Carried, RunningHolds}
 use Rattle.laws.proofs.All.{All, all_drop, all_right}
-use Rattle.theory.proofs.Cut.{Whole, records-of-whole, records-of-join, concat-append, concat-concat, split_parts, split-join, records-grouped, sheet-grouped}
+use Rattle.theory.proofs.Cut.{Whole, records_of_whole, records_of_join, concat_append, concat_concat, split_parts, split_join, records_grouped, sheet_grouped}
 use Rattle.theory.proofs.Accept.{Clear}
-use Rattle.theory.proofs.Form.{accepted-sound}
-use Rattle.theory.proofs.Unrefused.{present-facts}
+use Rattle.theory.proofs.Form.{accepted_sound}
+use Rattle.theory.proofs.Unrefused.{present_facts}
 
 -- a group begins where the one before it ends
-pub group-next : (s : List ℕ) (i : ℕ) → i < classCount s → groupStart s (i + 1) ≡ groupStart s i + length (concat (get_or (groupsOf s) i []))
-unfolding groupStart classCount concat
-group-next s i h =
-    let front = concat (take i (groupsOf s)) in
-    let g : Group = get_or (groupsOf s) i [] in
+pub group_next : (s : List ℕ) (i : ℕ) → i < class_count s → group_start s (i + 1) ≡ group_start s i + length (concat (get_or (groups_of s) i []))
+unfolding group_start class_count concat
+group_next s i h =
+    let front = concat (take i (groups_of s)) in
+    let g : Group = get_or (groups_of s) i [] in
     let e : i + 1 ≡ suc i = omega arith in
-    ap (λ (k : ℕ). length (concat (concat (take k (groupsOf s))))) e
-    ∙ ap (λ (x : List Group). length (concat (concat x))) (take-suc (groupsOf s) i [] h)
-    ∙ ap (λ (x : List (List ℕ)). length (concat x)) (concat-append (take i (groupsOf s)) (g ∷ []) ∙ ap (λ (x : List (List ℕ)). front ++ x) (append-nil g))
-    ∙ ap length (concat-append front g)
+    ap (λ (k : ℕ). length (concat (concat (take k (groups_of s))))) e
+    ∙ ap (λ (x : List Group). length (concat (concat x))) (take-suc (groups_of s) i [] h)
+    ∙ ap (λ (x : List (List ℕ)). length (concat x)) (concat_append (take i (groups_of s)) (g ∷ []) ∙ ap (λ (x : List (List ℕ)). front ++ x) (append-nil g))
+    ∙ ap length (concat_append front g)
     ∙ length-append (concat front) (concat g)
 
-pub running-next : (s : List ℕ) (i : ℕ) → running s (i + 1) ≡ running s i + firstLength (drop (running s i) s)
+pub running_next : (s : List ℕ) (i : ℕ) → running s (i + 1) ≡ running s i + first_length (drop (running s i) s)
 unfolding running
-running-next s i = let e : i + 1 ≡ suc i = omega arith in ap (running s) e
+running_next s i = let e : i + 1 ≡ suc i = omega arith in ap (running s) e
 
 module _ {sheet n : ℕ} {s : List ℕ} (clear : Clear sheet n s) where
   -- the sheet is its groups end to end
-  pub joined : concat (concat (groupsOf s)) ≡ s
-  joined = sym (concat-concat (groupsOf s)) ∙ sheet-grouped s clear.end clear.loose
+  pub joined : concat (concat (groups_of s)) ≡ s
+  joined = sym (concat_concat (groups_of s)) ∙ sheet_grouped s clear.end clear.loose
 
-  pub group-last : groupStart s (classCount s) ≡ length s
-  unfolding groupStart classCount
-  group-last = ap (λ (x : List Group). length (concat (concat x))) (take-length (groupsOf s)) ∙ ap length joined
+  pub group_last : group_start s (class_count s) ≡ length s
+  unfolding group_start class_count
+  group_last = ap (λ (x : List Group). length (concat (concat x))) (take-length (groups_of s)) ∙ ap length joined
 
   -- ---- the bytes from the start of a group on
 
   module _ (i : ℕ) where
-    parted : concat (groupsOf s) ≡ concat (take i (groupsOf s)) ++ concat (drop i (groupsOf s))
-    parted = ap concat (sym (take-append-drop i (groupsOf s))) ∙ concat-append (take i (groupsOf s)) (drop i (groupsOf s))
+    parted : concat (groups_of s) ≡ concat (take i (groups_of s)) ++ concat (drop i (groups_of s))
+    parted = ap concat (sym (take-append-drop i (groups_of s))) ∙ concat_append (take i (groups_of s)) (drop i (groups_of s))
 
     -- what holds of all records holds of those that stand there
-    pub rest_all : (P : List ℕ → Type 0) → All P (recordsOf s) → All P (concat (drop i (groupsOf s)))
-    rest_all P h = all_right P (concat (take i (groupsOf s))) (concat (drop i (groupsOf s))) (subst (All P) (records-grouped s clear.end clear.loose ∙ parted) h)
+    pub rest_all : (P : List ℕ → Type 0) → All P (records_of s) → All P (concat (drop i (groups_of s)))
+    rest_all P h = all_right P (concat (take i (groups_of s))) (concat (drop i (groups_of s))) (subst (All P) (records_grouped s clear.end clear.loose ∙ parted) h)
 
-    pub rest-bytes : drop (groupStart s i) s ≡ concat (concat (drop i (groupsOf s)))
-    unfolding groupStart
-    rest-bytes =
-        let front : List (List ℕ) = concat (take i (groupsOf s)) in
-        let rest : List (List ℕ) = concat (drop i (groupsOf s)) in
-        ap (drop (length (concat front))) (sym joined ∙ ap concat parted ∙ concat-append front rest) ∙ drop_at (concat front) (concat rest) (length (concat front)) refl
+    pub rest_bytes : drop (group_start s i) s ≡ concat (concat (drop i (groups_of s)))
+    unfolding group_start
+    rest_bytes =
+        let front : List (List ℕ) = concat (take i (groups_of s)) in
+        let rest : List (List ℕ) = concat (drop i (groups_of s)) in
+        ap (drop (length (concat front))) (sym joined ∙ ap concat parted ∙ concat_append front rest) ∙ drop_at (concat front) (concat rest) (length (concat front)) refl
 
-    pub rest-records : recordsOf (drop (groupStart s i) s) ≡ concat (drop i (groupsOf s))
-    rest-records = ap recordsOf rest-bytes ∙ records-of-join (concat (drop i (groupsOf s))) (rest_all Whole (records-of-whole s))
+    pub rest_records : records_of (drop (group_start s i) s) ≡ concat (drop i (groups_of s))
+    rest_records = ap records_of rest_bytes ∙ records_of_join (concat (drop i (groups_of s))) (rest_all Whole (records_of_whole s))
 
-    rest-split : ((splitGroups (concat (drop i (groupsOf s)))).loose ≡ []) × ((splitGroups (concat (drop i (groupsOf s)))).groups ≡ drop i (groupsOf s))
-    unfolding groupsOf
-    rest-split = split-join (drop i (groupsOf s)) (all_drop (λ h. T (oneClass h)) i (groupsOf s) (split_parts (recordsOf s)).one)
+    rest_split : ((split_groups (concat (drop i (groups_of s)))).loose ≡ []) × ((split_groups (concat (drop i (groups_of s)))).groups ≡ drop i (groups_of s))
+    unfolding groups_of
+    rest_split = split_join (drop i (groups_of s)) (all_drop (λ h. T (one_class h)) i (groups_of s) (split_parts (records_of s)).one)
 
-    pub rest-loose : (splitGroups (recordsOf (drop (groupStart s i) s))).loose ≡ []
-    rest-loose = ap (λ (rs : List (List ℕ)). (splitGroups rs).loose) rest-records ∙ rest-split.0
+    pub rest_loose : (split_groups (records_of (drop (group_start s i) s))).loose ≡ []
+    rest_loose = ap (λ (rs : List (List ℕ)). (split_groups rs).loose) rest_records ∙ rest_split.0
 
-    pub rest-groups : groupsOf (drop (groupStart s i) s) ≡ drop i (groupsOf s)
-    unfolding groupsOf
-    rest-groups = ap (λ (rs : List (List ℕ)). (splitGroups rs).groups) rest-records ∙ rest-split.1
+    pub rest_groups : groups_of (drop (group_start s i) s) ≡ drop i (groups_of s)
+    unfolding groups_of
+    rest_groups = ap (λ (rs : List (List ℕ)). (split_groups rs).groups) rest_records ∙ rest_split.1
 
-    first-length : firstLength (drop (groupStart s i) s) ≡ length (concat (get_or (groupsOf s) i []))
-    unfolding firstLength
-    first-length =
-        ap (λ (gs : List Group). length (concat (get_or gs 0 []))) rest-groups
-        ∙ ap (λ (g : Group). length (concat g)) (get_or-drop i (groupsOf s) 0 [] ∙ ap (λ (k : ℕ). get_or (groupsOf s) k []) (add-zero i))
+    first_length_lem : first_length (drop (group_start s i) s) ≡ length (concat (get_or (groups_of s) i []))
+    unfolding first_length
+    first_length_lem =
+        ap (λ (gs : List Group). length (concat (get_or gs 0 []))) rest_groups
+        ∙ ap (λ (g : Group). length (concat g)) (get_or-drop i (groups_of s) 0 [] ∙ ap (λ (k : ℕ). get_or (groups_of s) k []) (add-zero i))
 
   -- ---- the running position
 
-  pub begins : (i : ℕ) → i ≤ classCount s → running s i ≡ groupStart s i
+  pub begins : (i : ℕ) → i ≤ class_count s → running s i ≡ group_start s i
   unfolding running
-  begins zero h = unfold groupStart concat in refl
+  begins zero h = unfold group_start concat in refl
   begins (suc i) h =
       let e : i + 1 ≡ suc i = omega arith in
-      ap (λ (k : ℕ). k + firstLength (drop k s)) (begins i (omega arith))
-      ∙ ap (λ (k : ℕ). groupStart s i + k) (first-length i)
-      ∙ sym (group-next s i (omega arith))
-      ∙ ap (groupStart s) e
+      ap (λ (k : ℕ). k + first_length (drop k s)) (begins i (omega arith))
+      ∙ ap (λ (k : ℕ). group_start s i + k) (first_length_lem i)
+      ∙ sym (group_next s i (omega arith))
+      ∙ ap (group_start s) e
 
   carried : Carried s (length s)
   carried = record {
     begins = begins;
-    stands = λ i h. ap (λ (k : ℕ). drop k s) (begins i h) ∙ rest-bytes i;
-    onward = λ i h. ap (λ (k : ℕ). groupsOf (drop k s)) (begins i h) ∙ rest-groups i;
-    end = begins (classCount s) (omega arith) ∙ group-last;
+    stands = λ i h. ap (λ (k : ℕ). drop k s) (begins i h) ∙ rest_bytes i;
+    onward = λ i h. ap (λ (k : ℕ). groups_of (drop k s)) (begins i h) ∙ rest_groups i;
+    end = begins (class_count s) (omega arith) ∙ group_last;
   }
 
-pub running-holds : RunningHolds
-running-holds library user used e =
-    subst (Carried (take used user)) (length-take-le used user (present-facts library user used e).in_buffer) (carried (accepted-sound library user used e).userSheet)
+pub running_holds : RunningHolds
+running_holds library user used e =
+    subst (Carried (take used user)) (length-take-le used user (present_facts library user used e).in_buffer) (carried (accepted_sound library user used e).user_sheet)

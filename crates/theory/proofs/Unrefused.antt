@@ -7,44 +7,44 @@ use mathlib.Core.Option.{none}
 use Prim.Native.Nat.{ℕ, ◌≤◌}
 use lib.Dec.{ltb, nltb→le}
 use lib.ListN.{length, take}
-use Rattle.spec.specs.Sheet.{classCount}
-use Rattle.spec.specs.Refusals.{refuseIf, sheetLimit, scratchLength, wholeGroup, sizeRefusal, sheetRefusal, newRefusal, presentRefusal, shortRefusal, groupRefusal, roomRefusal}
-use Rattle.laws.proofs.Bools.{un_not, not-or, not-or-l, not-or-r, nltb}
+use Rattle.spec.specs.Sheet.{class_count}
+use Rattle.spec.specs.Refusals.{refuse_if, sheet_limit, scratch_length, whole_group, size_refusal, sheet_refusal, new_refusal, present_refusal, short_refusal, group_refusal, room_refusal}
+use Rattle.laws.proofs.Bools.{un_not, not_or, not_or_l, not_or_r, nltb}
 use Rattle.laws.proofs.All.{All}
 use Rattle.theory.proofs.Cut.{IsGroup}
-use Rattle.theory.proofs.Answers.{first-none, none_first, if_none, none-if, plain-none, none-plain}
+use Rattle.theory.proofs.Answers.{first_none, none_first, if_none, none_if, plain_none, none_plain}
 
 -- ---- 1 to 11 and 16 of the present sheets
 
 pub record Present (library user : List ℕ) (used : ℕ) : Type 0 where
-  pub library-size : length library ≤ sheetLimit
-  pub user-size : used ≤ sheetLimit
+  pub library_size : length library ≤ sheet_limit
+  pub user_size : used ≤ sheet_limit
   pub in_buffer : used ≤ length user
-  pub sheets : sheetRefusal library (take used user) ≡ none
+  pub sheets : sheet_refusal library (take used user) ≡ none
 
 module _ (library user : List ℕ) (used : ℕ) where
-  pub present-facts : presentRefusal library user used ≡ none → Present library user used
-  unfolding presentRefusal sizeRefusal
-  present-facts e =
-      let q = first-none _ e in
-      let r = first-none _ q.0 in
-      let u = if_none (ltb sheetLimit used || ltb (length user) used) 1 1 0 r.1.0 in
+  pub present_facts : present_refusal library user used ≡ none → Present library user used
+  unfolding present_refusal size_refusal
+  present_facts e =
+      let q = first_none _ e in
+      let r = first_none _ q.0 in
+      let u = if_none (ltb sheet_limit used || ltb (length user) used) 1 1 0 r.1.0 in
       record {
-        library-size = nltb→le sheetLimit (length library) (if_none (ltb sheetLimit (length library)) 1 0 0 r.0);
-        user-size = nltb→le sheetLimit used (not-or-l (ltb sheetLimit used) (ltb (length user) used) u);
-        in_buffer = nltb→le (length user) used (not-or-r (ltb sheetLimit used) (ltb (length user) used) u);
+        library_size = nltb→le sheet_limit (length library) (if_none (ltb sheet_limit (length library)) 1 0 0 r.0);
+        user_size = nltb→le sheet_limit used (not_or_l (ltb sheet_limit used) (ltb (length user) used) u);
+        in_buffer = nltb→le (length user) used (not_or_r (ltb sheet_limit used) (ltb (length user) used) u);
         sheets = q.1.0;
       }
 
-  pub facts-present : Present library user used → presentRefusal library user used ≡ none
-  unfolding presentRefusal sizeRefusal
-  facts-present p =
-      none_first (sizeRefusal library user used ∷ sheetRefusal library (take used user) ∷ []) (
-        none_first (refuseIf (ltb sheetLimit (length library)) 1 0 0 ∷ refuseIf (ltb sheetLimit used || ltb (length user) used) 1 1 0 ∷ []) (
-          none-if (ltb sheetLimit (length library)) 1 0 0 (nltb sheetLimit (length library) p.library-size),
+  pub facts_present : Present library user used → present_refusal library user used ≡ none
+  unfolding present_refusal size_refusal
+  facts_present p =
+      none_first (size_refusal library user used ∷ sheet_refusal library (take used user) ∷ []) (
+        none_first (refuse_if (ltb sheet_limit (length library)) 1 0 0 ∷ refuse_if (ltb sheet_limit used || ltb (length user) used) 1 1 0 ∷ []) (
+          none_if (ltb sheet_limit (length library)) 1 0 0 (nltb sheet_limit (length library) p.library_size),
           (
-            none-if (ltb sheetLimit used || ltb (length user) used) 1 1 0
-                (not-or (ltb sheetLimit used) (ltb (length user) used) (nltb sheetLimit used p.user-size) (nltb (length user) used p.in_buffer)),
+            none_if (ltb sheet_limit used || ltb (length user) used) 1 1 0
+                (not_or (ltb sheet_limit used) (ltb (length user) used) (nltb sheet_limit used p.user_size) (nltb (length user) used p.in_buffer)),
             tt,
           ),
         ),
@@ -53,32 +53,32 @@ module _ (library user : List ℕ) (used : ℕ) where
 
 -- ---- 12
 
-pub short_none : (needed lines scratch : ℕ) → shortRefusal needed lines scratch ≡ none → needed ≤ lines
-unfolding shortRefusal
+pub short_none : (needed lines scratch : ℕ) → short_refusal needed lines scratch ≡ none → needed ≤ lines
+unfolding short_refusal
 short_none needed lines scratch e =
-    nltb→le lines needed (not-or-l (ltb lines needed) (ltb scratch scratchLength) (plain-none (ltb lines needed || ltb scratch scratchLength) 12 e))
+    nltb→le lines needed (not_or_l (ltb lines needed) (ltb scratch scratch_length) (plain_none (ltb lines needed || ltb scratch scratch_length) 12 e))
 
-pub none-short : (needed lines : ℕ) → needed ≤ lines → shortRefusal needed lines scratchLength ≡ none
-unfolding shortRefusal
-none-short needed lines h =
-    none-plain (ltb lines needed || ltb scratchLength scratchLength) 12 (not-or (ltb lines needed) (ltb scratchLength scratchLength) (nltb lines needed h) tt)
+pub none_short : (needed lines : ℕ) → needed ≤ lines → short_refusal needed lines scratch_length ≡ none
+unfolding short_refusal
+none_short needed lines h =
+    none_plain (ltb lines needed || ltb scratch_length scratch_length) 12 (not_or (ltb lines needed) (ltb scratch_length scratch_length) (nltb lines needed h) tt)
 
 -- ---- 14, 15, 3 to 11 and 16, and 12, as every operation that writes a new sheet asks them last
 
 pub record Passes (library g new : List ℕ) (lines : ℕ) : Type 0 where
   pub whole : IsGroup g
-  pub size : length new ≤ sheetLimit
-  pub sheets : newRefusal library new ≡ none
-  pub room : classCount new ≤ lines
+  pub size : length new ≤ sheet_limit
+  pub sheets : new_refusal library new ≡ none
+  pub room : class_count new ≤ lines
 
-pub edit-passes : (library user g new : List ℕ) (lines scratch : ℕ)
-    → All (λ o. o ≡ none) (groupRefusal g ∷ roomRefusal user new ∷ newRefusal library new ∷ shortRefusal (classCount new) lines scratch ∷ [])
+pub edit_passes : (library user g new : List ℕ) (lines scratch : ℕ)
+    → All (λ o. o ≡ none) (group_refusal g ∷ room_refusal user new ∷ new_refusal library new ∷ short_refusal (class_count new) lines scratch ∷ [])
     → Passes library g new lines
-unfolding groupRefusal roomRefusal IsGroup
-edit-passes library user g new lines scratch q = record {
-  whole = un_not (wholeGroup g) (plain-none (not (wholeGroup g)) 14 q.0);
-  size = nltb→le sheetLimit (length new)
-      (not-or-r (ltb (length user) (length new)) (ltb sheetLimit (length new)) (plain-none (ltb (length user) (length new) || ltb sheetLimit (length new)) 15 q.1.0));
+unfolding group_refusal room_refusal IsGroup
+edit_passes library user g new lines scratch q = record {
+  whole = un_not (whole_group g) (plain_none (not (whole_group g)) 14 q.0);
+  size = nltb→le sheet_limit (length new)
+      (not_or_r (ltb (length user) (length new)) (ltb sheet_limit (length new)) (plain_none (ltb (length user) (length new) || ltb sheet_limit (length new)) 15 q.1.0));
   sheets = q.1.1.0;
-  room = short_none (classCount new) lines scratch q.1.1.1.0;
+  room = short_none (class_count new) lines scratch q.1.1.1.0;
 }

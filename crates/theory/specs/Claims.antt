@@ -4,33 +4,33 @@ use Rattle.std.specs.Prelude.{◌≡◌, ◌↔◌, ◌≢◌, ◌⊎◌, true, 
 use mathlib.Core.List.{List, [], Memᴰ}
 use Rattle.std.proofs.Math.Option.{Option, none, some}
 use Rattle.spec.specs.Lists.{concat, elem, reach}
-use Rattle.spec.specs.Record.{FIELD, isKind, isStatic, fieldTy}
-use Rattle.spec.specs.Sheet.{Group, recordsOf, wholeEnd, groupsOf, classCount, groupStart, total, group}
+use Rattle.spec.specs.Record.{FIELD, is_kind, is_static, field_ty}
+use Rattle.spec.specs.Sheet.{Group, records_of, whole_end, groups_of, class_count, group_start, total, group}
 use Rattle.spec.specs.Markers.{Token}
-use Rattle.spec.specs.Classes.{hasMarker, inside, lineage, root, buildsInside, captured}
+use Rattle.spec.specs.Classes.{has_marker, inside, lineage, root, builds_inside, captured}
 use Rattle.spec.specs.Rules.{Verdict, clean, dependencies}
 use Rattle.spec.specs.Relations.{At, Rising, Superclass, Encloser, Implements, References, Depends, Marked, Lineage, Root, Inside, Chain, Captures}
 use Rattle.spec.specs.Breaks.{Not, Flag, Breaks}
-use Rattle.spec.specs.Refusals.{Refusal, Accepted, addedSheet, replacedSheet, withdrawnSheet, lastClass, recordNumbers, plainNumbers, judgeNumbers, addNumbers, replaceNumbers}
-use Rattle.spec.specs.Refusals.{withdrawNumbers, queryNumbers, judgeRefusal, addRefusal, replaceRefusal, withdrawRefusal, queryRefusal, sheetRefusal, newRefusal, presentRefusal}
-use Rattle.spec.specs.Refusals.{emptyRefusal, namedRefusal, wholeGroup}
-use Rattle.spec.specs.Verdicts.{verdictAt}
+use Rattle.spec.specs.Refusals.{Refusal, Accepted, added_sheet, replaced_sheet, withdrawn_sheet, last_class, record_numbers, plain_numbers, judge_numbers, add_numbers, replace_numbers}
+use Rattle.spec.specs.Refusals.{withdraw_numbers, query_numbers, judge_refusal, add_refusal, replace_refusal, withdraw_refusal, query_refusal, sheet_refusal, new_refusal, present_refusal}
+use Rattle.spec.specs.Refusals.{empty_refusal, named_refusal, whole_group}
+use Rattle.spec.specs.Verdicts.{verdict_at}
 
 -- ---- the computed definitions are document 01's relations
 
 pub record Relations (nlib : ℕ) (g : ℕ → Group) : Type 0 where
   -- reach is the chain relation, for references and for BUILDS inside d
   pub depends : (c d : ℕ) → T (elem d (dependencies g c)) ↔ Depends g c d
-  pub chain : (d l m : ℕ) → Inside g d l → T (elem m (reach (buildsInside g d) l)) ↔ Chain g d l m
+  pub chain : (d l m : ℕ) → Inside g d l → T (elem m (reach (builds_inside g d) l)) ↔ Chain g d l m
   -- the overlay set is the closure of the own markers of all supertypes
-  pub marked : (c k : ℕ) → k < 8 → T (hasMarker g k c) ↔ Marked g c k
+  pub marked : (c k : ℕ) → k < 8 → T (has_marker g k c) ↔ Marked g c k
   pub inside : (d l : ℕ) → T (inside g d l) ↔ Inside g d l
   pub lineage : (c s : ℕ) → nlib ≤ c → Memᴰ s (lineage nlib g c) ↔ Lineage nlib g c s
   pub root : (c d : ℕ) → nlib ≤ c → Memᴰ d (root nlib g c) ↔ Root nlib g c d
   pub captured : (l d i : ℕ) → Memᴰ (d, i) (captured g l) ↔ Captures g l d i
 
 abbrev pub RelationsHold : Type 0
-RelationsHold = (library user : List ℕ) (used : ℕ) → Accepted library user used → Relations (classCount library) (group library (take used user))
+RelationsHold = (library user : List ℕ) (used : ℕ) → Accepted library user used → Relations (class_count library) (group library (take used user))
 
 -- ---- what acceptance gives
 
@@ -44,43 +44,43 @@ pub record Form (nlib n : ℕ) (g : ℕ → Group) : Type 0 where
   pub library : 1 ≤ nlib
   pub few : n ≤ 256
   pub there : (c d : ℕ) → References (g c) d → d < n
-  pub superclassLower : (c s : ℕ) → Superclass (g c) s → s < c
-  pub encloserLower : (c e : ℕ) → Encloser (g c) e → e < c
-  pub implementsLower : (c i : ℕ) → Implements (g c) i → i < c
+  pub superclass_lower : (c s : ℕ) → Superclass (g c) s → s < c
+  pub encloser_lower : (c e : ℕ) → Encloser (g c) e → e < c
+  pub implements_lower : (c i : ℕ) → Implements (g c) i → i < c
   -- of a user class that is no interface
   pub superclass : (c : ℕ) → nlib ≤ c → c < n → Not (Flag 0 (g c)) → One (Superclass (g c))
   pub root : (c : ℕ) → nlib ≤ c → c < n → Not (Flag 0 (g c)) → One (Root nlib g c)
 
 abbrev pub FormHolds : Type 0
-FormHolds = (library user : List ℕ) (used : ℕ) → Accepted library user used → Form (classCount library) (total library (take used user)) (group library (take used user))
+FormHolds = (library user : List ℕ) (used : ℕ) → Accepted library user used → Form (class_count library) (total library (take used user)) (group library (take used user))
 
 -- ---- demand 2
 
 -- v is right about what a class breaks: clean exactly if it breaks no rule at any record, else the lowest broken rule and the lowest record that breaks it
 pub record Right (breaks : ℕ → ℕ → Type 0) (v : Verdict) : Type 0 where
   pub cleanly : (v ≡ clean) ↔ ((r k : ℕ) → Not (breaks r k))
-  pub broken : Not (v ≡ clean) → breaks v.rule v.recordNumber
-  pub lowestRule : Not (v ≡ clean) → (r k : ℕ) → breaks r k → v.rule ≤ r
-  pub lowestRecord : Not (v ≡ clean) → (k : ℕ) → breaks v.rule k → v.recordNumber ≤ k
+  pub broken : Not (v ≡ clean) → breaks v.rule v.record_number
+  pub lowest_rule : Not (v ≡ clean) → (r k : ℕ) → breaks r k → v.rule ≤ r
+  pub lowest_record : Not (v ≡ clean) → (k : ℕ) → breaks v.rule k → v.record_number ≤ k
 
 abbrev pub Demand2 : Type 0
 Demand2 =
     (library user : List ℕ) (used : ℕ) → Accepted library user used
-    → (c : ℕ) → classCount library ≤ c → c < total library (take used user)
-    → Right (Breaks (classCount library) (group library (take used user)) c) (verdictAt library (take used user) c)
+    → (c : ℕ) → class_count library ≤ c → c < total library (take used user)
+    → Right (Breaks (class_count library) (group library (take used user)) c) (verdict_at library (take used user) c)
 
 -- ---- document 02, C-11: "the state reachable from static fields holds no authority, and a token is authority by identity alone"
 
 -- by the verdicts of two sheets' classes: a clean class keeps no Token in a static field, where the field's class, if it is a user class, is clean too
 abbrev pub NoTokenKept : List ℕ → List ℕ → (ℕ → Verdict) → Type 0
 NoTokenKept library user verdict =
-    (c : ℕ) → classCount library ≤ c → c < total library user → verdict c ≡ clean
-    → (k : ℕ) (r : List ℕ) → At (group library user c) k r → T (isKind FIELD r) → T (isStatic r) → (fieldTy r).code ≡ 0
-    → (classCount library ≤ (fieldTy r).class → verdict (fieldTy r).class ≡ clean)
-    → Not (Marked (group library user) (fieldTy r).class Token)
+    (c : ℕ) → class_count library ≤ c → c < total library user → verdict c ≡ clean
+    → (k : ℕ) (r : List ℕ) → At (group library user c) k r → T (is_kind FIELD r) → T (is_static r) → (field_ty r).code ≡ 0
+    → (class_count library ≤ (field_ty r).class → verdict (field_ty r).class ≡ clean)
+    → Not (Marked (group library user) (field_ty r).class Token)
 
 abbrev pub NoStaticToken : Type 0
-NoStaticToken = (library user : List ℕ) (used : ℕ) → Accepted library user used → NoTokenKept library (take used user) (verdictAt library (take used user))
+NoStaticToken = (library user : List ℕ) (used : ℕ) → Accepted library user used → NoTokenKept library (take used user) (verdict_at library (take used user))
 
 -- ---- locality: "Two pairs of sheets, both accepted, with equally many library classes and the same groups at every number C stands on, give C the same line"
 
@@ -88,38 +88,38 @@ abbrev pub Locality : Type 0
 Locality =
     (library user : List ℕ) (used : ℕ) → Accepted library user used
     → (library' user' : List ℕ) (used' : ℕ) → Accepted library' user' used'
-    → classCount library ≡ classCount library'
+    → class_count library ≡ class_count library'
     → (c : ℕ) → ((d : ℕ) → Depends (group library (take used user)) c d → group library (take used user) d ≡ group library' (take used' user') d)
-    → verdictAt library (take used user) c ≡ verdictAt library' (take used' user') c
+    → verdict_at library (take used user) c ≡ verdict_at library' (take used' user') c
 
 -- ---- the refusals of each operation
 
 -- sheet 0 is the library's, sheet 1 the user's
-abbrev pub sheetOf : List ℕ → List ℕ → ℕ → List ℕ
-sheetOf library user s = elim (eqb s 0) [ true ↦ library | false ↦ user ]
+abbrev pub sheet_of : List ℕ → List ℕ → ℕ → List ℕ
+sheet_of library user s = elim (eqb s 0) [ true ↦ library | false ↦ user ]
 
 -- record k of a sheet begins at that byte
 pub record Begins (s : List ℕ) (k byte : ℕ) : Type 0 where
-  pub there : k < length (recordsOf s)
-  pub sum : byte ≡ length (concat (take k (recordsOf s)))
+  pub there : k < length (records_of s)
+  pub sum : byte ≡ length (concat (take k (records_of s)))
 
 -- what a refusal blames, where `library` and `user` are the sheets that it speaks of
 pub data Blames (library user : List ℕ) : Refusal → Type 0 where
   -- 1: byte 0 of the sheet that is too long
   size : {s : ℕ} → s < 2 → Blames library user (record { number = 1; sheet = s; byte = 0 })
   -- 2: the record that is not whole begins after the last whole one
-  torn : {s byte : ℕ} → s < 2 → byte ≡ wholeEnd (sheetOf library user s) → Blames library user (record { number = 2; sheet = s; byte = byte })
+  torn : {s byte : ℕ} → s < 2 → byte ≡ whole_end (sheet_of library user s) → Blames library user (record { number = 2; sheet = s; byte = byte })
   -- a number that blames a record: one of the sheet begins there
-  at : {n s k byte : ℕ} → T (elem n recordNumbers) → s < 2 → Begins (sheetOf library user s) k byte → Blames library user (record { number = n; sheet = s; byte = byte })
+  at : {n s k byte : ℕ} → T (elem n record_numbers) → s < 2 → Begins (sheet_of library user s) k byte → Blames library user (record { number = n; sheet = s; byte = byte })
   -- 7: a library without classes, at its end
-  noClass : {byte : ℕ} → classCount library ≡ 0 → byte ≡ length library → Blames library user (record { number = 7; sheet = 0; byte = byte })
+  no_class : {byte : ℕ} → class_count library ≡ 0 → byte ≡ length library → Blames library user (record { number = 7; sheet = 0; byte = byte })
   -- a number that blames none: sheet 0, byte 0
-  plain : {n : ℕ} → T (elem n plainNumbers) → Blames library user (record { number = n; sheet = 0; byte = 0 })
+  plain : {n : ℕ} → T (elem n plain_numbers) → Blames library user (record { number = n; sheet = 0; byte = 0 })
 
 -- for Add and Replace: a refusal of the present sheets blames those, any other one the new sheet, with neither 1 nor 2
 pub data BlamesEdit (library user : List ℕ) (used : ℕ) (new : List ℕ) (r : Refusal) : Type 0 where
-  present : presentRefusal library user used ≡ some r → Blames library (take used user) r → BlamesEdit library user used new r
-  made : presentRefusal library user used ≡ none → 3 ≤ r.number → Blames library new r → BlamesEdit library user used new r
+  present : present_refusal library user used ≡ some r → Blames library (take used user) r → BlamesEdit library user used new r
+  made : present_refusal library user used ≡ none → 3 ≤ r.number → Blames library new r → BlamesEdit library user used new r
 
 -- a refusal, if there is one, has one of the numbers and blames what it may
 pub record Refuses (numbers : List ℕ) (blames : Refusal → Type 0) (o : Option Refusal) : Type 0 where
@@ -127,13 +127,13 @@ pub record Refuses (numbers : List ℕ) (blames : Refusal → Type 0) (o : Optio
   pub place : (r : Refusal) → o ≡ some r → blames r
 
 pub record Refusals (library user : List ℕ) (used : ℕ) : Type 0 where
-  pub judge : (lines scratch : ℕ) → Refuses judgeNumbers (Blames library (take used user)) (judgeRefusal library user used lines scratch)
+  pub judge : (lines scratch : ℕ) → Refuses judge_numbers (Blames library (take used user)) (judge_refusal library user used lines scratch)
   pub add : (g : List ℕ) (lines scratch : ℕ)
-      → Refuses addNumbers (BlamesEdit library user used (addedSheet (take used user) g)) (addRefusal library user used g lines scratch)
+      → Refuses add_numbers (BlamesEdit library user used (added_sheet (take used user) g)) (add_refusal library user used g lines scratch)
   pub replace : (c : ℕ) (g : List ℕ) (lines scratch : ℕ)
-      → Refuses replaceNumbers (BlamesEdit library user used (replacedSheet library (take used user) c g)) (replaceRefusal library user used c g lines scratch)
-  pub withdraw : (lines : ℕ) → Refuses withdrawNumbers (Blames library (take used user)) (withdrawRefusal library user used lines)
-  pub query : (c : ℕ) → Refuses queryNumbers (Blames library (take used user)) (queryRefusal library user used c)
+      → Refuses replace_numbers (BlamesEdit library user used (replaced_sheet library (take used user) c g)) (replace_refusal library user used c g lines scratch)
+  pub withdraw : (lines : ℕ) → Refuses withdraw_numbers (Blames library (take used user)) (withdraw_refusal library user used lines)
+  pub query : (c : ℕ) → Refuses query_numbers (Blames library (take used user)) (query_refusal library user used c)
 
 abbrev pub RefusalsHold : Type 0
 RefusalsHold = (library user : List ℕ) (used : ℕ) → Refusals library user used
@@ -142,22 +142,22 @@ RefusalsHold = (library user : List ℕ) (used : ℕ) → Refusals library user 
 
 abbrev pub NewSheets : Type 0
 NewSheets =
-    (library user : List ℕ) (used : ℕ) → presentRefusal library user used ≡ none → (g : List ℕ) → T (wholeGroup g)
-    → (sheetRefusal library (addedSheet (take used user) g) ≡ newRefusal library (addedSheet (take used user) g))
-    × ((c : ℕ) → sheetRefusal library (replacedSheet library (take used user) c g) ≡ newRefusal library (replacedSheet library (take used user) c g))
+    (library user : List ℕ) (used : ℕ) → present_refusal library user used ≡ none → (g : List ℕ) → T (whole_group g)
+    → (sheet_refusal library (added_sheet (take used user) g) ≡ new_refusal library (added_sheet (take used user) g))
+    × ((c : ℕ) → sheet_refusal library (replaced_sheet library (take used user) c g) ≡ new_refusal library (replaced_sheet library (take used user) c g))
 
 -- ---- document 02, C-12: the sheets that a withdrawal leaves are accepted, where no other class names the last one
 
 abbrev pub WithdrawnSheets : Type 0
 WithdrawnSheets =
-    (library user : List ℕ) → sheetRefusal library user ≡ none → emptyRefusal user ≡ none → namedRefusal library user ≡ none
-    → sheetRefusal library (withdrawnSheet user) ≡ none
+    (library user : List ℕ) → sheet_refusal library user ≡ none → empty_refusal user ≡ none → named_refusal library user ≡ none
+    → sheet_refusal library (withdrawn_sheet user) ≡ none
 
 -- the test for 17 is the request's sentence, "another class names the last one"
 abbrev pub NamedRight : Type 0
 NamedRight =
     (library user : List ℕ) → 1 ≤ total library user
-    → (namedRefusal library user ≡ none) ↔ ((c : ℕ) → References (group library user c) (lastClass library user) → c ≡ lastClass library user)
+    → (named_refusal library user ≡ none) ↔ ((c : ℕ) → References (group library user c) (last_class library user) → c ≡ last_class library user)
 
 -- ---- document 02, C-13: "From now on kinds inside a group never fall .. in both sheets"
 
@@ -165,33 +165,33 @@ abbrev pub InOrder : List ℕ → List ℕ → Type 0
 InOrder library user = (c : ℕ) → Rising (group library user c)
 
 abbrev pub OrderHolds : Type 0
-OrderHolds = (library user : List ℕ) (used : ℕ) → presentRefusal library user used ≡ none → InOrder library (take used user)
+OrderHolds = (library user : List ℕ) (used : ℕ) → present_refusal library user used ≡ none → InOrder library (take used user)
 
 -- and 16 comes for no other reason: sheets in order, present or new, are never refused with it
 abbrev pub OrderPasses : Type 0
 OrderPasses =
     (library user : List ℕ) → InOrder library user
-    → (r : Refusal) → (sheetRefusal library user ≡ some r) ⊎ (newRefusal library user ≡ some r) → r.number ≢ 16
+    → (r : Refusal) → (sheet_refusal library user ≡ some r) ⊎ (new_refusal library user ≡ some r) → r.number ≢ 16
 
 -- ---- document 02, C-14: "the position reached should be carried along as a running value from one class to the next"
 
 -- how long the group is that some bytes begin with
-unfoldable pub firstLength : List ℕ → ℕ
-firstLength rest = length (concat (get_or (groupsOf rest) 0 []))
+unfoldable pub first_length : List ℕ → ℕ
+first_length rest = length (concat (get_or (groups_of rest) 0 []))
 
 -- the position at the i-th class: "the next is found from the bytes at or after it alone"
 unfoldable pub running : List ℕ → ℕ → ℕ
 running s zero = 0
-running s (suc i) = running s i + firstLength (drop (running s i) s)
+running s (suc i) = running s i + first_length (drop (running s i) s)
 
 -- "for each user class it is proved to be the byte where its group begins"
 pub record Carried (user : List ℕ) (used : ℕ) : Type 0 where
-  pub begins : (i : ℕ) → i ≤ classCount user → running user i ≡ groupStart user i
+  pub begins : (i : ℕ) → i ≤ class_count user → running user i ≡ group_start user i
   -- from there on stand the bytes of its group and of those after it, and they are cut into just these
-  pub stands : (i : ℕ) → i ≤ classCount user → drop (running user i) user ≡ concat (concat (drop i (groupsOf user)))
-  pub onward : (i : ℕ) → i ≤ classCount user → groupsOf (drop (running user i) user) ≡ drop i (groupsOf user)
+  pub stands : (i : ℕ) → i ≤ class_count user → drop (running user i) user ≡ concat (concat (drop i (groups_of user)))
+  pub onward : (i : ℕ) → i ≤ class_count user → groups_of (drop (running user i) user) ≡ drop i (groups_of user)
   -- after the last class it is the used length
-  pub end : running user (classCount user) ≡ used
+  pub end : running user (class_count user) ≡ used
 
 abbrev pub RunningHolds : Type 0
-RunningHolds = (library user : List ℕ) (used : ℕ) → presentRefusal library user used ≡ none → Carried (take used user) used
+RunningHolds = (library user : List ℕ) (used : ℕ) → present_refusal library user used ≡ none → Carried (take used user) used

@@ -2,8 +2,8 @@
 #![tactic(auto)]
 
 ghost use Rattle.std.specs.Prelude.{◌≡◌, ◌<◌, ◌+◌, ◌/◌, ◌^◌, min, length};
-ghost use Rattle.spec.specs.Verdicts.{verdictBytes, flatLines, flatAt};
-ghost use Rattle.verdicts.specs.Row.{lineOf, tallied, faultedIn, shared, written, flatFaulted};
+ghost use Rattle.spec.specs.Verdicts.{verdict_bytes, flat_lines, flat_at};
+ghost use Rattle.verdicts.specs.Row.{line_of, tallied, faulted_in, shared, written, flat_faulted};
 
 use records::{CLASS_LIMIT, VERDICT_BYTES};
 
@@ -36,7 +36,7 @@ fn least(a: usize, b: usize) -> usize
 
 // How many of the first n verdicts are faulted; of all, if there are fewer.
 pub fn report(row: &[Verdict], n: usize) -> usize
-    ensures { result ≡ faultedIn row.now (min n (length row.now)) }
+    ensures { result ≡ faulted_in row.now (min n (length row.now)) }
 {
     let end = least(n, row.len());
     let mut count: usize = 0;
@@ -50,8 +50,8 @@ pub fn report(row: &[Verdict], n: usize) -> usize
 
 // Line i of a flat row.
 fn line(flat: &[u8], i: usize) -> Verdict
-    requires { i < flatLines flat.now }
-    ensures { result ≡ lineOf (flatAt flat.now i) }
+    requires { i < flat_lines flat.now }
+    ensures { result ≡ line_of (flat_at flat.now i) }
 {
     Verdict {
         rule: flat[VERDICT_BYTES * i],
@@ -61,7 +61,7 @@ fn line(flat: &[u8], i: usize) -> Verdict
 
 // How many of n lines a row of structs and a flat row both have.
 fn shared(n: usize, lines: usize, bytes: usize) -> usize
-    ensures { result ≡ min (min n lines) (bytes / verdictBytes) }
+    ensures { result ≡ min (min n lines) (bytes / verdict_bytes) }
 {
     least(least(n, lines), bytes / VERDICT_BYTES)
 }
@@ -81,7 +81,7 @@ pub fn write(row: &mut [Verdict], flat: &[u8], n: usize)
 // How many of the first n lines of a flat row are faulted, counted through a row of 256 structs of the call's own. For
 // callers with plain parameters.
 pub fn faulted(flat: &[u8], n: usize) -> usize
-    ensures { result ≡ flatFaulted flat.now (shared n 256 flat.now) }
+    ensures { result ≡ flat_faulted flat.now (shared n 256 flat.now) }
 {
     let mut row = [Verdict { rule: 0, record: 0 }; CLASS_LIMIT];
     write(&mut row, flat, n);

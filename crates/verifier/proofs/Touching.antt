@@ -12,18 +12,18 @@ use borrow.Author.Tests.{eq-eqb, ne_eqb}
 use Rattle.spec.specs.Sheet.{total}
 use Rattle.view.specs.declared.Cut.{Cut}
 use Rattle.lanes.proofs.Filling.{get_d_replicate}
-use Rattle.reach.specs.Reach.{dependentRow}
+use Rattle.reach.specs.Reach.{dependent_row}
 use Rattle.verifier.specs.Changing.{touches, Touched}
-use Rattle.verifier.proofs.Replacing.{mark-at}
+use Rattle.verifier.proofs.Replacing.{mark_at}
 
 module _ (library new : List ℕ) (cut : Cut) (c : ℕ) {n : ℕ} (en : n ≡ total library new) (few : n ≤ 256) {marks : List ℕ} (em : marks ≡ replicate 256 255) where
   long : length marks ≡ 256
   long = ap length em ∙ length-replicate {A = ℕ} 256 255
 
   -- one class alone
-  pub touched-one : cut.from ≡ cut.used → Touched library new cut c (set marks c 0)
+  pub touched_one : cut.from ≡ cut.used → Touched library new cut c (set marks c 0)
   unfolding touches
-  touched-one e = record {
+  touched_one e = record {
     long = length-set marks c 0 ∙ long;
     is = λ d h. rw (eq-eqb cut.from cut.used e, touches) (at d (omega arith) (ℕ_discrete d c));
   }
@@ -33,9 +33,9 @@ module _ (library new : List ℕ) (cut : Cut) (c : ℕ) {n : ℕ} (en : n ≡ to
       at d h (no q) = rw (get_or-set_other marks c d 0 0 q, em, get_d_replicate 256 255 0 d h, ne_eqb d c q)
 
   -- all that depend on it
-  pub touched-all : (cut.from ≡ cut.used → ⊥) → {after : List ℕ} → length after ≡ length marks → after ≡ dependentRow library new c marks → Touched library new cut c after
+  pub touched_all : (cut.from ≡ cut.used → ⊥) → {after : List ℕ} → length after ≡ length marks → after ≡ dependent_row library new c marks → Touched library new cut c after
   unfolding touches
-  touched-all ne l e = record {
+  touched_all ne l e = record {
     long = l ∙ long;
-    is = λ d h. rw (ne_eqb cut.from cut.used ne, touches, e) (mark-at library new c marks en few d (omega arith));
+    is = λ d h. rw (ne_eqb cut.from cut.used ne, touches, e) (mark_at library new c marks en few d (omega arith));
   }

@@ -2,15 +2,15 @@
 -- Assumes nothing.
 use Rattle.std.specs.Prelude.{◌≡◌, Bool, true, false, List, [], ◌∷◌, ℕ, ◌+◌, ◌≤◌, ◌<◌, T, eqb, length, get_or, take}
 use Rattle.std.proofs.Math.Option.{Option, none, some}
-use Rattle.spec.specs.Lists.{firstOf, count, span}
-use Rattle.spec.specs.Sheet.{classCount, total}
-use Rattle.spec.specs.Verdicts.{userVerdict, flat, flatLines, dependsOn}
+use Rattle.spec.specs.Lists.{first_of, count, span}
+use Rattle.spec.specs.Sheet.{class_count, total}
+use Rattle.spec.specs.Verdicts.{user_verdict, flat, flat_lines, depends_on}
 use Rattle.spec.specs.Refusals as spec
 use Rattle.spec.specs.Promises.{State, Edit}
-use Rattle.groups.specs.Groups.{startOf, endOf}
+use Rattle.groups.specs.Groups.{start_of, end_of}
 use Rattle.view.specs.declared.Cut.{Cut}
 use Rattle.view.specs.View.{Sits, spliced}
-use Rattle.admit.specs.Admitting.{admitRefusal, Plain}
+use Rattle.admit.specs.Admitting.{admit_refusal, Plain}
 use Rattle.verifier.specs.declared.Found.{Found}
 use Rattle.verifier.specs.declared.Found.TheVariants.{At, Refused}
 
@@ -18,7 +18,7 @@ use Rattle.verifier.specs.declared.Found.TheVariants.{At, Refused}
 
 -- an addition, which takes nothing out, touches its class alone; a replacement the classes that depend on its class
 unfoldable pub touches : List ℕ → List ℕ → Cut → ℕ → ℕ → Bool
-touches library new cut c d = elim (eqb cut.from cut.used) [ true ↦ eqb d c | false ↦ dependsOn library new c d ]
+touches library new cut c d = elim (eqb cut.from cut.used) [ true ↦ eqb d c | false ↦ depends_on library new c d ]
 
 -- the row has 0 at just those
 pub record Touched (library new : List ℕ) (cut : Cut) (c : ℕ) (marks : List ℕ) : Type 0 where
@@ -31,31 +31,31 @@ unfoldable pub putting : List ℕ → State flat → List ℕ → Cut → ℕ �
 putting library s g cut c scratch =
     let new = spliced s.user g cut in
     record {
-      refusal = admitRefusal library s.user g new (flatLines s.verdicts) scratch;
+      refusal = admit_refusal library s.user g new (flat_lines s.verdicts) scratch;
       sheet = new;
       answer = count (touches library new cut c) (span 0 (total library new));
-      changed = λ i. touches library new cut c (classCount library + i);
-      verdict = userVerdict library new;
+      changed = λ i. touches library new cut c (class_count library + i);
+      verdict = user_verdict library new;
     }
 
 -- a cut between whole groups of an accepted sheet, and a class that is there once a group is put in
 pub record Puts (library user : List ℕ) (used : ℕ) (g : List ℕ) (cut : Cut) (c : ℕ) : Type 0 where
   pub small : length library ≤ 32768
   pub sits : Sits cut user
-  pub used-is : cut.used ≡ used
+  pub used_is : cut.used ≡ used
   pub plain : Plain library g (spliced user g cut)
-  pub there : T (spec.wholeGroup g) → c < total library (spliced user g cut)
+  pub there : T (spec.whole_group g) → c < total library (spliced user g cut)
 
 -- ---- where a class's group stands
 
-abbrev pub cutAt : List ℕ → List ℕ → ℕ → ℕ → Cut
-cutAt library sheet used c = record { from = startOf library sheet c; to = endOf library sheet c; used = used }
+abbrev pub cut_at : List ℕ → List ℕ → ℕ → ℕ → Cut
+cut_at library sheet used c = record { from = start_of library sheet c; to = end_of library sheet c; used = used }
 
-abbrev pub foundOf : Option spec.Refusal → Cut → Found
-foundOf none cut = At cut
-foundOf (some r) cut = Refused (record { number = r.number; sheet = r.sheet; byte = r.byte })
+abbrev pub found_of : Option spec.Refusal → Cut → Found
+found_of none cut = At cut
+found_of (some r) cut = Refused (record { number = r.number; sheet = r.sheet; byte = r.byte })
 
 -- the cut that takes the class out, or why there is none
 pub record CutOf (library user : List ℕ) (used c : ℕ) (found : Found) : Type 0 where
   pub is : found
-      ≡ foundOf (firstOf (spec.presentRefusal library user used ∷ spec.noUserRefusal library (take used user) c ∷ [])) (cutAt library (take used user) used c)
+      ≡ found_of (first_of (spec.present_refusal library user used ∷ spec.no_user_refusal library (take used user) c ∷ [])) (cut_at library (take used user) used c)

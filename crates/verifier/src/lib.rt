@@ -3,13 +3,13 @@
 
 ghost use Rattle.std.specs.Prelude.{◌≡◌, ◌<◌, length, take, replicate};
 ghost use Rattle.std.proofs.Math.Option.{none};
-ghost use Rattle.spec.specs.Sheet.{classCount, total};
+ghost use Rattle.spec.specs.Sheet.{class_count, total};
 ghost use Rattle.spec.specs.Promises.{Judges, Adds, Replaces, Makes};
 ghost use Rattle.spec.specs.Verdicts.{flat};
-ghost use Rattle.spec.specs.Refusals.{presentRefusal, formRefusal};
+ghost use Rattle.spec.specs.Refusals.{present_refusal, form_refusal};
 ghost use Rattle.groups.specs.Groups.{Indexed};
-ghost use Rattle.form.specs.Form.{checkedOf, outcomeAnswer};
-ghost use Rattle.verifier.specs.Answers.{judgedAnswer};
+ghost use Rattle.form.specs.Form.{checked_of, outcome_answer};
+ghost use Rattle.verifier.specs.Answers.{judged_answer};
 ghost use Rattle.verifier.specs.Changing.{Touched, Puts, putting, CutOf};
 
 use admit::{admit, short};
@@ -43,7 +43,7 @@ pub fn judge<'a>(
     scratch: &mut [u8],
 ) -> Judged
     ensures { Judges flat library.now user.now used verdicts.old scratch.old
-        (judgedAnswer result) verdicts.new scratch.new }
+        (judged_answer result) verdicts.new scratch.new }
 {
     let mut starts = [0u16; CLASS_LIMIT];
     let mut memo = [UNASKED; CLASS_LIMIT];
@@ -78,7 +78,7 @@ fn touch<'a>(
     marks: &mut [u8],
 )
     requires indexed { Indexed library.now user.now classes.library classes.all starts.now }
-    requires accepted { formRefusal library.now user.now ≡ none }
+    requires accepted { form_refusal library.now user.now ≡ none }
     requires there { (class < classes.all) × (marks.old ≡ replicate 256 255) }
     ensures { Touched library.now user.now cut class marks.new }
 {
@@ -105,7 +105,7 @@ fn change<'a>(
     ensures { Makes flat
         (putting library.now (record { user = user.old; used = used.old; verdicts = verdicts.old })
         group.now cut class (length scratch.old))
-        (record { user = user.old; used = used.old; verdicts = verdicts.old }) scratch.old (outcomeAnswer result)
+        (record { user = user.old; used = used.old; verdicts = verdicts.old }) scratch.old (outcome_answer result)
         (record { user = user.new; used = used.new; verdicts = verdicts.new }) scratch.new }
 {
     let mut starts = [0u16; CLASS_LIMIT];
@@ -140,8 +140,8 @@ fn change<'a>(
 
 // Whether the present sheets are accepted: the rows that this fills are not kept.
 fn accepted<'a>(library: &'a [u8], user: &'a [u8], used: usize) -> Checked
-    ensures { result ≡ checkedOf (presentRefusal library.now user.now used)
-        (classCount library.now) (total library.now (take used user.now)) }
+    ensures { result ≡ checked_of (present_refusal library.now user.now used)
+        (class_count library.now) (total library.now (take used user.now)) }
 {
     let mut starts = [0u16; CLASS_LIMIT];
     let mut memo = [UNASKED; CLASS_LIMIT];
@@ -158,7 +158,7 @@ pub fn add<'a>(
     scratch: &mut [u8],
 ) -> Outcome
     ensures { Adds flat library.now group.now
-        (record { user = user.old; used = used.old; verdicts = verdicts.old }) scratch.old (outcomeAnswer result)
+        (record { user = user.old; used = used.old; verdicts = verdicts.old }) scratch.old (outcome_answer result)
         (record { user = user.new; used = used.new; verdicts = verdicts.new }) scratch.new }
 {
     let size = *used;
@@ -223,7 +223,7 @@ pub fn replace<'a>(
     scratch: &mut [u8],
 ) -> Outcome
     ensures { Replaces flat library.now class group.now
-        (record { user = user.old; used = used.old; verdicts = verdicts.old }) scratch.old (outcomeAnswer result)
+        (record { user = user.old; used = used.old; verdicts = verdicts.old }) scratch.old (outcome_answer result)
         (record { user = user.new; used = used.new; verdicts = verdicts.new }) scratch.new }
 {
     let size = *used;

@@ -23,37 +23,37 @@ module _ (u g : List ℕ) (cut : Cut) (h : Fits cut u g) where
   abbrev tail : List ℕ
   tail = drop cut.to (take cut.used u)
 
-  head-length : length (take cut.from u) ≡ cut.from
-  head-length = simp length-take (omega (arith, h.ordered, h.within, h.there))
+  head_length : length (take cut.from u) ≡ cut.from
+  head_length = simp length-take (omega (arith, h.ordered, h.within, h.there))
 
   pub in_head : (i : ℕ) → i < cut.from → get_or u i 0 ≡ get_or (spliced u g cut) i 0
   unfolding spliced
-  in_head i l = rw (get_or-append head (g ++ tail) 0 i (omega (arith, head-length)), get_or-take cut.from u i 0 l)
+  in_head i l = rw (get_or-append head (g ++ tail) 0 i (omega (arith, head_length)), get_or-take cut.from u i 0 l)
 
   pub in_group : (i k : ℕ) → cut.from + k ≡ i → k < length g → get_or g k 0 ≡ get_or (spliced u g cut) i 0
   unfolding spliced
   in_group i k e l =
-      let m : i - length head ≡ k = omega (arith, head-length) in
-      rw (get_d_after head (g ++ tail) i (omega (arith, head-length)), m, get_or-append g tail 0 k l)
+      let m : i - length head ≡ k = omega (arith, head_length) in
+      rw (get_d_after head (g ++ tail) i (omega (arith, head_length)), m, get_or-append g tail 0 k l)
 
   pub in_tail : (i k : ℕ) → cut.from + length g + k ≡ i → cut.to + k < cut.used → get_or u (cut.to + k) 0 ≡ get_or (spliced u g cut) i 0
   unfolding spliced
   in_tail i k e l =
-      let w : i - length head - length g ≡ k = omega (arith, head-length) in
-      rw (get_d_after head (g ++ tail) i (omega (arith, head-length)), get_d_after g tail (i - length head) (omega (arith, head-length)), w)
+      let w : i - length head - length g ≡ k = omega (arith, head_length) in
+      rw (get_d_after head (g ++ tail) i (omega (arith, head_length)), get_d_after g tail (i - length head) (omega (arith, head_length)), w)
       (rw (get_or-drop cut.to (take cut.used u) k 0, get_or-take cut.used u (cut.to + k) 0 l))
 
-  pub length-spliced : length (spliced u g cut) ≡ cut.from + length g + (cut.used - cut.to)
+  pub length_spliced : length (spliced u g cut) ≡ cut.from + length g + (cut.used - cut.to)
   unfolding spliced
-  length-spliced =
+  length_spliced =
       simp (length-append, length-take, length-drop) (omega (arith, h.ordered, h.within, h.there))
 
   -- bytes before the cut are the buffer's
-  pub part-in-head : (from to : ℕ) → from ≤ to → to ≤ cut.from → take (to - from) (drop from u) ≡ take (to - from) (drop from (spliced u g cut))
-  part-in-head from to o l =
+  pub part_in_head : (from to : ℕ) → from ≤ to → to ≤ cut.from → take (to - from) (drop from u) ≡ take (to - from) (drop from (spliced u g cut))
+  part_in_head from to o l =
       let n : ℕ = to - from in
       let a : length (take n (drop from u)) ≡ n = length-take-le n (drop from u) (omega (arith, length-drop from u, h.ordered, h.within, h.there)) in
-      let b : length (take n (drop from (spliced u g cut))) ≡ n = length-take-le n (drop from (spliced u g cut)) (omega (arith, length-drop from (spliced u g cut), length-spliced)) in
+      let b : length (take n (drop from (spliced u g cut))) ≡ n = length-take-le n (drop from (spliced u g cut)) (omega (arith, length-drop from (spliced u g cut), length_spliced)) in
       ext_get_or 0 _ _ (a ∙ sym b) (λ i k.
       let m : i < n = omega arith in
       get_or-take n (drop from u) i 0 m
@@ -67,8 +67,8 @@ pub plain_fits : (u : List ℕ) (n : ℕ) → n ≤ length u → Fits (record { 
 plain_fits u n h = record { ordered = omega arith; within = omega arith; there = h; seams = unfold Seamed in inl (refl, refl) }
 
 -- a whole group put between whole groups
-pub sits-fits : {u g : List ℕ} {cut : Cut} → Sits cut u → IsGroup g → Fits cut u g
-sits-fits s w = record { ordered = s.ordered; within = s.within; there = s.there; seams = unfold Seamed in inr (s.around, w) }
+pub sits_fits : {u g : List ℕ} {cut : Cut} → Sits cut u → IsGroup g → Fits cut u g
+sits_fits s w = record { ordered = s.ordered; within = s.within; there = s.there; seams = unfold Seamed in inr (s.around, w) }
 
 -- a whole part with no group: the used bytes
 pub plain : (u : List ℕ) (n : ℕ) → spliced u [] (record { from = n; to = n; used = n }) ≡ take n u

@@ -14,8 +14,8 @@ pub record Around (cut : Cut) (user : List ℕ) : Type 0 where
   pub later : List (List ℕ)
   pub before : take cut.from user ≡ concat earlier
   pub after : drop cut.to (take cut.used user) ≡ concat later
-  pub earlier-whole : All IsGroup earlier
-  pub later-whole : All IsGroup later
+  pub earlier_whole : All IsGroup earlier
+  pub later_whole : All IsGroup later
 
 -- the cut lies in the used bytes, and those in the buffer; whole groups stand around it
 pub record Sits (cut : Cut) (user : List ℕ) : Type 0 where

@@ -4,7 +4,7 @@
 
 ghost use Rattle.std.specs.Prelude.{◌≡◌, ℕ, ◌<◌, length};
 ghost use Rattle.spec.specs.Record.{u16};
-ghost use Rattle.spec.specs.Sheet.{Group, group as groupOf, classRecord};
+ghost use Rattle.spec.specs.Sheet.{Group, group as group_of, class_record};
 ghost use Rattle.records.specs.Records.{Carries};
 ghost use Rattle.view.specs.View.{Fits, spliced, Views};
 
@@ -44,7 +44,7 @@ pub fn view_bytes<'a>(
     c: usize,
 ) -> &'a [u8]
     ghost g: { ℕ → Group }
-    requires groups { groupOf library.now (spliced user.now group.now view.cut) ≡ g }
+    requires groups { group_of library.now (spliced user.now group.now view.cut) ≡ g }
     requires views { Views view library.now user.now group.now starts.now }
     requires there { c < view.classes.all }
     ensures { Carries result.now (g c) }
@@ -87,10 +87,10 @@ pub fn view_word<'a>(
     j: usize,
 ) -> u16
     ghost g: { ℕ → Group }
-    requires groups { groupOf library.now (spliced user.now group.now view.cut) ≡ g }
+    requires groups { group_of library.now (spliced user.now group.now view.cut) ≡ g }
     requires views { Views view library.now user.now group.now starts.now }
     requires there { (c < view.classes.all) × (j < 12) }
-    ensures { result ≡ u16 (classRecord (g c)) j }
+    ensures { result ≡ u16 (class_record (g c)) j }
 {
     word_in(view_bytes(library, user, group, starts, view, c), j)
 }

@@ -2,12 +2,12 @@
 #![tactic(auto)]
 
 ghost use Rattle.std.specs.Prelude.{◌≡◌, ◌+◌, ◌<◌};
-ghost use Rattle.spec.specs.Refusals.{wholeGroup};
+ghost use Rattle.spec.specs.Refusals.{whole_group};
 
 use records::{CLASS, KIND_AT, whole_length, word_in};
 
 pub fn whole_group(group: &[u8]) -> bool
-    ensures { result ≡ wholeGroup group.now }
+    ensures { result ≡ whole_group group.now }
 {
     let mut at = whole_length(group, 0);
     if at == 0 {

@@ -8,17 +8,17 @@ use lib.Dec.{eqb}
 use lib.ListN.{length}
 use Rattle.spec.specs.Lists.{any, elem}
 use Rattle.spec.specs.Record.{references}
-use Rattle.spec.specs.Sheet.{Group, groupReferences}
-use Rattle.theory.proofs.Somewhere.{any-gather}
+use Rattle.spec.specs.Sheet.{Group, group_references}
+use Rattle.theory.proofs.Somewhere.{any_gather}
 use Rattle.records.specs.Records.{between, Carries}
 
-abbrev pub recordNames : ℕ → List ℕ → Bool
-recordNames t r = elem t (references r)
+abbrev pub record_names : ℕ → List ℕ → Bool
+record_names t r = elem t (references r)
 
-pub class-names : (t : ℕ) (h : Group) → elem t (groupReferences h) ≡ any (recordNames t) h
-unfolding elem groupReferences
-class-names t h = any-gather (eqb t) references h
+pub class_names : (t : ℕ) (h : Group) → elem t (group_references h) ≡ any (record_names t) h
+unfolding elem group_references
+class_names t h = any_gather (eqb t) references h
 
 -- the class's bytes are its records
-pub bytes-name : {bytes : List ℕ} {h : Group} → Carries bytes h → (t : ℕ) {b : Bool} → b ≡ elem t (groupReferences (between bytes 0 (length bytes))) → b ≡ elem t (groupReferences h)
-bytes-name k t e = e ∙ ap (λ (h : Group). elem t (groupReferences h)) k.records
+pub bytes_name : {bytes : List ℕ} {h : Group} → Carries bytes h → (t : ℕ) {b : Bool} → b ≡ elem t (group_references (between bytes 0 (length bytes))) → b ≡ elem t (group_references h)
+bytes_name k t e = e ∙ ap (λ (h : Group). elem t (group_references h)) k.records

@@ -3,13 +3,13 @@
 
 ghost use Rattle.std.specs.Prelude.{◌≡◌, ℕ, ◌≤◌, ◌<◌, length, take, replicate};
 ghost use Rattle.spec.specs.Lists.{any, elem, span};
-ghost use Rattle.spec.specs.Sheet.{Group, group as groupOf, groupReferences};
-ghost use Rattle.spec.specs.Refusals.{withdrawRefusal};
+ghost use Rattle.spec.specs.Sheet.{Group, group as group_of, group_references};
+ghost use Rattle.spec.specs.Refusals.{withdraw_refusal};
 ghost use Rattle.spec.specs.Verdicts.{flat};
 ghost use Rattle.spec.specs.Promises.{Withdraws};
 ghost use Rattle.records.specs.Records.{between, AtRecord};
 ghost use Rattle.groups.specs.Groups.{Indexed};
-ghost use Rattle.form.specs.Form.{Checks, outcomeAnswer};
+ghost use Rattle.form.specs.Form.{Checks, outcome_answer};
 
 use edit::clear;
 pub use form::Outcome;
@@ -22,7 +22,7 @@ use records::{CLASS_LIMIT, VERDICT_BYTES, wide, word_in};
 fn class_names(bytes: &[u8], t: usize) -> bool
     requires at_record { AtRecord bytes.now (length bytes.now) 0 }
     requires number { t < 65535 }
-    ensures { result ≡ elem t (groupReferences (between bytes.now 0 (length bytes.now))) }
+    ensures { result ≡ elem t (group_references (between bytes.now 0 (length bytes.now))) }
 {
     let mut at = 0;
     while at < bytes.len() {
@@ -43,10 +43,10 @@ fn last_named<'a>(
     last: usize,
 ) -> bool
     ghost g: { ℕ → Group }
-    requires groups { groupOf library.now user.now ≡ g }
+    requires groups { group_of library.now user.now ≡ g }
     requires indexed { Indexed library.now user.now classes.library classes.all starts.now }
     requires there { last < classes.all }
-    ensures { result ≡ any (λ c. elem last (groupReferences (g c))) (span 0 last) }
+    ensures { result ≡ any (λ c. elem last (group_references (g c))) (span 0 last) }
 {
     let mut c = 0;
     while c < last {
@@ -68,7 +68,7 @@ fn removable<'a>(
     memo: &mut [u16],
 ) -> Checked
     requires { (length starts.old ≡ 256) × (memo.old ≡ replicate 256 65535) }
-    ensures { Checks (withdrawRefusal library.now user.now used lines)
+    ensures { Checks (withdraw_refusal library.now user.now used lines)
         library.now (take used user.now) result starts.new memo.new }
 {
     let checked = present(library, user, used, starts, memo);
@@ -97,7 +97,7 @@ pub fn withdraw<'a>(
     verdicts: &mut [u8],
 ) -> Outcome
     ensures { Withdraws flat library.now
-        (record { user = user.old; used = used.old; verdicts = verdicts.old }) (outcomeAnswer result)
+        (record { user = user.old; used = used.old; verdicts = verdicts.old }) (outcome_answer result)
         (record { user = user.new; used = used.new; verdicts = verdicts.new }) }
 {
     let mut starts = [0u16; CLASS_LIMIT];

@@ -2,7 +2,7 @@
 use Rattle.std.proofs.Common.{not, ap, arith}
 use Rattle.spec.specs.Record.{REFERS}
 use Rattle.records.proofs.Positions.{room, room_of}
-use Rattle.breaks.proofs.Referring.{refers-other, member-open, class-there, member-room, member_is}
+use Rattle.breaks.proofs.Referring.{refers_other, member_open, class_there, member_room, member_is}
 use Rattle.breaks.proofs.refers_forbidden.Goals as goal
 
 pub overflow_add-at : goal.overflow_add-at
@@ -12,7 +12,7 @@ pub word_in-requires : goal.word_in-requires
 word_in-requires g c = omega (arith, room c.requires.1.1.0)
 
 pub returns-then-word_in-ne-REFERS : goal.returns-then-word_in-ne-REFERS
-returns-then-word_in-ne-REFERS g c = refers-other c.requires.1.1.0 c.word_in.ensures _ c.if-word_in-ne-REFERS.true
+returns-then-word_in-ne-REFERS g c = refers_other c.requires.1.1.0 c.word_in.ensures _ c.if-word_in-ne-REFERS.true
 
 pub overflow_add-at-2 : goal.overflow_add-at-2
 overflow_add-at-2 g c = omega (arith, room c.requires.1.1.0)
@@ -22,7 +22,7 @@ word_in-requires-2 g c = omega (arith, room c.requires.1.1.0)
 
 pub returns-then-not-partial : goal.returns-then-not-partial
 returns-then-not-partial g c =
-    member-open c.requires.1.1.0 c.word_in.ensures c.if-word_in-ne-REFERS.false c.requires.1.1.1.0 c.wide-d.ensures.0 c.word_in-2.ensures c.requires.1.1.1.1.1
+    member_open c.requires.1.1.0 c.word_in.ensures c.if-word_in-ne-REFERS.false c.requires.1.1.1.0 c.wide-d.ensures.0 c.word_in-2.ensures c.requires.1.1.1.1.1
     c.partial.ensures (ap not c.if-not-partial.true)
 
 pub overflow_add-at-3 : goal.overflow_add-at-3
@@ -36,7 +36,7 @@ class_bytes-there-requires g c = (
   c.requires.0,
   (
     c.requires.1.0,
-    class-there c.requires.1.1.0 c.word_in.ensures c.if-word_in-ne-REFERS.false c.requires.1.1.1.0 c.wide-d.ensures.0 c.word_in-2.ensures,
+    class_there c.requires.1.1.0 c.word_in.ensures c.if-word_in-ne-REFERS.false c.requires.1.1.1.0 c.wide-d.ensures.0 c.word_in-2.ensures,
   ),
 )
 
@@ -45,7 +45,7 @@ overflow_add-m g c =
     omega (
       arith,
       c.class_bytes-there.ensures.place.small,
-      member-room c.requires.1.1.0 c.word_in.ensures c.if-word_in-ne-REFERS.false c.requires.1.1.1.0 c.wide-d.ensures.0 c.word_in-2.ensures
+      member_room c.requires.1.1.0 c.word_in.ensures c.if-word_in-ne-REFERS.false c.requires.1.1.1.0 c.wide-d.ensures.0 c.word_in-2.ensures
           c.class_bytes-there.ensures c.wide-i.ensures.0 c.word_in-3.ensures c.nth_in-m.ensures,
     )
 
@@ -53,7 +53,7 @@ pub word_in-requires-4 : goal.word_in-requires-4
 word_in-requires-4 g c =
     omega (
       arith,
-      member-room c.requires.1.1.0 c.word_in.ensures c.if-word_in-ne-REFERS.false c.requires.1.1.1.0 c.wide-d.ensures.0 c.word_in-2.ensures
+      member_room c.requires.1.1.0 c.word_in.ensures c.if-word_in-ne-REFERS.false c.requires.1.1.1.0 c.wide-d.ensures.0 c.word_in-2.ensures
           c.class_bytes-there.ensures c.wide-i.ensures.0 c.word_in-3.ensures c.nth_in-m.ensures,
     )
 

@@ -1,5 +1,5 @@
 -- `fingerprints::met`: the entries from i on decide, where those before it have not.
-use Rattle.fingerprints.proofs.Rows.{meet-end, meets, passes}
+use Rattle.fingerprints.proofs.Rows.{meet_end, meets, passes}
 use Rattle.fingerprints.proofs.met.Goals as goal
 use Rattle.fingerprints.proofs.met.Goals.{then-row-i, else-row-i}
 
@@ -13,4 +13,4 @@ loop-i-preserved c =
     ]
 
 pub returns : goal.returns
-returns c = meet-end c.loop-i.invariant c.loop-i-test.false
+returns c = meet_end c.loop-i.invariant c.loop-i-test.false

@@ -1,11 +1,11 @@
 -- `flat::marked`.
 use borrow.Author.Tests.{eq-eqb, ne_eqb}
-use Rattle.flat.proofs.Counting.{count-start, count_no, count_yes, count-end, marked-is}
+use Rattle.flat.proofs.Counting.{count_start, count_no, count_yes, count_end, marked_is}
 use Rattle.flat.proofs.marked.Goals as goal
 use Rattle.flat.proofs.marked.Goals.{then-marks-i-eq0, else-marks-i-eq0}
 
 pub loop-i-init : goal.loop-i-init
-loop-i-init c = count-start _ _
+loop-i-init c = count_start _ _
 
 pub loop-i-preserved : goal.loop-i-preserved
 loop-i-preserved c =
@@ -15,4 +15,4 @@ loop-i-preserved c =
     ]
 
 pub returns : goal.returns
-returns c = marked-is _ _ (count-end c.loop-i.invariant c.loop-i-test.false)
+returns c = marked_is _ _ (count_end c.loop-i.invariant c.loop-i-test.false)

@@ -1,17 +1,17 @@
 -- The CLASS record comes first in the class's bytes, and is longer than the place read.
 use Rattle.std.proofs.Common.{◌∙◌, arith}
-use Rattle.records.proofs.Carried.{class-within, class-word-in}
-use Rattle.groups.proofs.Held.{class-long}
+use Rattle.records.proofs.Carried.{class_within, class_word_in}
+use Rattle.groups.proofs.Held.{class_long}
 use Rattle.groups.proofs.class_word.Goals as goal
 
 pub word_in-requires : goal.word_in-requires
 word_in-requires g c =
     let p = c.requires in
-    let long = rw p.0 at (class-long p.1.0 p.1.1.0) in
-    omega (arith, class-within c.class_bytes.ensures long)
+    let long = rw p.0 at (class_long p.1.0 p.1.1.0) in
+    omega (arith, class_within c.class_bytes.ensures long)
 
 pub returns : goal.returns
 returns g c =
     let p = c.requires in
-    let long = rw p.0 at (class-long p.1.0 p.1.1.0) in
-    c.word_in.ensures ∙ class-word-in c.class_bytes.ensures long _ p.1.1.1
+    let long = rw p.0 at (class_long p.1.0 p.1.1.0) in
+    c.word_in.ensures ∙ class_word_in c.class_bytes.ensures long _ p.1.1.1

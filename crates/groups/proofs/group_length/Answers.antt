@@ -1,6 +1,6 @@
 -- The second CLASS record stands behind the first group.
-use Rattle.groups.proofs.Sheets.{group-length}
+use Rattle.groups.proofs.Sheets.{group_length}
 use Rattle.groups.proofs.group_length.Goals as goal
 
 pub returns : goal.returns
-returns c = group-length c.requires c.nth_in.ensures
+returns c = group_length c.requires c.nth_in.ensures

@@ -1,8 +1,8 @@
 -- The code of the answer, by its variants.
 use Rattle.std.proofs.Common.{refl}
-use Rattle.kerdzhusi.specs.Codes.{plainValue, replyOf}
+use Rattle.kerdzhusi.specs.Codes.{plain_value, reply_of}
 use Rattle.kerdzhusi.proofs.outcome.Goals as goal
 
 pub returns-in-Fine : goal.returns-in-Fine
-unfolding replyOf plainValue
+unfolding reply_of plain_value
 returns-in-Fine c = rw c.in-Fine.is refl

@@ -1,27 +1,27 @@
 use Rattle.std.proofs.Common.{◌≡◌, ◌+◌, ◌≤◌, ◌<◌, length, arith}
-use Rattle.spec.specs.Sheet.{classCount}
+use Rattle.spec.specs.Sheet.{class_count}
 use Rattle.theory.specs.Claims.{running}
 use Rattle.groups.specs.Sheets.{UserSheet}
 use Rattle.text.proofs.Texts.{same_text}
-use Rattle.groups.proofs.Sheets.{library-place, library-count, user-sheet, at-group, further, class-left}
-use Rattle.listing_text.proofs.ClassText.{line-is, lines_start, begins-there, lines_next, lines_end}
+use Rattle.groups.proofs.Sheets.{library_place, library_count, user_sheet_lem, at_group, further, class_left}
+use Rattle.listing_text.proofs.ClassText.{line_is, lines_start, begins_there, lines_next, lines_end}
 use Rattle.listing_text.proofs.class_lines.Goals as goal
 use Rattle.listing_text.proofs.class_lines.Goals.{After-count_in-nlib, In-loop-start, After-group_length-start}
 
 -- ---- the sheets
 
-library-is : (c : After-count_in-nlib) → c.count_in-nlib.result ≡ classCount c.args.library.now
-library-is c = library-count c.args.library.now c.args.sheet.now c.requires.accepted c.count_in-nlib.ensures
+library_is : (c : After-count_in-nlib) → c.count_in-nlib.result ≡ class_count c.args.library.now
+library_is c = library_count c.args.library.now c.args.sheet.now c.requires.accepted c.count_in-nlib.ensures
 
-sheet-is : (c : After-count_in-nlib) → UserSheet c.count_in-nlib.result c.args.sheet.now
-sheet-is c = user-sheet c.args.library.now c.args.sheet.now c.requires.accepted (library-is c)
+sheet_is : (c : After-count_in-nlib) → UserSheet c.count_in-nlib.result c.args.sheet.now
+sheet_is c = user_sheet_lem c.args.library.now c.args.sheet.now c.requires.accepted (library_is c)
 
 -- a class begins at the position
 module _ (c : In-loop-start) (u : UserSheet c.count_in-nlib.result c.args.sheet.now) where
-  class-there : c.loop-start.i < classCount c.args.sheet.now
-  class-there = class-left u c.loop-start.i c.loop-start.invariant.high c.loop-start.invariant.reached c.loop-start-test.true
+  class_there : c.loop-start.i < class_count c.args.sheet.now
+  class_there = class_left u c.loop-start.i c.loop-start.invariant.high c.loop-start.invariant.reached c.loop-start-test.true
 
-next : (c : After-group_length-start) → UserSheet c.count_in-nlib.result c.args.sheet.now → c.loop-start.i < classCount c.args.sheet.now
+next : (c : After-group_length-start) → UserSheet c.count_in-nlib.result c.args.sheet.now → c.loop-start.i < class_count c.args.sheet.now
     → (c.loop-start.start + c.group_length-start.result ≡ running c.args.sheet.now (c.loop-start.i + 1)) × (1 ≤ c.group_length-start.result)
     × (c.loop-start.start + c.group_length-start.result ≤ length c.args.sheet.now)
 next c u h = further u c.loop-start.i h c.loop-start.invariant.reached c.group_length-start.ensures
@@ -29,54 +29,54 @@ next c u h = further u c.loop-start.i h c.loop-start.invariant.reached c.group_l
 -- ---- the needs
 
 pub count_in-nlib-requires : goal.count_in-nlib-requires
-count_in-nlib-requires c = library-place c.args.library.now c.args.sheet.now c.requires.accepted
+count_in-nlib-requires c = library_place c.args.library.now c.args.sheet.now c.requires.accepted
 
 pub loop-start-init : goal.loop-start-init
 loop-start-init c = lines_start
 
 pub class_line-then-requires-clause-user_sheet : goal.class_line-then-requires-clause-user_sheet
-class_line-then-requires-clause-user_sheet c = sheet-is (goal.at.class_line-then-requires-clause-user_sheet c).After-count_in-nlib
+class_line-then-requires-clause-user_sheet c = sheet_is (goal.at.class_line-then-requires-clause-user_sheet c).After-count_in-nlib
 
 pub class_line-then-requires-clause-group : goal.class_line-then-requires-clause-group
 class_line-then-requires-clause-group c =
     let k = goal.at.class_line-then-requires-clause-group c in
-    let u = sheet-is k.After-count_in-nlib in
-    (class-there k.In-loop-start u, begins-there u c.loop-start.invariant)
+    let u = sheet_is k.After-count_in-nlib in
+    (class_there k.In-loop-start u, begins_there u c.loop-start.invariant)
 
 pub class_line-then-requires-clause-line : goal.class_line-then-requires-clause-line
 class_line-then-requires-clause-line c =
     let k = goal.at.class_line-then-requires-clause-line c in
-    let u = sheet-is k.After-count_in-nlib in
-    let h = class-there k.In-loop-start u in
+    let u = sheet_is k.After-count_in-nlib in
+    let h = class_there k.In-loop-start u in
     (omega (arith, c.requires.row_holds.long, h, u.few), omega (arith, c.loop-start.invariant.short, h, u.few, c.requires.room))
 
 pub group_length-start-requires : goal.group_length-start-requires
 group_length-start-requires c =
-    let u = sheet-is (goal.at.group_length-start-requires c).After-count_in-nlib in at-group u c.loop-start.i (begins-there u c.loop-start.invariant)
+    let u = sheet_is (goal.at.group_length-start-requires c).After-count_in-nlib in at_group u c.loop-start.i (begins_there u c.loop-start.invariant)
 
 pub overflow_add-start : goal.overflow_add-start
 overflow_add-start c =
     let k = goal.at.overflow_add-start c in
-    let u = sheet-is k.After-count_in-nlib in omega (arith, next k.After-group_length-start u (class-there k.In-loop-start u), u.size)
+    let u = sheet_is k.After-count_in-nlib in omega (arith, next k.After-group_length-start u (class_there k.In-loop-start u), u.size)
 
 pub overflow_add-i : goal.overflow_add-i
 overflow_add-i c =
     let k = goal.at.overflow_add-i c in
-    let u = sheet-is k.After-count_in-nlib in omega (arith, class-there k.In-loop-start u, u.few)
+    let u = sheet_is k.After-count_in-nlib in omega (arith, class_there k.In-loop-start u, u.few)
 
 pub loop-start-smaller : goal.loop-start-smaller
 loop-start-smaller c =
     let k = goal.at.loop-start-smaller c in
-    let u = sheet-is k.After-count_in-nlib in omega (arith, next k.After-group_length-start u (class-there k.In-loop-start u))
+    let u = sheet_is k.After-count_in-nlib in omega (arith, next k.After-group_length-start u (class_there k.In-loop-start u))
 
 pub loop-start-preserved : goal.loop-start-preserved
 loop-start-preserved c =
     let k = goal.at.loop-start-preserved c in
-    let u = sheet-is k.After-count_in-nlib in
-    let h = class-there k.In-loop-start u in
+    let u = sheet_is k.After-count_in-nlib in
+    let h = class_there k.In-loop-start u in
     lines_next u c.loop-start.invariant h
-    (same_text (line-is h c.args.library.now (library-is k.After-count_in-nlib) c.requires.row_holds) c.class_line-then.ensures)
+    (same_text (line_is h c.args.library.now (library_is k.After-count_in-nlib) c.requires.row_holds) c.class_line-then.ensures)
     (next k.After-group_length-start u h).0
 
 pub returns : goal.returns
-returns c = lines_end (sheet-is (goal.at.returns c).After-count_in-nlib) c.loop-start.invariant (omega (arith, c.loop-start-test.false))
+returns c = lines_end (sheet_is (goal.at.returns c).After-count_in-nlib) c.loop-start.invariant (omega (arith, c.loop-start-test.false))

@@ -2,7 +2,7 @@
 use Rattle.std.proofs.Common.{◌∙◌, arith}
 use Rattle.spec.specs.Record.{CLASS, FIELD, LOCAL}
 use Rattle.records.proofs.Positions.{room, room_of}
-use Rattle.named.proofs.Reading.{first-class, first_field, first-local, first_member, first-target}
+use Rattle.named.proofs.Reading.{first_class_lem, first_field, first_local, first_member, first_target}
 use Rattle.named.proofs.any_named.Goals as goal
 
 pub overflow_add-at : goal.overflow_add-at
@@ -31,7 +31,7 @@ pub word_in-requires : goal.word_in-requires
 word_in-requires c = omega (arith, room_of c.requires.sized c.word_in-kind.ensures CLASS c.if-kind-eq-CLASS.true)
 
 pub returns-then-kind-eq-CLASS : goal.returns-then-kind-eq-CLASS
-returns-then-kind-eq-CLASS c = first-class c.requires.sized c.word_in-kind.ensures c.if-kind-eq-CLASS.true (c.wide.ensures.0 ∙ c.word_in.ensures)
+returns-then-kind-eq-CLASS c = first_class_lem c.requires.sized c.word_in-kind.ensures c.if-kind-eq-CLASS.true (c.wide.ensures.0 ∙ c.word_in.ensures)
 
 -- ---- a LOCAL record
 
@@ -42,7 +42,7 @@ pub type_named-requires-then-kind-eq-LOCAL : goal.type_named-requires-then-kind-
 type_named-requires-then-kind-eq-LOCAL c = (omega (arith, room_of c.requires.sized c.word_in-kind.ensures LOCAL c.if-kind-eq-LOCAL.true), c.requires.short)
 
 pub returns-then-kind-eq-LOCAL : goal.returns-then-kind-eq-LOCAL
-returns-then-kind-eq-LOCAL c = first-local c.requires.sized c.word_in-kind.ensures c.if-kind-eq-LOCAL.true c.type_named-then-kind-eq-LOCAL.ensures
+returns-then-kind-eq-LOCAL c = first_local c.requires.sized c.word_in-kind.ensures c.if-kind-eq-LOCAL.true c.type_named-then-kind-eq-LOCAL.ensures
 
 -- ---- a MEMBER record
 
@@ -59,5 +59,5 @@ word_in-requires-2 c = omega (arith, room c.requires.sized)
 
 pub returns : goal.returns
 returns c =
-    first-target c.requires.sized c.word_in-kind.ensures c.if-kind-eq-CLASS.false c.if-kind-eq-FIELD.false c.if-kind-eq-LOCAL.false c.if-kind-eq-MEMBER.false
+    first_target c.requires.sized c.word_in-kind.ensures c.if-kind-eq-CLASS.false c.if-kind-eq-FIELD.false c.if-kind-eq-LOCAL.false c.if-kind-eq-MEMBER.false
     (c.wide-2.ensures.0 ∙ c.word_in-2.ensures)

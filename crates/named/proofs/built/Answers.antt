@@ -1,7 +1,7 @@
 -- `named::built`, by the kind.
 use Rattle.std.proofs.Common.{◌∙◌, arith}
 use Rattle.records.proofs.Positions.{room}
-use Rattle.named.proofs.Reading.{builds-class, builds-none}
+use Rattle.named.proofs.Reading.{builds_class, builds_none}
 use Rattle.named.proofs.built.Goals as goal
 
 pub overflow_add-at : goal.overflow_add-at
@@ -18,7 +18,7 @@ word_in-requires-then-word_in-eq-BUILDS c = omega (arith, room c.requires.sized)
 
 pub returns-then-word_in-eq-BUILDS : goal.returns-then-word_in-eq-BUILDS
 returns-then-word_in-eq-BUILDS c =
-    builds-class c.requires.sized c.word_in.ensures c.if-word_in-eq-BUILDS.true (c.wide.ensures.0 ∙ c.word_in-then-word_in-eq-BUILDS.ensures)
+    builds_class c.requires.sized c.word_in.ensures c.if-word_in-eq-BUILDS.true (c.wide.ensures.0 ∙ c.word_in-then-word_in-eq-BUILDS.ensures)
 
 pub returns : goal.returns
-returns c = builds-none c.requires.sized c.word_in.ensures c.if-word_in-eq-BUILDS.false
+returns c = builds_none c.requires.sized c.word_in.ensures c.if-word_in-eq-BUILDS.false

@@ -2,12 +2,12 @@
 use Rattle.std.proofs.Common.{◌∙◌, arith}
 use Rattle.spec.specs.Record.{CLASS}
 use Rattle.records.proofs.Positions.{room, room_of}
-use Rattle.named.specs.Named.{secondNamed}
-use Rattle.named.proofs.Reading.{second-class, second_none}
+use Rattle.named.specs.Named.{second_named}
+use Rattle.named.proofs.Reading.{second_class, second_none}
 use Rattle.named.proofs.second_named.Goals as goal
 
 pub returns-then-builds : goal.returns-then-builds
-unfolding secondNamed
+unfolding second_named
 returns-then-builds c = rw c.if-builds.true
 
 pub overflow_add-at : goal.overflow_add-at
@@ -26,7 +26,7 @@ word_in-requires-then-word_in-eq-CLASS c = omega (arith, room_of c.requires.size
 pub returns-then-word_in-eq-CLASS : goal.returns-then-word_in-eq-CLASS
 returns-then-word_in-eq-CLASS c =
     rw c.if-builds.false
-    (second-class c.requires.sized c.word_in.ensures c.if-word_in-eq-CLASS.true (c.wide.ensures.0 ∙ c.word_in-then-word_in-eq-CLASS.ensures))
+    (second_class c.requires.sized c.word_in.ensures c.if-word_in-eq-CLASS.true (c.wide.ensures.0 ∙ c.word_in-then-word_in-eq-CLASS.ensures))
 
 pub returns : goal.returns
 returns c = rw c.if-builds.false (second_none c.requires.sized c.word_in.ensures c.if-word_in-eq-CLASS.false)

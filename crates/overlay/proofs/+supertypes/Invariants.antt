@@ -1,6 +1,6 @@
 -- Each call asks lower numbers only, which the memo knows: so just the class that is asked is put into it.
 use Rattle.std.proofs.Common.{◌+◌, ◌*◌, ◌-◌, length}
-use Rattle.spec.specs.Sheet.{group as groupOf}
+use Rattle.spec.specs.Sheet.{group as group_of}
 use Rattle.overlay.proofs.Walking.{Walking}
 use Rattle.overlay.proofs.+supertypes.Given as goal
 
@@ -14,7 +14,7 @@ abbrev pub decreases-lower : goal.decreases-lower
 decreases-lower l = 3 * l.c
 
 abbrev pub invariant-interfaces-loop-at : goal.invariant-interfaces-loop-at
-invariant-interfaces-loop-at l = Walking (groupOf l.library l.user) l.c l.mine l.bytes l.initial.memo l.memo l.at l.m
+invariant-interfaces-loop-at l = Walking (group_of l.library l.user) l.c l.mine l.bytes l.initial.memo l.memo l.at l.m
 
 abbrev pub decreases-interfaces-loop-at : goal.decreases-interfaces-loop-at
 decreases-interfaces-loop-at l = length l.initial.bytes - l.at

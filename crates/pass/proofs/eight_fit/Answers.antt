@@ -7,10 +7,10 @@ use Rattle.pass.proofs.eight_fit.Goals.{After-four_in-2}
 -- the two numbers are those of the eight bytes
 read : (c : After-four_in-2) → Eight c.args.bytes.now c.args.i c.args.j c.four_in.result c.four_in-2.result
 read c = record {
-  first-inside = c.requires.0;
-  second-inside = c.requires.1;
+  first_inside = c.requires.0;
+  second_inside = c.requires.1;
   byte = λ x. omega (arith, c.type_inv.bytes x);
-  first-is = c.four_in.ensures.0;
+  first_is = c.four_in.ensures.0;
   second_is = c.four_in-2.ensures.0;
 }
 

@@ -1,6 +1,6 @@
 -- In the loop the records before `at` have passed, and the row holds their starts.
 use Rattle.std.proofs.Common.{sym, ◌∙◌, refl, arith}
-use Rattle.pass.proofs.Going.{Passed, passed, begin, ends, stops, torn-ends, class-on, other-on}
+use Rattle.pass.proofs.Going.{Passed, passed, begin, ends, stops, torn_ends, class_on, other_on}
 use Rattle.pass.proofs.first_pass.Goals as goal
 use Rattle.pass.proofs.first_pass.Goals.{Else-number-ne0, then-kind-eq-CLASS, else-kind-eq-CLASS}
 
@@ -18,7 +18,7 @@ fine c = passed _ _ _ _ _ _ (sym c.record_number-number.ensures ∙ c.if-number-
 
 pub bounds-starts-c : goal.bounds-starts-c
 bounds-starts-c c =
-    let room = (fine (goal.at.bounds-starts-c c).Else-number-ne0).class-room (sym c.word_in-kind.ensures ∙ c.if-kind-eq-CLASS.true) in
+    let room = (fine (goal.at.bounds-starts-c c).Else-number-ne0).class_room (sym c.word_in-kind.ensures ∙ c.if-kind-eq-CLASS.true) in
     omega (arith, c.loop-at.invariant.long)
 
 pub loop-at-smaller : goal.loop-at-smaller
@@ -32,13 +32,13 @@ loop-at-preserved c =
     let el = c.word_in-len.ensures in
     let ek = c.word_in-kind.ensures in
     elim c.if-kind-eq-CLASS.branch [
-      | then-kind-eq-CLASS w ↦ class-on g e z el ek refl w.if-kind-eq-CLASS.true w.starts-is w.c-is w.k-is
-      | else-kind-eq-CLASS w ↦ other-on g e z el ek refl w.if-kind-eq-CLASS.false w.starts-is w.c-is w.k-is
+      | then-kind-eq-CLASS w ↦ class_on g e z el ek refl w.if-kind-eq-CLASS.true w.starts-is w.c-is w.k-is
+      | else-kind-eq-CLASS w ↦ other_on g e z el ek refl w.if-kind-eq-CLASS.false w.starts-is w.c-is w.k-is
     ]
 
 pub returns-then-at-end : goal.returns-then-at-end
 returns-then-at-end c =
-    let e = torn-ends c.loop-at.invariant (omega arith) (omega arith) in
+    let e = torn_ends c.loop-at.invariant (omega arith) (omega arith) in
     record { answer = e.0; starts = e.1 }
 
 pub returns : goal.returns

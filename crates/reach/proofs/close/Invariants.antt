@@ -1,15 +1,15 @@
 -- `reach::close`: each sweep that changes something lowers the row's sum; after one that does not, the row is least.
 use Rattle.std.proofs.Common.{◌+◌, min}
-use Rattle.lanes.specs.Lanes.{sumOf}
+use Rattle.lanes.specs.Lanes.{sum_of}
 use Rattle.lanes.proofs.Closing.{CloseAt}
-use Rattle.reach.specs.Reach.{stepsOf, outerOf}
+use Rattle.reach.specs.Reach.{steps_of, outer_of}
 use Rattle.reach.proofs.close.Given as goal
 
 abbrev pub invariant-loop-added : goal.invariant-loop-added
-invariant-loop-added g l = CloseAt (stepsOf g.g l.builds) (outerOf g.g) l.classes.all l.lanes l.fn.row l.row l.added
+invariant-loop-added g l = CloseAt (steps_of g.g l.builds) (outer_of g.g) l.classes.all l.lanes l.fn.row l.row l.added
 
 abbrev pub decreases-loop-added : goal.decreases-loop-added
-decreases-loop-added g l = sumOf l.row + min l.added 1
+decreases-loop-added g l = sum_of l.row + min l.added 1
 
 abbrev pub ghost-sweep : goal.ghost-sweep
 ghost-sweep g a = g.g

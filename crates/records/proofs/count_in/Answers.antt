@@ -1,6 +1,6 @@
 use Rattle.std.proofs.Common.{refl, ◌∙◌, true, false, arith, eq-eqb}
 use borrow.Author.Tests.{ne_eqb}
-use Rattle.records.proofs.Between.{tiled-step, tiled-room, oneIf, counted_start, counted_step, counted-end}
+use Rattle.records.proofs.Between.{tiled_step, tiled_room, one_if, counted_start, counted_step, counted_end}
 use Rattle.records.proofs.count_in.Goals as goal
 use Rattle.records.proofs.count_in.Goals.{then-word_in-kind, else-word_in-kind}
 
@@ -8,16 +8,16 @@ pub loop-at-init : goal.loop-at-init
 loop-at-init c = counted_start _ c.requires.tiled refl c.requires.small
 
 pub word_in-requires : goal.word_in-requires
-word_in-requires c = omega (arith, tiled-room c.loop-at.invariant.tiled c.loop-at-test.true)
+word_in-requires c = omega (arith, tiled_room c.loop-at.invariant.tiled c.loop-at-test.true)
 
 pub word_in-requires-in-loop-at : goal.word_in-requires-in-loop-at
-word_in-requires-in-loop-at c = omega (arith, tiled-room c.loop-at.invariant.tiled c.loop-at-test.true)
+word_in-requires-in-loop-at c = omega (arith, tiled_room c.loop-at.invariant.tiled c.loop-at-test.true)
 
 pub loop-at-smaller : goal.loop-at-smaller
-loop-at-smaller c = omega (arith, (tiled-step c.loop-at.invariant.tiled c.loop-at-test.true).0)
+loop-at-smaller c = omega (arith, (tiled_step c.loop-at.invariant.tiled c.loop-at-test.true).0)
 
 pub loop-at-preserved : goal.loop-at-preserved
-unfolding oneIf
+unfolding one_if
 loop-at-preserved c =
     let next = counted_step c.loop-at.invariant c.loop-at-test.true (c.wide-at.ensures.0 ∙ c.word_in-in-loop-at.ensures) c.word_in.ensures in
     elim c.if-word_in-kind.branch [
@@ -26,4 +26,4 @@ loop-at-preserved c =
     ]
 
 pub returns : goal.returns
-returns c = counted-end c.loop-at.invariant c.loop-at-test.false
+returns c = counted_end c.loop-at.invariant c.loop-at-test.false

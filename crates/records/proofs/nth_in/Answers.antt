@@ -1,13 +1,13 @@
 use Rattle.std.proofs.Common.{refl, ◌∙◌, ◌+◌, ◌≤◌, length, arith}
-use Rattle.records.proofs.Between.{tiled-room}
-use Rattle.records.proofs.Walks.{walk-on}
-use Rattle.records.proofs.Nth.{seek-end, seek_found, seek-passed, seek-other}
+use Rattle.records.proofs.Between.{tiled_room}
+use Rattle.records.proofs.Walks.{walk_on}
+use Rattle.records.proofs.Nth.{seek_end, seek_found, seek_passed, seek_other}
 use Rattle.records.proofs.nth_in.Goals as goal
 use Rattle.records.proofs.nth_in.Goals.{then-word_in-kind+else-left-eq0, else-word_in-kind}
 
 -- length and kind of the record at hand can be read
 room : (c : goal.In-loop-at) → c.loop-at.at + 4 ≤ length c.args.bytes.now
-room c = tiled-room c.loop-at.invariant.place.tiled c.loop-at-test.true
+room c = tiled_room c.loop-at.invariant.place.tiled c.loop-at-test.true
 
 pub loop-at-init : goal.loop-at-init
 loop-at-init c = record { place = c.requires; rest = refl }
@@ -19,10 +19,10 @@ pub returns-then-left-eq0 : goal.returns-then-left-eq0
 returns-then-left-eq0 c = seek_found c.loop-at.invariant c.loop-at-test.true c.word_in.ensures c.if-word_in-kind.true c.if-left-eq0.true
 
 pub word_in-requires-in-loop-at : goal.word_in-requires-in-loop-at
-word_in-requires-in-loop-at c = omega (arith, tiled-room c.loop-at.invariant.place.tiled c.loop-at-test.true)
+word_in-requires-in-loop-at c = omega (arith, tiled_room c.loop-at.invariant.place.tiled c.loop-at-test.true)
 
 pub loop-at-smaller : goal.loop-at-smaller
-loop-at-smaller c = omega (arith, (walk-on c.loop-at.invariant.place c.loop-at-test.true).0)
+loop-at-smaller c = omega (arith, (walk_on c.loop-at.invariant.place c.loop-at-test.true).0)
 
 pub loop-at-preserved : goal.loop-at-preserved
 loop-at-preserved c =
@@ -30,9 +30,9 @@ loop-at-preserved c =
     let low = c.loop-at-test.true in
     let long = c.wide-at.ensures.0 ∙ c.word_in-in-loop-at.ensures in
     elim c.if-word_in-kind.branch [
-      | then-word_in-kind+else-left-eq0 w ↦ seek-passed inv low long c.word_in.ensures w.if-word_in-kind.true w.if-left-eq0.false w.left-is
-      | else-word_in-kind w ↦ seek-other inv low long c.word_in.ensures w.if-word_in-kind.false w.left-is
+      | then-word_in-kind+else-left-eq0 w ↦ seek_passed inv low long c.word_in.ensures w.if-word_in-kind.true w.if-left-eq0.false w.left-is
+      | else-word_in-kind w ↦ seek_other inv low long c.word_in.ensures w.if-word_in-kind.false w.left-is
     ]
 
 pub returns : goal.returns
-returns c = seek-end c.loop-at.invariant c.loop-at-test.false
+returns c = seek_end c.loop-at.invariant c.loop-at-test.false

@@ -1,6 +1,6 @@
 -- A length is refused for one of four reasons, else a whole record stands there.
 use Rattle.std.proofs.Common.{◌∙◌, arith}
-use Rattle.records.proofs.Lengths.{length-is, length_none}
+use Rattle.records.proofs.Lengths.{length_is, length_none}
 use Rattle.records.proofs.whole_length.Goals as goal
 
 pub returns-then-bytes-at : goal.returns-then-bytes-at
@@ -16,4 +16,4 @@ pub returns-then-left-len : goal.returns-then-left-len
 returns-then-left-len c = (length_none _ _ (λ w. omega (arith, w)), omega arith)
 
 pub returns : goal.returns
-returns c = (length-is _ _ _ (record { size = c.wide-len.ensures.0 ∙ c.word_in.ensures; four = omega arith; ends = omega arith }), omega arith)
+returns c = (length_is _ _ _ (record { size = c.wide-len.ensures.0 ∙ c.word_in.ensures; four = omega arith; ends = omega arith }), omega arith)

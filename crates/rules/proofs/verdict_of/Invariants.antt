@@ -1,6 +1,6 @@
 -- What is left of the walk finds what the whole walk finds. The measures: the rules that are left, the classes, and the bytes of the records.
 use Rattle.std.proofs.Common.{◌-◌}
-use Rattle.spec.specs.Sheet.{group as groupOf}
+use Rattle.spec.specs.Sheet.{group as group_of}
 use Rattle.rules.specs.Walk.{Kept}
 use Rattle.rules.proofs.Ascent.{left}
 use Rattle.rules.proofs.Judging.{RuleAt, ClassAt, RecordAt}
@@ -8,25 +8,25 @@ use Rattle.rules.proofs.verdict_of.Given as goal
 
 -- the groups are those of the two sheets
 abbrev pub ghost-first_class : goal.ghost-first_class
-ghost-first_class g a = groupOf a.library.now a.user.now
+ghost-first_class g a = group_of a.library.now a.user.now
 
 abbrev pub ghost-class_bytes : goal.ghost-class_bytes
-ghost-class_bytes g a = groupOf a.library.now a.user.now
+ghost-class_bytes g a = group_of a.library.now a.user.now
 
 abbrev pub ghost-breaks : goal.ghost-breaks
-ghost-breaks g a = groupOf a.library.now a.user.now
+ghost-breaks g a = group_of a.library.now a.user.now
 
 abbrev pub ghost-keep : goal.ghost-keep
-ghost-keep g a = groupOf a.library.now a.user.now
+ghost-keep g a = group_of a.library.now a.user.now
 
 abbrev pub invariant-judged : goal.invariant-judged
-invariant-judged g l = RuleAt l.classes.library (groupOf l.library l.user) l.c l.rule × Kept l.classes.library l.classes.all (groupOf l.library l.user) l.kept
+invariant-judged g l = RuleAt l.classes.library (group_of l.library l.user) l.c l.rule × Kept l.classes.library l.classes.all (group_of l.library l.user) l.kept
 
 abbrev pub decreases-judged : goal.decreases-judged
 decreases-judged g l = 11 - l.rule
 
 abbrev pub invariant-loop-t : goal.invariant-loop-t
-invariant-loop-t g l = ClassAt l.classes.library l.classes.all (groupOf l.library l.user) l.c l.rule l.t
+invariant-loop-t g l = ClassAt l.classes.library l.classes.all (group_of l.library l.user) l.c l.rule l.t
 
 abbrev pub decreases-loop-t : goal.decreases-loop-t
 decreases-loop-t g l = left l.classes.all l.c l.t

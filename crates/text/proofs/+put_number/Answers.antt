@@ -1,16 +1,16 @@
 -- `text::put_number` calls itself for the digits before the last; the number is the measure.
 use Rattle.std.proofs.Common.{◌/◌, arith}
-use Rattle.text.proofs.Digits.{decimal-length}
-use Rattle.text.proofs.Numbers.{number-one, number_more}
+use Rattle.text.proofs.Digits.{decimal_length}
+use Rattle.text.proofs.Numbers.{number_one, number_more}
 use Rattle.text.proofs.+put_number.Goals as goal
 
 pub returns-then-x-lt10 : goal.returns-then-x-lt10
 returns-then-x-lt10 t c =
-    let both = number-one c.args.out.now c.args.at c.args.x c.if-x-lt10.true c.put.ensures.answer c.put.ensures.out in
+    let both = number_one c.args.out.now c.args.at c.args.x c.if-x-lt10.true c.put.ensures.answer c.put.ensures.out in
     record { answer = both.0; out = both.1 }
 
 pub put-requires-2 : goal.put-requires-2
-put-requires-2 t c = omega (arith, decimal-length (c.args.x / 10))
+put-requires-2 t c = omega (arith, decimal_length (c.args.x / 10))
 
 pub returns : goal.returns
 returns t c =

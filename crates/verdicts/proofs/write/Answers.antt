@@ -1,15 +1,15 @@
 use Rattle.std.proofs.Common.{◌≡◌, ◌≤◌, ℕ, set, arith, ap, ◌∙◌}
 use mathlib.Core.Path.{ap₂}
-use Rattle.spec.specs.Verdicts.{flatLines}
+use Rattle.spec.specs.Verdicts.{flat_lines}
 use Rattle.verdicts.specs.Row.{shared}
-use Rattle.verdicts.proofs.Filling.{filled, filled_none, filled_more, filled-written, shared-is}
+use Rattle.verdicts.proofs.Filling.{filled, filled_none, filled_more, filled_written, shared_is}
 use Rattle.verdicts.proofs.write.Goals as goal
 
 pub loop-i-init : goal.loop-i-init
 loop-i-init c = (omega arith, filled_none c.args.flat.now _)
 
 pub line-requires : goal.line-requires
-line-requires c = omega (arith, shared-is c.args.flat.now _ _ c.shared-end.ensures)
+line-requires c = omega (arith, shared_is c.args.flat.now _ _ c.shared-end.ensures)
 
 pub loop-i-preserved : goal.loop-i-preserved
 loop-i-preserved c =
@@ -19,5 +19,5 @@ loop-i-preserved c =
 pub returns : goal.returns
 returns c =
     let row = c.args.row.now in
-    let ends : c.loop-i.i ≡ shared c.args.n _ c.args.flat.now = omega (arith, shared-is c.args.flat.now _ _ c.shared-end.ensures) in
-    c.loop-i.invariant.1 ∙ ap (filled c.args.flat.now row) ends ∙ filled-written c.args.flat.now row c.args.n
+    let ends : c.loop-i.i ≡ shared c.args.n _ c.args.flat.now = omega (arith, shared_is c.args.flat.now _ _ c.shared-end.ensures) in
+    c.loop-i.invariant.1 ∙ ap (filled c.args.flat.now row) ends ∙ filled_written c.args.flat.now row c.args.n

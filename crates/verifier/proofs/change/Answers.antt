@@ -1,34 +1,34 @@
 -- A refused group changes nothing; an admitted one is written, and what it touches is judged in the buffer.
 use Rattle.std.proofs.Common.{◌≡◌, refl, ◌∙◌, ◌-◌, ◌<◌, length, take, arith}
-use Rattle.spec.specs.Verdicts.{flatLines}
+use Rattle.spec.specs.Verdicts.{flat_lines}
 use Rattle.view.specs.View.{spliced}
 use Rattle.form.proofs.Accepting.{turned}
-use Rattle.admit.proofs.Turning.{Admitted, admit-facts, admitted-fits}
-use Rattle.form.proofs.Unrefused.{used-part}
-use Rattle.verifier.proofs.Editing.{written-sheet, put_refused, put-made}
+use Rattle.admit.proofs.Turning.{Admitted, admit_facts, admitted_fits}
+use Rattle.form.proofs.Unrefused.{used_part}
+use Rattle.verifier.proofs.Editing.{written_sheet, put_refused, put_made}
 use Rattle.verifier.proofs.change.Goals as goal
 use Rattle.verifier.proofs.change.Goals.{In-Fine, After-write}
 
 -- once it is admitted
-admitted : (c : In-Fine) → Admitted c.args.library.now c.args.user.now c.args.group.now (spliced c.args.user.now c.args.group.now c.args.cut) (flatLines c.args.verdicts.now)
+admitted : (c : In-Fine) → Admitted c.args.library.now c.args.user.now c.args.group.now (spliced c.args.user.now c.args.group.now c.args.cut) (flat_lines c.args.verdicts.now)
     (length c.args.scratch.now) c.in-Fine.classes.library c.in-Fine.classes.all c.admit-admitted.new.starts c.admit-admitted.new.memo
-unfolding flatLines
-admitted c = admit-facts c.requires.plain c.admit-admitted.ensures c.in-Fine.is
+unfolding flat_lines
+admitted c = admit_facts c.requires.plain c.admit-admitted.ensures c.in-Fine.is
 
 there : (c : In-Fine) → c.args.class < c.in-Fine.classes.all
-there c = omega (arith, c.requires.there (admitted c).whole, (admitted c).n-is)
+there c = omega (arith, c.requires.there (admitted c).whole, (admitted c).n_is)
 
 -- once it is written
 written : (c : After-write) → take (c.view_len-size.result - 0) c.write.new.user ≡ spliced c.args.user.now c.args.group.now c.args.cut
 written c =
-    used-part c.write.new.user c.view_len-size.result
-    ∙ written-sheet (spliced c.args.user.now c.args.group.now c.args.cut) c.args.user.now c.args.cut.used c.write.ensures c.view_len-size.ensures
+    used_part c.write.new.user c.view_len-size.result
+    ∙ written_sheet (spliced c.args.user.now c.args.group.now c.args.cut) c.args.user.now c.args.cut.used c.write.ensures c.view_len-size.ensures
 
 pub view_len-size-requires : goal.view_len-size-requires
-view_len-size-requires c = admitted-fits c.requires.sits (admitted c)
+view_len-size-requires c = admitted_fits c.requires.sits (admitted c)
 
 pub write-requires-clause-fits : goal.write-requires-clause-fits
-write-requires-clause-fits c = admitted-fits c.requires.sits (admitted (goal.at.write-requires-clause-fits c).In-Fine)
+write-requires-clause-fits c = admitted_fits c.requires.sits (admitted (goal.at.write-requires-clause-fits c).In-Fine)
 
 pub write-requires-clause-room : goal.write-requires-clause-room
 write-requires-clause-room c = (admitted (goal.at.write-requires-clause-room c).In-Fine).within
@@ -50,15 +50,15 @@ rejudge-requires c =
     let k = goal.at.rejudge-requires c in
     let a = admitted k.In-Fine in
     let q = written k.After-write in
-    (refl, (rw q a.indexed, (rw q a.form, (rw q a.memo-is, ((omega (arith, c.touch.ensures.long), a.room), a.enough)))))
+    (refl, (rw q a.indexed, (rw q a.form, (rw q a.memo_is, ((omega (arith, c.touch.ensures.long), a.room), a.enough)))))
 
 pub returns-in-Refused : goal.returns-in-Refused
-unfolding flatLines
+unfolding flat_lines
 returns-in-Refused c = put_refused _ _ _ _ _ _ _ _ (turned c.admit-admitted.ensures c.in-Refused.is)
 
 pub returns-in-Fine : goal.returns-in-Fine
 returns-in-Fine c =
     let k = goal.at.returns-in-Fine c in
     let q = written k.After-write in
-    put-made _ _ _ _ _ _ _ _ (admitted k.In-Fine) c.requires.used-is (there k.In-Fine) (rw q at c.touch.ensures) c.marked.ensures
+    put_made _ _ _ _ _ _ _ _ (admitted k.In-Fine) c.requires.used_is (there k.In-Fine) (rw q at c.touch.ensures) c.marked.ensures
     c.write.ensures c.view_len-size.ensures (rw q at c.rejudge.ensures.verdicts) c.rejudge.ensures.scratch

@@ -1,19 +1,19 @@
 -- What `present` tells of the sheets, then every verdict.
 use Rattle.std.proofs.Common.{refl, arith}
 use Rattle.lanes.proofs.Rows.{zeros}
-use Rattle.form.proofs.Accepting.{told, ordered, indexed, memo-is}
-use Rattle.form.proofs.Unrefused.{used-part, used-there, form-fine}
-use Rattle.verifier.proofs.Verdicts.{sheets-stop, short-stop, room, enough, judged-all}
+use Rattle.form.proofs.Accepting.{told, ordered, indexed, memo_is}
+use Rattle.form.proofs.Unrefused.{used_part, used_there, form_fine}
+use Rattle.verifier.proofs.Verdicts.{sheets_stop, short_stop, room, enough, judged_all}
 use Rattle.verifier.proofs.judge.Goals as goal
 
 pub short-requires : goal.short-requires
 short-requires c = ordered c.present-checked.ensures c.in-Fine.is
 
 pub returns-then-short : goal.returns-then-short
-returns-then-short c = rw c.plain.ensures (short-stop _ _ _ _ _ c.present-checked.ensures c.in-Fine.is c.short.ensures c.if-short.true)
+returns-then-short c = rw c.plain.ensures (short_stop _ _ _ _ _ c.present-checked.ensures c.in-Fine.is c.short.ensures c.if-short.true)
 
 pub slice_bounds-sheet-end : goal.slice_bounds-sheet-end
-slice_bounds-sheet-end c = used-there _ _ _ (told c.present-checked.ensures c.in-Fine.is).0
+slice_bounds-sheet-end c = used_there _ _ _ (told c.present-checked.ensures c.in-Fine.is).0
 
 pub rejudge-requires : goal.rejudge-requires
 rejudge-requires c =
@@ -22,14 +22,14 @@ rejudge-requires c =
     let f = c.in-Fine.is in
     let s = c.short.ensures in
     let l = c.if-short.false in
-    let q = used-part a.user.now a.used in (
+    let q = used_part a.user.now a.used in (
       refl,
       (
         indexed e f q,
         (
-          form-fine a.library.now a.user.now a.used (told e f).0 q,
+          form_fine a.library.now a.user.now a.used (told e f).0 q,
           (
-            memo-is e f q,
+            memo_is e f q,
             ((omega arith, room a.library.now a.user.now a.used a.verdicts.now a.scratch.now e f s l), enough a.library.now a.user.now a.used a.verdicts.now a.scratch.now e f s l),
           ),
         ),
@@ -40,10 +40,10 @@ pub overflow_sub-own : goal.overflow_sub-own
 overflow_sub-own c = ordered c.present-checked.ensures c.in-Fine.is
 
 pub returns-in-Refused : goal.returns-in-Refused
-returns-in-Refused c = sheets-stop _ _ _ _ _ c.present-checked.ensures c.in-Refused.is
+returns-in-Refused c = sheets_stop _ _ _ _ _ c.present-checked.ensures c.in-Refused.is
 
 pub returns-else-short : goal.returns-else-short
 returns-else-short c =
     let a = c.args in
-    judged-all a.library.now a.user.now a.used a.verdicts.now a.scratch.now c.present-checked.ensures c.in-Fine.is c.short.ensures c.if-short.false
-    (used-part a.user.now a.used) _ (zeros 256) c.rejudge.ensures.verdicts c.rejudge.ensures.scratch c.faulted.ensures
+    judged_all a.library.now a.user.now a.used a.verdicts.now a.scratch.now c.present-checked.ensures c.in-Fine.is c.short.ensures c.if-short.false
+    (used_part a.user.now a.used) _ (zeros 256) c.rejudge.ensures.verdicts c.rejudge.ensures.scratch c.faulted.ensures

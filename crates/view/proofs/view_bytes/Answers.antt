@@ -3,7 +3,7 @@ use Rattle.std.proofs.Common.{◌≡◌, ℕ, ◌<◌, List, length, get_or, ref
 use Rattle.groups.specs.Groups.{EndOf}
 use Rattle.view.specs.declared.View.{View}
 use Rattle.view.specs.View.{spliced, Views}
-use Rattle.view.proofs.Seams.{Stands, some, carries, library-within, library-bytes, head-end, head_bytes, group-bytes, tail_within, tail-bytes}
+use Rattle.view.proofs.Seams.{Stands, some, carries, library_within, library_bytes_lem, head_end, head_bytes, group_bytes, tail_within, tail_bytes}
 use Rattle.view.proofs.view_bytes.Goals as goal
 
 -- where the class stands, once start and end are known
@@ -27,12 +27,12 @@ slice_bounds-result-start g c =
 pub slice_bounds-result-end : goal.slice_bounds-result-end
 slice_bounds-result-end g c =
     let s = stands c.requires.1.0 c.requires.1.1 c.wide-start.ensures.0 c.group_end-end.ensures c.view_len.ensures in
-    library-within s c.if-c-classes.true
+    library_within s c.if-c-classes.true
 
 pub returns-then-c-classes : goal.returns-then-c-classes
 returns-then-c-classes g c =
     let s = stands c.requires.1.0 c.requires.1.1 c.wide-start.ensures.0 c.group_end-end.ensures c.view_len.ensures in
-    rw (← c.requires.0) (carries s (library-bytes s c.if-c-classes.true))
+    rw (← c.requires.0) (carries s (library_bytes_lem s c.if-c-classes.true))
 
 -- ---- before the cut
 
@@ -49,7 +49,7 @@ slice_bounds-result-start-then-start-from g c =
 pub slice_bounds-result-end-then-start-from : goal.slice_bounds-result-end-then-start-from
 slice_bounds-result-end-then-start-from g c =
     let s = stands c.requires.1.0 c.requires.1.1 c.wide-start.ensures.0 c.group_end-end.ensures c.view_len.ensures in
-    omega (arith, head-end s c.if-c-classes.false c.if-start-from.true)
+    omega (arith, head_end s c.if-c-classes.false c.if-start-from.true)
 
 pub returns-then-start-from : goal.returns-then-start-from
 returns-then-start-from g c =
@@ -61,7 +61,7 @@ returns-then-start-from g c =
 pub returns-then-k-group : goal.returns-then-k-group
 returns-then-k-group g c =
     let s = stands c.requires.1.0 c.requires.1.1 c.wide-start.ensures.0 c.group_end-end.ensures c.view_len.ensures in
-    rw (← c.requires.0) (carries s (group-bytes s c.if-c-classes.false c.if-start-from.false c.if-k-group.true))
+    rw (← c.requires.0) (carries s (group_bytes s c.if-c-classes.false c.if-start-from.false c.if-k-group.true))
 
 -- ---- after the cut
 
@@ -83,4 +83,4 @@ slice_bounds-result-end-2 g c =
 pub returns : goal.returns
 returns g c =
     let s = stands c.requires.1.0 c.requires.1.1 c.wide-start.ensures.0 c.group_end-end.ensures c.view_len.ensures in
-    rw (← c.requires.0) (carries s (tail-bytes s c.if-c-classes.false c.if-start-from.false c.if-k-group.false refl refl))
+    rw (← c.requires.0) (carries s (tail_bytes s c.if-c-classes.false c.if-start-from.false c.if-k-group.false refl refl))

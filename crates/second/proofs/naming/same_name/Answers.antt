@@ -1,5 +1,5 @@
 -- False by the lengths, and then byte by byte. The loop's invariant: the bytes from j on decide.
-use Rattle.second.proofs.Names.{lengths_differ, compares, compared, differs, compares-on}
+use Rattle.second.proofs.Names.{lengths_differ, compares, compared, differs, compares_on}
 use Rattle.second.proofs.naming.same_name.Goals as goal
 
 pub returns-then-wide-len : goal.returns-then-wide-len
@@ -14,7 +14,7 @@ pub returns-then-a-j : goal.returns-then-a-j
 returns-then-a-j c = differs c.loop-j.invariant c.loop-j-test.true c.if-a-j.true
 
 pub loop-j-preserved : goal.loop-j-preserved
-loop-j-preserved c = compares-on c.loop-j.invariant c.loop-j-test.true c.if-a-j.false
+loop-j-preserved c = compares_on c.loop-j.invariant c.loop-j-test.true c.if-a-j.false
 
 pub returns : goal.returns
 returns c = compared c.loop-j.invariant c.loop-j-test.false

@@ -4,7 +4,7 @@ use borrow.Author.Tests.{le-leb, lt-leb}
 use Rattle.spec.specs.Record.{FIELD, LOCAL, USES, REFERS}
 use Rattle.records.proofs.Positions.{room, room_of}
 use Rattle.second.proofs.Asking.{face}
-use Rattle.second.proofs.ByPlace.{field_at, local_at, member-at, implements-at, uses-at, refers-at, builds-at}
+use Rattle.second.proofs.ByPlace.{field_at, local_at_lem, member_at, implements_at, uses_at, refers_at, builds_at}
 use Rattle.second.proofs.numbers.other_number.Goals as goal
 
 -- ---- what is read lies in the record
@@ -45,7 +45,7 @@ word_in-requires-then-kind-eq-REFERS c = omega (arith, room_of c.requires.sized.
 -- ---- each kind
 
 pub returns-then-kind-eq-MEMBER : goal.returns-then-kind-eq-MEMBER
-returns-then-kind-eq-MEMBER c = λ g w m. member-at g _ _ _ c.requires.sized.0 c.word_in-kind.ensures c.if-kind-eq-MEMBER.true
+returns-then-kind-eq-MEMBER c = λ g w m. member_at g _ _ _ c.requires.sized.0 c.word_in-kind.ensures c.if-kind-eq-MEMBER.true
 
 pub returns-then-kind-eq-FIELD : goal.returns-then-kind-eq-FIELD
 returns-then-kind-eq-FIELD c = λ g w m.
@@ -53,35 +53,35 @@ returns-then-kind-eq-FIELD c = λ g w m.
 
 pub returns-then-type_absent : goal.returns-then-type_absent
 returns-then-type_absent c = λ g w m.
-    local_at g _ _ _ c.requires.sized.0 c.word_in-kind.ensures c.if-kind-eq-LOCAL.true c.type_absent.ensures true c.if-type_absent.true
+    local_at_lem g _ _ _ c.requires.sized.0 c.word_in-kind.ensures c.if-kind-eq-LOCAL.true c.type_absent.ensures true c.if-type_absent.true
 
 pub returns-then-kind-eq-LOCAL : goal.returns-then-kind-eq-LOCAL
 returns-then-kind-eq-LOCAL c = λ g w m.
-    local_at g _ _ _ c.requires.sized.0 c.word_in-kind.ensures c.if-kind-eq-LOCAL.true c.type_absent.ensures false c.if-type_absent.false
+    local_at_lem g _ _ _ c.requires.sized.0 c.word_in-kind.ensures c.if-kind-eq-LOCAL.true c.type_absent.ensures false c.if-type_absent.false
 
 pub returns-then-kind-eq-IMPLEMENTS : goal.returns-then-kind-eq-IMPLEMENTS
 returns-then-kind-eq-IMPLEMENTS c = λ g w m.
-    implements-at g _ _ _ c.requires.sized.0 c.word_in-kind.ensures c.wide-t.ensures.0 c.word_in.ensures c.if-kind-eq-IMPLEMENTS.true (c.implements_number.ensures g w)
+    implements_at g _ _ _ c.requires.sized.0 c.word_in-kind.ensures c.wide-t.ensures.0 c.word_in.ensures c.if-kind-eq-IMPLEMENTS.true (c.implements_number.ensures g w)
 
 pub returns-then-kind-eq-USES : goal.returns-then-kind-eq-USES
 returns-then-kind-eq-USES c = λ g w m.
-    uses-at g _ _ _ c.requires.sized.0 c.word_in-kind.ensures c.wide-t.ensures.0 c.word_in.ensures c.wide.ensures.0 c.word_in-then-kind-eq-USES.ensures
+    uses_at g _ _ _ c.requires.sized.0 c.word_in-kind.ensures c.wide-t.ensures.0 c.word_in.ensures c.wide.ensures.0 c.word_in-then-kind-eq-USES.ensures
     c.if-kind-eq-USES.true (c.uses_number.ensures g _ w m)
 
 pub returns-then-kind-eq-REFERS : goal.returns-then-kind-eq-REFERS
 returns-then-kind-eq-REFERS c = λ g w m.
-    refers-at g _ _ _ c.requires.sized.0 c.word_in-kind.ensures c.wide-t.ensures.0 c.word_in.ensures c.wide-then-kind-eq-REFERS.ensures.0
+    refers_at g _ _ _ c.requires.sized.0 c.word_in-kind.ensures c.wide-t.ensures.0 c.word_in.ensures c.wide-then-kind-eq-REFERS.ensures.0
     c.word_in-then-kind-eq-REFERS.ensures c.if-kind-eq-REFERS.true (c.refers_number.ensures g w)
 
 -- what is left is a BUILDS
 pub returns-then-classes-t : goal.returns-then-classes-t
 returns-then-classes-t c = λ g w m.
-    builds-at g _ _ _ c.requires.sized.0 c.word_in-kind.ensures c.wide-t.ensures.0 c.word_in.ensures (λ e. c.requires.sized.1 (sym c.word_in-kind.ensures ∙ e))
+    builds_at g _ _ _ c.requires.sized.0 c.word_in-kind.ensures c.wide-t.ensures.0 c.word_in.ensures (λ e. c.requires.sized.1 (sym c.word_in-kind.ensures ∙ e))
     c.if-kind-eq-FIELD.false c.if-kind-eq-LOCAL.false c.if-kind-eq-MEMBER.false c.if-kind-eq-IMPLEMENTS.false c.if-kind-eq-USES.false
     c.if-kind-eq-REFERS.false true (le-leb _ _ c.if-classes-t.true)
 
 pub returns : goal.returns
 returns c = λ g w m.
-    builds-at g _ _ _ c.requires.sized.0 c.word_in-kind.ensures c.wide-t.ensures.0 c.word_in.ensures (λ e. c.requires.sized.1 (sym c.word_in-kind.ensures ∙ e))
+    builds_at g _ _ _ c.requires.sized.0 c.word_in-kind.ensures c.wide-t.ensures.0 c.word_in.ensures (λ e. c.requires.sized.1 (sym c.word_in-kind.ensures ∙ e))
     c.if-kind-eq-FIELD.false c.if-kind-eq-LOCAL.false c.if-kind-eq-MEMBER.false c.if-kind-eq-IMPLEMENTS.false c.if-kind-eq-USES.false
     c.if-kind-eq-REFERS.false false (lt-leb _ _ c.if-classes-t.false)
