@@ -10,7 +10,8 @@ use lib.ListN.{length, take, drop, length-append}
 use lib.Seq.{length-take-le}
 use Rattle.spec.specs.Lists.{concat}
 use Rattle.spec.specs.Sheet.{groups_of, class_count}
-use Rattle.spec.specs.Refusals.{sheet_limit, added_sheet, replaced_sheet, withdrawn_sheet, sheet_refusal, new_refusal, present_refusal, few_lines_refusal, add_refusal, replace_refusal, withdraw_refusal}
+use Rattle.spec.specs.Refusals.{sheet_limit, added_sheet, replaced_sheet, withdrawn_sheet, sheet_refusal, new_refusal, present_refusal, few_lines_refusal, add_refusal, replace_refusal}
+use Rattle.spec.specs.Refusals.{withdraw_refusal}
 use Rattle.spec.specs.Verdicts.{VerdictRow}
 use Rattle.spec.specs.Promises.{State, addition, replacement, withdrawal}
 use Rattle.theory.proofs.Cut.{IsGroup}

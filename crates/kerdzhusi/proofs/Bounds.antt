@@ -12,8 +12,8 @@ use Rattle.spec.specs.Lists.{concat, count, span, first_of}
 use Rattle.spec.specs.Record.{u16}
 use Rattle.spec.specs.Sheet.{whole_first, records_in, records_of, whole_end, class_count, total}
 use Rattle.spec.specs.Verdicts.{faulted, faulted_count, flat}
-use Rattle.spec.specs.Refusals.{Refusal, refuse_plain, size_refusal, sheet_refusal, present_refusal, no_user_refusal, group_refusal, room_refusal, added_sheet, replaced_sheet, judge_refusal, add_refusal}
-use Rattle.spec.specs.Refusals.{replace_refusal, withdraw_refusal, query_refusal}
+use Rattle.spec.specs.Refusals.{Refusal, refuse_plain, size_refusal, sheet_refusal, present_refusal, no_user_refusal, group_refusal, room_refusal, added_sheet, replaced_sheet, judge_refusal}
+use Rattle.spec.specs.Refusals.{add_refusal, replace_refusal, withdraw_refusal, query_refusal}
 use Rattle.spec.specs.Promises.{Answer, refused, accepted, answer_of, Counts, counts_of, Judges, State, addition, replacement, withdrawal, Adds, Replaces, Withdraws}
 use Rattle.theory.specs.Claims.{sheet_of, Blames, size, torn, at, no_class, plain, BlamesEdit, present, made}
 use Rattle.laws.proofs.Bools.{not_or_l, not_or_r}

@@ -215,8 +215,9 @@ module _ {library user : List ℕ} {nlib n : ℕ} {starts : List ℕ} (x : Index
                 (ap (found_in nlib g rule c t k) more ∙ found_no nlib g rule c t k (record_at s at) (between s (at + u16 s at) end) b);
           })
 
-      pub record_hit : {p : ℕ} → t < n → rule ≤ 10 → breaks_at nlib g rule c t k (record_at s at) ≡ true → p ≡ place_in c (record { class = t; record_number = k }) → verdict rule p ≡ verdict_of nlib g c
-      record_hit {p} there-t ten b e = go (rule - 1) (omega (arith, f.rules.some))
+      pub record_hit : {p : ℕ} → t < n → rule ≤ 10 → breaks_at nlib g rule c t k (record_at s at) ≡ true
+          → p ≡ place_in c (record { class = t; record_number = k }) → verdict rule p ≡ verdict_of nlib g c
+      record_hit {p} there_t ten b e = go (rule - 1) (omega (arith, f.rules.some))
         where
           later : List Fault
           later = found_in nlib g rule c t (k + 1) (between s (at + u16 s at) end)

@@ -55,7 +55,8 @@ module _ (nlib : ℕ) (g : ℕ → Group) (rule c : ℕ) (late : 7 ≤ rule) whe
   later_fields t k [] = refl
   later_fields t k (r ∷ rs) =
       let e : breaks_at nlib g rule c t (suc k) r ≡ field_breaks g rule 0 0 r =
-      at_record t (suc k) r ∙ ap (λ (z : Bool). elim z as (λ (b : Bool). Bool) [ true ↦ head_breaks nlib g rule c t | false ↦ field_breaks g rule t (suc k) r ]) (ne_eqb (suc k) 0 (λ e. omega arith)) in
+      at_record t (suc k) r ∙ ap (λ (z : Bool). elim z as (λ (b : Bool). Bool) [ true ↦ head_breaks nlib g rule c t | false ↦ field_breaks g rule t (suc k) r ])
+      (ne_eqb (suc k) 0 (λ e. omega arith)) in
       ap₂ (λ (a b : Bool). a || b) e (later_fields t (suc k) rs)
 
   -- a CLASS record is no field

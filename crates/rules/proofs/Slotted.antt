@@ -15,8 +15,8 @@ use borrow.Author.Tests.{ne_eqb, lt-ltb, le-ltb}
 use Rattle.spec.specs.Lists.{keep, gather, numbered, only_if}
 use Rattle.spec.specs.Record.{kind, is_kind, CLASS, FIELD, is_static, superclass}
 use Rattle.spec.specs.Sheet.{Group, class_record, is_interface, is_inner, is_instance_field}
-use Rattle.spec.specs.Classes.{Slot, field_slot, encloser_slot, variable_slot, superclasses, enclosing, has_marker, local_at, captured, encloser_slots, field_slots, captured_slots, own_slots, lineage, root}
-use Rattle.spec.specs.Classes.{slots}
+use Rattle.spec.specs.Classes.{Slot, field_slot, encloser_slot, variable_slot, superclasses, enclosing, has_marker, local_at, captured, encloser_slots, field_slots, captured_slots, own_slots, lineage}
+use Rattle.spec.specs.Classes.{root, slots}
 use Rattle.spec.specs.Rules.{Fault, slot_fault, judged_for, slot_faults, place_in}
 use Rattle.spec.specs.Relations.{At, Lineage, self, up}
 use Rattle.spec.specs.Refusals.{one_class}

@@ -57,38 +57,38 @@ flip p = (p.1, p.0)
 module _ {nlib n : ℕ} {g : ℕ → Group} (w : Ground nlib n g) {c : ℕ} (user : nlib ≤ c) (there : c < n) where
   -- ---- rules 7 to 10, each with its root or base
 
-  more : (rule : ℕ) → 7 ≤ rule → Type 0
-  more rule late = Extra nlib n g w.falls w.supers w.one w.owners c user there rule late
+  More : (rule : ℕ) → 7 ≤ rule → Type 0
+  More rule late = Extra nlib n g w.falls w.supers w.one w.owners c user there rule late
 
   root_extra : (m rule : ℕ) (late : 7 ≤ rule) → ((d : ℕ) → root_breaks g rule d ≡ not (root_fits g m d)) → (T (eqb rule 9) → ⊥)
-      → (x : ℕ) → Stands c (root_faults nlib g m c) x ↔ (more rule late × (x ≡ 0))
-  unfolding root_faults more
+      → (x : ℕ) → Stands c (root_faults nlib g m c) x ↔ (More rule late × (x ≡ 0))
+  unfolding root_faults More
   root_extra m rule late e ne x = (there_x, back)
     where
       s : Stands c (root_faults nlib g m c) x ↔ ((d : ℕ) × Memᴰ d (root nlib g c) × T (not (root_fits g m d)) × (x ≡ 0))
       s = stands_gather c (λ d. d) (λ d. not (root_fits g m d)) (root nlib g c) x
 
-      there_x : Stands c (root_faults nlib g m c) x → more rule late × (x ≡ 0)
+      there_x : Stands c (root_faults nlib g m c) x → More rule late × (x ≡ 0)
       there_x h = let q = s.0 h in (inl (q.0, q.1, subst T (sym (e q.0)) q.2), q.3)
 
-      back : more rule late × (x ≡ 0) → Stands c (root_faults nlib g m c) x
+      back : More rule late × (x ≡ 0) → Stands c (root_faults nlib g m c) x
       back (inl q, z) = s.1 (q.0, q.1, subst T (e q.0) q.2, z)
       back (inr q, z) = absurd (ne q.0)
 
   hits7 : (x : ℕ) → Hit nlib g 7 c x ↔ Stands c (rule7 nlib g c) x
-  unfolding rule7 rule_marker from_seven slot_fits root_breaks more
+  unfolding rule7 rule_marker from_seven slot_fits root_breaks More
   hits7 = slot_hits nlib n g w.falls w.supers w.one w.owners c user there 7 (lit< tt) (root_faults nlib g Immutable c) (root_extra Immutable 7 (lit< tt) (λ d. refl) (λ t. t))
 
   hits8 : (x : ℕ) → Hit nlib g 8 c x ↔ Stands c (rule8 nlib g c) x
-  unfolding rule8 rule_marker from_seven slot_fits root_breaks more
+  unfolding rule8 rule_marker from_seven slot_fits root_breaks More
   hits8 = slot_hits nlib n g w.falls w.supers w.one w.owners c user there 8 (lit< tt) (root_faults nlib g Powerless c) (root_extra Powerless 8 (lit< tt) (λ d. refl) (λ t. t))
 
   hits10 : (x : ℕ) → Hit nlib g 10 c x ↔ Stands c (rule10 nlib g c) x
-  unfolding rule10 rule_marker from_seven slot_fits root_breaks more
+  unfolding rule10 rule_marker from_seven slot_fits root_breaks More
   hits10 = slot_hits nlib n g w.falls w.supers w.one w.owners c user there 10 (lit< tt) (root_faults nlib g DeepSelfless c) (root_extra DeepSelfless 10 (lit< tt) (λ d. refl) (λ t. t))
 
-  base_extra : (x : ℕ) → Stands c (base_faults g c) x ↔ (more 9 (lit< tt) × (x ≡ 0))
-  unfolding base_faults more root_breaks from_seven base_breaks
+  base_extra : (x : ℕ) → Stands c (base_faults g c) x ↔ (More 9 (lit< tt) × (x ≡ 0))
+  unfolding base_faults More root_breaks from_seven base_breaks
   base_extra x = (there_x, back)
     where
       bad : ℕ → Bool
@@ -97,15 +97,15 @@ module _ {nlib n : ℕ} {g : ℕ → Group} (w : Ground nlib n g) {c : ℕ} (use
       s : Stands c (base_faults g c) x ↔ ((d : ℕ) × Memᴰ d (superclasses (g c)) × T (bad d) × (x ≡ 0))
       s = stands_gather c (λ d. c) bad (superclasses (g c)) x
 
-      there_x : Stands c (base_faults g c) x → more 9 (lit< tt) × (x ≡ 0)
+      there_x : Stands c (base_faults g c) x → More 9 (lit< tt) × (x ≡ 0)
       there_x h = let q = s.0 h in (inr (tt, mem_any bad q.1 q.2), q.3)
 
-      back : more 9 (lit< tt) × (x ≡ 0) → Stands c (base_faults g c) x
+      back : More 9 (lit< tt) × (x ≡ 0) → Stands c (base_faults g c) x
       back (inl q, z) = absurd q.2
       back (inr q, z) = let a = any_mem bad (superclasses (g c)) q.1 in s.1 (a.0, a.1, a.2, z)
 
   hits9 : (x : ℕ) → Hit nlib g 9 c x ↔ Stands c (rule9 nlib g c) x
-  unfolding rule9 rule_marker from_seven slot_fits more
+  unfolding rule9 rule_marker from_seven slot_fits More
   hits9 = slot_hits nlib n g w.falls w.supers w.one w.owners c user there 9 (lit< tt) (base_faults g c) base_extra
 
   -- ---- all ten

@@ -13,8 +13,8 @@ use Rattle.spec.specs.Record.{bit, is_kind, REFERS, flags, target, index, refere
 use Rattle.spec.specs.Sheet.{Group, class_record, is_instance_field, is_interface}
 use Rattle.spec.specs.Markers.{Immutable, Powerless, Selfless, DeepSelfless}
 use Rattle.spec.specs.Classes.{Slot, field_slot, encloser_slots, field_slots, captured_slots, own_slots, superclasses, overlay, has_marker, lineage, root, slots}
-use Rattle.spec.specs.Rules.{Fault, Verdict, clean, static_breaks, slot_fault, fault_if, faults_at, member_allowed, judged_for, root_fits, base_fits, base_faults, forbidden, slot_faults, root_faults, rule1}
-use Rattle.spec.specs.Rules.{rule2, rule3, rule4, rule5, rule6, rule7, rule8, rule9, rule10, rules, place_in, first_broken, verdict_of}
+use Rattle.spec.specs.Rules.{Fault, Verdict, clean, static_breaks, slot_fault, fault_if, faults_at, member_allowed, judged_for, root_fits, base_fits, base_faults, forbidden, slot_faults, root_faults}
+use Rattle.spec.specs.Rules.{rule1, rule2, rule3, rule4, rule5, rule6, rule7, rule8, rule9, rule10, rules, place_in, first_broken, verdict_of}
 use Rattle.laws.proofs.Bools.{true_t, and_l, and_r}
 use Rattle.theory.proofs.Somewhere.{any_append, any_map, any_gather, any_keep, any_numbered, any_same, any_either, any_never, some, some_append, some_map, some_only, some_keep, some_gather}
 use Rattle.breaks.specs.Breaking.{line_breaks}

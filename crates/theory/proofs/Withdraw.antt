@@ -14,12 +14,13 @@ use lib.ListN.{length, get_or, take, drop, length-append, take-append-drop, get_
 use lib.Seq.{length-take-le}
 use Rattle.spec.specs.Lists.{any, concat, elem, span, same_list}
 use Rattle.spec.specs.Record.{kind, is_class, bit, none16, flags, superclass, target, index, class_name, references, LOCAL, MEMBER}
-use Rattle.spec.specs.Sheet.{Group, Located, locate, located_in, located, split_groups, records_of, whole_end, groups_of, class_count, total, group, class_record, group_references, of_kind, is_interface}
+use Rattle.spec.specs.Sheet.{Group, Located, locate, located_in, located, split_groups, records_of, whole_end, groups_of, class_count, total, group, class_record, group_references, of_kind}
+use Rattle.spec.specs.Sheet.{is_interface}
 use Rattle.spec.specs.Markers.{clash}
 use Rattle.spec.specs.Classes.{overlay}
 use Rattle.spec.specs.Relations.{References}
-use Rattle.spec.specs.Refusals.{no_class_refusal, record_tests, record_refusal, torn_refusal, superclass_fits, implements_fits, uses_fits, name_met, one_class, deemed_tests, form_refusal, deemed_refusal}
-use Rattle.spec.specs.Refusals.{sheet_refusal, last_class, empty_refusal, named_refusal, withdrawn_sheet}
+use Rattle.spec.specs.Refusals.{no_class_refusal, record_tests, record_refusal, torn_refusal, superclass_fits, implements_fits, uses_fits, name_met, one_class, deemed_tests, form_refusal}
+use Rattle.spec.specs.Refusals.{deemed_refusal, sheet_refusal, last_class, empty_refusal, named_refusal, withdrawn_sheet}
 use Rattle.theory.specs.Claims.{WithdrawnSheets, NamedRight}
 use Rattle.spec.proofs.Also.{◌also◌}
 use Rattle.laws.proofs.Bools.{and_cong, not_not, eq→eqb, positive, decide}
