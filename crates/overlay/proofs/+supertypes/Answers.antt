@@ -58,8 +58,8 @@ interfaces-loop-at-preserved t c =
     elim c.if-kind-eq-IMPLEMENTS.branch [
       | interfaces-then-kind-eq-IMPLEMENTS w ↦
           walk_asks inv low size kind w.if-kind-eq-IMPLEMENTS.true (w.wide-i.ensures.0 ∙ w.word_in-then-kind-eq-IMPLEMENTS.ensures)
-          w.lower.ensures.markers w.lower.ensures.memo w.memo_is (w.m-is ∙ w.union-m.ensures)
-      | interfaces-else-kind-eq-IMPLEMENTS w ↦ walk_passes inv low size kind w.if-kind-eq-IMPLEMENTS.false w.m-is w.memo_is
+          w.lower.ensures.markers w.lower.ensures.memo w.memo-is (w.m-is ∙ w.union-m.ensures)
+      | interfaces-else-kind-eq-IMPLEMENTS w ↦ walk_passes inv low size kind w.if-kind-eq-IMPLEMENTS.false w.m-is w.memo-is
     ]
 
 pub interfaces-returns-clause-markers : goal.interfaces-returns-clause-markers
