@@ -9,26 +9,23 @@ mod script;
 mod sheet;
 mod week;
 
-use std::io::Read;
+use files::read_full;
 use std::rt::Files;
 use std::{fs, io};
 
-// Of a longer file, no more is read.
-const READ_LIMIT: usize = 65536;
-
-// A file that cannot be opened is named and passed over. One with as many bytes as are read may go on after them, so it is not run. What
-// fails later, a read or a write, ends the program with that error.
-fn run<R: Files + Print + Eprint + Alloc>(rt: &R, path: &str) -> io::Result<()> {
-    let file = match fs::open(rt, path) {
+// A file that cannot be opened is named and passed over. One that fills the buffer may go on after it, so it is not run. What fails
+// later, a read or a write, ends the program with that error.
+fn run<R: Files + Print + Eprint>(rt: &R, path: &str) -> io::Result<()> {
+    let mut file = match fs::open(rt, path) {
         Ok(file) => file,
         Err(error) => return eprintln!(rt; "{path}: {error}"),
     };
-    let mut text = Vec::new(rt.alloc());
-    file.take(READ_LIMIT as u64).read_to_end(&mut text)?;
-    if text.len() == READ_LIMIT {
-        return println!(rt; "a file of {READ_LIMIT} bytes or more");
+    let mut text = [0u8; 65536];
+    let n = read_full(&mut file, &mut text)?;
+    if n == text.len() {
+        return println!(rt; "a file of 65536 bytes or more");
     }
-    script::run(rt, &text)
+    script::run(rt, &text[..n])
 }
 
 fn main(rt: HostRuntime) -> io::Result<()> {
