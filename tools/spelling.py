@@ -30,7 +30,7 @@ SPAN = re.compile(r"`[^`\n]+`")
 KEYWORDS = set("use mod open module let in where unfolding elim record data pub as λ → : = | ↦ _".split())
 # Where the prover's labels stand.
 ANSWERS = ("Answers.antt", "Invariants.antt", "Proof.antt")
-# Names that would meet a library's in one file.
+# A law that would meet a library's in its file.
 TABLE = {"bit-and": "bit_of_and"}
 
 
@@ -58,6 +58,8 @@ def spelled(name):
         return TABLE[name]
     if not re.match(r"[a-z◌]", name):
         return name
+    # The library calls this word anew.
+    name = re.sub(r"^getD(?=[-_])", "get_or", name)
     words = re.sub(r"(?<=[a-z0-9'])[A-Z](?![A-Z])", lambda m: "_" + m[0].lower(), name)
     return re.sub(r"(?<=[\w'])-(?=\w)", "_", words)
 

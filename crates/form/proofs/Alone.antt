@@ -18,7 +18,7 @@ use Rattle.theory.proofs.Accept.{Clear}
 use Rattle.laws.proofs.Bools.{decide}
 use Rattle.theory.proofs.Falls.{Falls}
 use Rattle.theory.proofs.Lower.{gathered_same, overlay_same}
-use Rattle.laws.proofs.Rows.{length_values, get_d_values}
+use Rattle.laws.proofs.Rows.{length_values, get_or_values}
 use Rattle.groups.specs.Groups.{start_of, Indexed}
 use Rattle.theory.proofs.Form.{group_past}
 use Rattle.groups.proofs.Held.{in_library}
@@ -98,7 +98,7 @@ module _ {library user : List ℕ} {nlib n : ℕ} {starts : List ℕ} (x : Index
         let b = raw (group library user) in
         ext_get_or 0 _ _ (length_values a k ∙ sym (length_values b k)) (λ i l.
         let m : i < k = omega (arith, length_values a k) in
-        get_d_values a k 0 i m ∙ sym (gathered_same nlib (group library user) (group library []) f same (suc i) i (omega arith)) ∙ sym (get_d_values b k 0 i m))
+        get_or_values a k 0 i m ∙ sym (gathered_same nlib (group library user) (group library []) f same (suc i) i (omega arith)) ∙ sym (get_or_values b k 0 i m))
 
     pub alone_memo : {k : ℕ} → k ≤ nlib → memo_of (group library []) k ≡ memo_of (group library user) k
     unfolding memo_of

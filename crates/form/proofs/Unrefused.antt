@@ -11,7 +11,7 @@ use Rattle.spec.specs.Lists.{span}
 use Rattle.spec.specs.Sheet.{class_count, total, group}
 use Rattle.spec.specs.Refusals.{form_refusal, sheet_refusal, present_refusal}
 use Rattle.laws.proofs.Bools.{positive}
-use Rattle.laws.proofs.Rows.{length_values, get_d_values}
+use Rattle.laws.proofs.Rows.{length_values, get_or_values}
 use Rattle.theory.proofs.Answers.{first_none}
 use Rattle.theory.proofs.Accept.{sound}
 use Rattle.theory.proofs.Falls.{Falls, falls}
@@ -40,7 +40,7 @@ module _ (library user : List ℕ) (used : ℕ) (e : present_refusal library use
         some = positive (class_count library) s.some;
         few = s.few;
         long = length_values (start_of library (take used user)) 256;
-        starts = λ c h. get_d_values (start_of library (take used user)) 256 0 c (omega (arith, s.few));
+        starts = λ c h. get_or_values (start_of library (take used user)) 256 0 c (omega (arith, s.few));
       }
 
   module _ {s : List ℕ} (q : s ≡ take used user) where

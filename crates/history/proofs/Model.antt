@@ -23,10 +23,10 @@ map_set f (x ∷ xs) zero a = refl
 map_set f (x ∷ xs) (suc k) a = ap (λ l. f x ∷ l) (map_set f xs k a)
 
 -- a store at place k of the second of two lists is seen at no other place
-get_d_second : {A : Type 0} (xs ys : List A) (k : ℕ) (a z : A) (d : ℕ) → d ≢ length xs + k → get_or (xs ++ set ys k a) d z ≡ get_or (xs ++ ys) d z
-get_d_second [] ys k a z d ne = get_or-set_other ys k d a z (λ e. ne (e ∙ sym (zero-add k)))
-get_d_second (x ∷ xs) ys k a z zero ne = refl
-get_d_second (x ∷ xs) ys k a z (suc d) ne = get_d_second xs ys k a z d (λ e. ne (ap suc e ∙ sym (suc-add (length xs) k)))
+get_or_second : {A : Type 0} (xs ys : List A) (k : ℕ) (a z : A) (d : ℕ) → d ≢ length xs + k → get_or (xs ++ set ys k a) d z ≡ get_or (xs ++ ys) d z
+get_or_second [] ys k a z d ne = get_or-set_other ys k d a z (λ e. ne (e ∙ sym (zero-add k)))
+get_or_second (x ∷ xs) ys k a z zero ne = refl
+get_or_second (x ∷ xs) ys k a z (suc d) ne = get_or_second xs ys k a z d (λ e. ne (ap suc e ∙ sym (suc-add (length xs) k)))
 
 -- ---- the classes of a sheet of whole groups
 
@@ -56,7 +56,7 @@ module _ (library : List ℕ) (gs : List (List ℕ)) (g : List ℕ) (w : All IsG
   pub set_group : (k d : ℕ) → d ≢ class_count library + k → group library (concat (set gs k g)) d ≡ group library (concat gs) d
   unfolding group class_count
   set_group k d ne =
-      ap (λ (l : List Group). get_or (groups_of library ++ l) d []) (set_groups k) ∙ get_d_second (groups_of library) (groups_of (concat gs)) k (records_of g) [] d ne
+      ap (λ (l : List Group). get_or (groups_of library ++ l) d []) (set_groups k) ∙ get_or_second (groups_of library) (groups_of (concat gs)) k (records_of g) [] d ne
 
 -- ---- the buffer is the sheet and then the bytes past it
 

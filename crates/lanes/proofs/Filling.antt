@@ -13,17 +13,17 @@ pub record FilledTo (x : ℕ) (before row : List ℕ) (k i : ℕ) : Type 0 where
 
 -- ---- what stands there
 
-pub get_d_replicate : (k x d i : ℕ) → i < k → get_or (replicate k x) i d ≡ x
-get_d_replicate zero x d i h = absurd (omega arith)
-get_d_replicate (suc k) x d zero h = refl
-get_d_replicate (suc k) x d (suc i) h = get_d_replicate k x d i (omega arith)
+pub get_or_replicate : (k x d i : ℕ) → i < k → get_or (replicate k x) i d ≡ x
+get_or_replicate zero x d i h = absurd (omega arith)
+get_or_replicate (suc k) x d zero h = refl
+get_or_replicate (suc k) x d (suc i) h = get_or_replicate k x d i (omega arith)
 
 module _ (k x : ℕ) (before : List ℕ) (room : k ≤ length before) where
   pub filled_long : length (replicate k x ++ drop k before) ≡ length before
   filled_long = length-append (replicate k x) (drop k before) ∙ omega (arith, length-replicate {A = ℕ} k x, length-drop k before)
 
   pub filled_new : (d i : ℕ) → i < k → get_or (replicate k x ++ drop k before) i d ≡ x
-  filled_new d i h = get_or-append (replicate k x) (drop k before) d i (omega (arith, length-replicate {A = ℕ} k x)) ∙ get_d_replicate k x d i h
+  filled_new d i h = get_or-append (replicate k x) (drop k before) d i (omega (arith, length-replicate {A = ℕ} k x)) ∙ get_or_replicate k x d i h
 
   pub filled_kept : (d i : ℕ) → k ≤ i → get_or (replicate k x ++ drop k before) i d ≡ get_or before i d
   filled_kept d i h =

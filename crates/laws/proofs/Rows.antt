@@ -25,8 +25,8 @@ module _ (f : ℕ → ℕ) (n : ℕ) where
   pub length_values : length (map f (span 0 n)) ≡ n
   length_values = length-map (span 0 n) f ∙ length_span 0 n
 
-  pub get_d_values : (d k : ℕ) → k < n → get_or (map f (span 0 n)) k d ≡ f k
-  get_d_values d k h = values_from f d 0 n k h ∙ ap f (zero-add k)
+  pub get_or_values : (d k : ℕ) → k < n → get_or (map f (span 0 n)) k d ≡ f k
+  get_or_values d k h = values_from f d 0 n k h ∙ ap f (zero-add k)
 
 -- the entries below c and the new one at c: so all below c + 1
 pub set_below : (P : ℕ → ℕ → Type 0) (row : List ℕ) (c v : ℕ) → c < length row → ((d : ℕ) → d < c → P d (get_or row d 0)) → P c v → (d : ℕ) → d < c + 1 → P d (get_or (set row c v) d 0)

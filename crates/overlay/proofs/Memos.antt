@@ -12,7 +12,7 @@ use lib.Seq.{set-get_or, get_or-set_other, get_or-append-add, ext_get_or}
 use Rattle.spec.specs.Lists.{span}
 use Rattle.spec.specs.Sheet.{Group}
 use Rattle.laws.proofs.Bools.{decide}
-use Rattle.laws.proofs.Rows.{length_values, get_d_values, set_below}
+use Rattle.laws.proofs.Rows.{length_values, get_or_values, set_below}
 use Rattle.overlay.specs.Memo.{raw, memo_of, Knows}
 
 -- ---- a memo that class c may be asked over
@@ -35,7 +35,7 @@ module _ (g : ℕ → Group) where
 
     memo_below : (i : ℕ) → i < k → get_or (memo_of g k) i 0 ≡ raw g i
     unfolding memo_of
-    memo_below i h = get_or-append (map (raw g) (span 0 k)) (replicate (256 - k) 65535) 0 i (omega (arith, length_values (raw g) k)) ∙ get_d_values (raw g) k 0 i h
+    memo_below i h = get_or-append (map (raw g) (span 0 k)) (replicate (256 - k) 65535) 0 i (omega (arith, length_values (raw g) k)) ∙ get_or_values (raw g) k 0 i h
 
     memo_past : (i : ℕ) → k ≤ i → i < 256 → get_or (memo_of g k) i 0 ≡ 65535
     unfolding memo_of

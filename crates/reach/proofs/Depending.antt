@@ -22,7 +22,7 @@ use Rattle.laws.proofs.Bools.{true_t}
 use Rattle.laws.proofs.All.{at_member, of_members}
 use Rattle.laws.proofs.Members.{gather_mem, mem_gather, keep_mem, mem_keep}
 use Rattle.theory.proofs.Accept.{form_fits}
-use Rattle.laws.proofs.Rows.{length_values, get_d_values}
+use Rattle.laws.proofs.Rows.{length_values, get_or_values}
 use Rattle.theory.proofs.Reach.{Steps, here, onward}
 use Rattle.theory.proofs.Complete.{reach_sound, reach_complete}
 use Rattle.groups.specs.Groups.{Indexed}
@@ -170,7 +170,7 @@ module _ (library user : List ℕ) (ok : form_refusal library user ≡ none) (fe
         go : (i : ℕ) (x : Bool) → ltb i 256 ≡ x → get_or s i 255 ≡ get_or (map mark (span 0 256) ++ drop 256 before) i 255
         go i true q =
             let l = ltb-true i 256 q in
-            entry_is i l ∙ sym (get_or-append (map mark (span 0 256)) (drop 256 before) 255 i (omega (arith, length_values mark 256)) ∙ get_d_values mark 256 255 i l)
+            entry_is i l ∙ sym (get_or-append (map mark (span 0 256)) (drop 256 before) 255 i (omega (arith, length_values mark 256)) ∙ get_or_values mark 256 255 i l)
         go i false q =
             let l = ltb-false i 256 q in
             let k : 256 + (i - 256) ≡ i = omega arith in

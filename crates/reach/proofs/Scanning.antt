@@ -18,7 +18,7 @@ use Rattle.records.proofs.Walks.{walk_here, walk_next}
 use Rattle.records.proofs.Nth.{nth_record}
 use Rattle.named.specs.Named.{first_named, second_named, named_by}
 use Rattle.lanes.specs.Lanes.{Room, Settled, Run, SettledAt, Enclosers, either_of}
-use Rattle.lanes.proofs.Rows.{get_d_any}
+use Rattle.lanes.proofs.Rows.{get_or_any}
 use Rattle.lanes.proofs.Runs.{run_none, Offered}
 use Rattle.lanes.proofs.Drawing.{Drawn, offered}
 use Rattle.lanes.proofs.Visiting.{VisitAt, visit_start, visit_next, visit_end}
@@ -52,7 +52,7 @@ settled_zero : (step : ℕ → List ℕ) (outer : ℕ → ℕ) (n : ℕ) {lanes 
 unfolding SettledAt Settled
 settled_zero step outer n {m = m} s e l z k t hk w ht b f =
     let i : k * 256 + m ≡ m = omega arith in
-    omega (arith, ap (λ (j : ℕ). get_or s j 255) i, get_d_any s m 0 255 l)
+    omega (arith, ap (λ (j : ℕ). get_or s j 255) i, get_or_any s m 0 255 l)
 
 -- ---- the records of a group
 

@@ -16,7 +16,7 @@ use Rattle.spec.specs.Sheet.{groups_of, class_count, group_start, total}
 use Rattle.spec.specs.Verdicts.{user_verdict, flat_lines, flat, depends_on, dependent_count}
 use Rattle.spec.specs.Refusals.{Refusal, refuse_if, refuse_plain, present_refusal, no_user_refusal, replaced_sheet, replace_refusal}
 use Rattle.spec.specs.Promises.{Answer, answer_of, refused, State, Edit, Makes, replacement}
-use Rattle.laws.proofs.Rows.{length_values, get_d_values}
+use Rattle.laws.proofs.Rows.{length_values, get_or_values}
 use Rattle.laws.proofs.Count.{count_same}
 use Rattle.theory.proofs.Answers.{first_none, skip_none, first_some, first_append, plain_none}
 use Rattle.laws.proofs.Bools.{not_or_l, not_or_r}
@@ -50,7 +50,7 @@ module _ (library new : List ℕ) (c : ℕ) (row : List ℕ) {n : ℕ} (en : n �
   pub mark_at : (k : ℕ) → k < n → eqb (get_or (dependent_row library new c row) k 0) 0 ≡ depends_on library new c k
   unfolding dependent_row mark
   mark_at k h =
-      ap (λ (x : ℕ). eqb x 0) (get_or-append (map mark (span 0 256)) (drop 256 row) 0 k (omega (arith, length_values mark 256)) ∙ get_d_values mark 256 0 k (omega arith))
+      ap (λ (x : ℕ). eqb x 0) (get_or-append (map mark (span 0 256)) (drop 256 row) 0 k (omega (arith, length_values mark 256)) ∙ get_or_values mark 256 0 k (omega arith))
       ∙ marked_is (depends_on library new c k)
 
 -- ---- what was found

@@ -11,8 +11,8 @@ use Rattle.view.specs.declared.Cut.{Cut}
 use Rattle.theory.proofs.Cut.{IsGroup}
 use Rattle.view.specs.View.{Sits, Seamed, Fits, spliced}
 
-get_d_after : (xs ys : List ℕ) (i : ℕ) → length xs ≤ i → get_or (xs ++ ys) i 0 ≡ get_or ys (i - length xs) 0
-get_d_after xs ys i h =
+get_or_after : (xs ys : List ℕ) (i : ℕ) → length xs ≤ i → get_or (xs ++ ys) i 0 ≡ get_or ys (i - length xs) 0
+get_or_after xs ys i h =
     let e : i ≡ length xs + (i - length xs) = omega arith in
     ap (λ (j : ℕ). get_or (xs ++ ys) j 0) e ∙ get_or-append-add xs ys (i - length xs) 0
 
@@ -34,13 +34,13 @@ module _ (u g : List ℕ) (cut : Cut) (h : Fits cut u g) where
   unfolding spliced
   in_group i k e l =
       let m : i - length head ≡ k = omega (arith, head_length) in
-      rw (get_d_after head (g ++ tail) i (omega (arith, head_length)), m, get_or-append g tail 0 k l)
+      rw (get_or_after head (g ++ tail) i (omega (arith, head_length)), m, get_or-append g tail 0 k l)
 
   pub in_tail : (i k : ℕ) → cut.from + length g + k ≡ i → cut.to + k < cut.used → get_or u (cut.to + k) 0 ≡ get_or (spliced u g cut) i 0
   unfolding spliced
   in_tail i k e l =
       let w : i - length head - length g ≡ k = omega (arith, head_length) in
-      rw (get_d_after head (g ++ tail) i (omega (arith, head_length)), get_d_after g tail (i - length head) (omega (arith, head_length)), w)
+      rw (get_or_after head (g ++ tail) i (omega (arith, head_length)), get_or_after g tail (i - length head) (omega (arith, head_length)), w)
       (rw (get_or-drop cut.to (take cut.used u) k 0, get_or-take cut.used u (cut.to + k) 0 l))
 
   pub length_spliced : length (spliced u g cut) ≡ cut.from + length g + (cut.used - cut.to)
