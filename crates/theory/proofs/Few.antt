@@ -7,7 +7,7 @@ use Prim.Native.Nat.{ℕ, suc, ◌+◌, ◌≤◌}
 use native.Mathlib.Omega.{arith}
 use lib.ListN.{length}
 use Rattle.spec.specs.Record.{kind, is_class}
-use Rattle.spec.specs.Sheet.{Group, Split, records_of, split_groups, groups_of, locate, located_in}
+use Rattle.spec.specs.Sheet.{Split, records_of, split_groups, groups_of, locate, located_in}
 use Rattle.laws.proofs.All.{All}
 use Rattle.theory.proofs.Cut.{split_class, split_other}
 use Rattle.theory.proofs.Accept.{Passed, locate_if}

@@ -1,7 +1,7 @@
 -- Classes below a number ask lower classes alone: where the groups below it are the same, so are their markers.
 -- Assumes nothing.
 use mathlib.Core.Path.{◌≡◌, refl, ap}
-use mathlib.Core.List.{List, map}
+use mathlib.Core.List.{List}
 use Prim.Native.Nat.{ℕ, zero, suc, ◌<◌}
 use native.Mathlib.Omega.{arith}
 use Rattle.spec.specs.Record.{own_markers}

@@ -1,4 +1,4 @@
-use Rattle.std.proofs.Common.{◌≡◌, List, ℕ, ◌<◌, ◌∙◌, Bool, ap, sym, subst, arith, false}
+use Rattle.std.proofs.Common.{List, ℕ, ◌<◌, ◌∙◌, Bool, ap, sym, subst, arith}
 use mathlib.Core.Path.{ap₂}
 use lib.Dec.{T}
 use mathlib.Core.Bool.{not}

@@ -1,5 +1,5 @@
-use Rattle.std.proofs.Common.{◌≡◌, get_or, arith, ap, ◌∙◌, ◌+◌}
-use Rattle.verdicts.specs.Row.{clean, tallied, faulted_in}
+use Rattle.std.proofs.Common.{get_or, arith, ap, ◌∙◌}
+use Rattle.verdicts.specs.Row.{clean, tallied}
 use Rattle.verdicts.proofs.Counting.{faulted_none, faulted_more, faulted_most}
 use Rattle.verdicts.proofs.report.Goals as goal
 

@@ -1,6 +1,5 @@
-use Rattle.std.proofs.Common.{◌≡◌, ◌≤◌, ℕ, set, arith, ap, ◌∙◌}
+use Rattle.std.proofs.Common.{◌≡◌, set, arith, ap, ◌∙◌}
 use mathlib.Core.Path.{ap₂}
-use Rattle.spec.specs.Verdicts.{flat_lines}
 use Rattle.verdicts.specs.Row.{shared}
 use Rattle.verdicts.proofs.Filling.{filled, filled_none, filled_more, filled_written, shared_is}
 use Rattle.verdicts.proofs.write.Goals as goal
