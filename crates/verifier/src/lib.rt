@@ -51,7 +51,8 @@ pub fn judge<'a>(
     match checked {
         Checked::Refused(refusal) => Judged::Refused(refusal),
         Checked::Fine(classes) => {
-            if short(classes, verdicts.len() / VERDICT_BYTES, scratch.len()) {
+            let lacks_room = short(classes, verdicts.len() / VERDICT_BYTES, scratch.len());
+            if lacks_room {
                 return Judged::Refused(plain(12));
             }
             let sheet = &user[0..used];
