@@ -8,7 +8,7 @@ use mathlib.Core.Logic.{◌⊎◌, inl, inr}
 use Prim.Native.Nat.{ℕ, zero, suc, ◌+◌, ◌-◌, ◌≤◌, ◌<◌}
 use native.Mathlib.Omega.{arith}
 use lib.Dec.{T, ltb, ltb→lt, nltb→le}
-use lib.ListN.{get_or-append, replicate}
+use lib.ListN.{replicate}
 use lib.Seq.{ext_get_or}
 use borrow.Author.Tests.{lt-ltb}
 use Rattle.spec.specs.Lists.{concat, span}
@@ -17,11 +17,11 @@ use Rattle.spec.specs.Relations.{Says, Superclass, Encloser, Implements}
 use Rattle.theory.proofs.Accept.{Clear}
 use Rattle.laws.proofs.Bools.{decide}
 use Rattle.theory.proofs.Falls.{Falls}
-use Rattle.theory.proofs.Lower.{gathered_same, overlay_same}
+use Rattle.theory.proofs.Alike.{gathered_same, overlay_same, below_above}
+use Rattle.theory.proofs.Deemed.{library_same}
 use Rattle.laws.proofs.Rows.{length_values, get_or_values}
 use Rattle.groups.specs.Groups.{start_of, Indexed}
 use Rattle.theory.proofs.Form.{group_past}
-use Rattle.groups.proofs.Held.{in_library}
 use Rattle.overlay.specs.Memo.{raw, memo_of}
 use Rattle.form.specs.Form.{deemed_breaks, deemed_from, first_deemed}
 
@@ -59,8 +59,7 @@ module _ {library user : List ℕ} {nlib n : ℕ} {starts : List ℕ} (x : Index
   }
 
   same : (c : ℕ) → c < nlib → group library user c ≡ group library [] c
-  unfolding group class_count
-  same c h = (in_library x h).its ∙ sym (get_or-append (groups_of library) (groups_of []) [] c (in_library x h).there)
+  same c h = library_same library user [] c (omega (arith, x.nlib_is))
 
   -- a record says it, so the class is the library's
   below : {k : ℕ} {read : List ℕ → ℕ} {t : ℕ} (c : ℕ) → Says k read (group library [] c) t → c < nlib
@@ -84,7 +83,7 @@ module _ {library user : List ℕ} {nlib n : ℕ} {starts : List ℕ} (x : Index
     unfolding deemed_from
     from_same zero c h = refl
     from_same (suc k) c h =
-        let e = sym (overlay_same nlib (group library user) (group library []) f same c (omega arith)) in
+        let e = sym (overlay_same (group library user) (group library []) (λ d. d < nlib) (below_above f nlib) same c (omega arith)) in
         ap₂ (λ (b : Bool) (m : ℕ). elim b as (λ (x : Bool). ℕ) [ true ↦ c | false ↦ m ]) (ap (deemed_breaks c) e) (from_same k (c + 1) (omega arith))
 
     pub alone_deemed : first_deemed (group library []) nlib ≡ first_deemed (group library user) nlib
@@ -98,7 +97,7 @@ module _ {library user : List ℕ} {nlib n : ℕ} {starts : List ℕ} (x : Index
         let b = raw (group library user) in
         ext_get_or 0 _ _ (length_values a k ∙ sym (length_values b k)) (λ i l.
         let m : i < k = omega (arith, length_values a k) in
-        get_or_values a k 0 i m ∙ sym (gathered_same nlib (group library user) (group library []) f same (suc i) i (omega arith)) ∙ sym (get_or_values b k 0 i m))
+        get_or_values a k 0 i m ∙ sym (gathered_same (group library user) (group library []) (λ d. d < nlib) (below_above f nlib) same (suc i) i (omega arith)) ∙ sym (get_or_values b k 0 i m))
 
     pub alone_memo : {k : ℕ} → k ≤ nlib → memo_of (group library []) k ≡ memo_of (group library user) k
     unfolding memo_of

@@ -2,30 +2,29 @@
 -- Its groups rise by kind as they are made (16). And the refusals of the operation that writes it have its numbers.
 -- Assumes nothing.
 use mathlib.Core.Path.{◌≡◌, refl, sym, ap, ◌∙◌, subst}
-use mathlib.Core.Bool.{Bool, not, ◌&&◌, ◌||◌}
+use mathlib.Core.Bool.{not}
 use mathlib.Core.List.{List, [], ◌∷◌, ◌++◌, map}
 use mathlib.Core.Option.{Option, none, some}
-use Prim.Native.Nat.{ℕ, zero, suc, ◌+◌, ◌≤◌, ◌<◌, zero-le}
+use Prim.Native.Nat.{ℕ, zero, suc, ◌+◌, ◌≤◌, zero-le}
 use native.Mathlib.Nat.{le_refl}
 use native.Mathlib.Omega.{arith}
-use lib.Dec.{T, eqb, ltb, eqb→eq, ltb→lt}
-use lib.ListN.{length, get_or, take, length-map, get_or-append}
+use lib.Dec.{T, eqb, ltb, eqb→eq}
+use lib.ListN.{length, get_or, take, length-map}
 use lib.Seq.{take-length}
 use Rattle.spec.specs.Lists.{any, all, concat, gather, elem, span}
-use Rattle.spec.specs.Record.{Bytes, kind, is_kind, is_class, CLASS, LOCAL, MEMBER}
-use Rattle.spec.specs.Sheet.{Group, located, whole_end, groups_of, class_count, total, group, class_record, of_kind}
-use Rattle.spec.specs.Markers.{implies, clash}
-use Rattle.spec.specs.Classes.{overlay}
-use Rattle.spec.specs.Refusals.{Refusal, Accepted, record_refusal, torn_refusal, no_class_refusal, one_class, deemed_tests, form_refusal, deemed_refusal, sheet_refusal, present_refusal}
+use Rattle.spec.specs.Record.{Bytes, kind, is_kind, CLASS, LOCAL, MEMBER}
+use Rattle.spec.specs.Sheet.{Group, whole_end, groups_of, class_count, total, group, class_record, of_kind}
+use Rattle.spec.specs.Markers.{implies}
+use Rattle.spec.specs.Refusals.{Refusal, Accepted, record_refusal, torn_refusal, no_class_refusal, one_class, form_refusal, deemed_refusal, sheet_refusal, present_refusal}
 use Rattle.spec.specs.Refusals.{refuse_plain, judge_refusal, query_refusal, record_numbers, plain_numbers, present_numbers, judge_numbers, query_numbers}
 use Rattle.theory.specs.Claims.{Blames, plain}
 use Rattle.spec.proofs.Also.{◌also◌}
-use Rattle.laws.proofs.Bools.{not_not, not_and, not_and_r, eq→eqb, and_r, T-implies}
+use Rattle.laws.proofs.Bools.{not_not, eq→eqb, T-implies}
 use Rattle.laws.proofs.All.{All, all_concat, weaken, weaken₂, all_map, all_true}
 use Rattle.laws.proofs.Members.{all_elem}
-use Rattle.theory.proofs.Answers.{Gives, gives_first, first_none, first_some, none_first, none_if, passing, unrefused}
-use Rattle.theory.proofs.Accept.{RecordFits, Sound, sound, by_class}
-use Rattle.theory.proofs.Fitting.{of_class, fits_form}
+use Rattle.theory.proofs.Answers.{Gives, gives_first, first_none, first_some, none_first, none_if}
+use Rattle.theory.proofs.Accept.{RecordFits, Sound, sound}
+use Rattle.theory.proofs.Fitting.{fits_form}
 use Rattle.theory.proofs.Unrefused.{present_facts, facts_present}
 use Rattle.theory.proofs.Form.{sound_falls, Byte}
 use Rattle.theory.proofs.Refused.{gives_if, refusals_hold}
@@ -35,7 +34,7 @@ use Rattle.meaning.proofs.Shaped.{Shaped, shaped_groups, one_class_lem}
 use Rattle.meaning.proofs.Grouped.{others_stay, arranged_kind, of_canonical, canonical_all, canonical_front, canonical_count, forms_shaped, end_of_canonical, loose_of_canonical, groups_of_canonical}
 use Rattle.meaning.proofs.Same.{canonical_short}
 use Rattle.theory.proofs.Few.{groups_few}
-use Rattle.theory.proofs.Lower.{overlay_same}
+use Rattle.theory.proofs.Deemed.{deemed_stays}
 use Rattle.theory.proofs.Order.{Ascends}
 use Rattle.meaning.proofs.Kept.{Keeps, fits_kept}
 use Rattle.meaning.proofs.Passing.{Good, good_passes}
@@ -78,13 +77,6 @@ same_keeps : (g : Group) → Keeps g g
 same_keeps g = record { first = refl; classes = refl; locals = refl; members = refl }
 
 -- ---- the sheet
-
--- what 11 asks of a library class c with overlay markers m
-badly : ℕ → ℕ → Bool
-badly c m = clash m || (eqb c 0 && not (eqb m 0))
-
-abbrev Deems : ℕ → (ℕ → Group) → ℕ → List ℕ → Type 0
-Deems nlib g c r = T (is_class r && ltb c nlib) → T (not (badly c (overlay g c)))
 
 all_bytes : (s : List ℕ) → All Byte s → Bytes s
 all_bytes [] h = tt
@@ -136,10 +128,6 @@ module _ (library now : List ℕ) (e : sheet_refusal library now ≡ none) (shap
   unfolding group
   group_all P c h = subst (All P) (new_group c) (row_all P (groups_of library) (groups_of now) c h)
 
-  library_same : (c : ℕ) → c < class_count library → group library now c ≡ group library new c
-  unfolding group class_count
-  library_same c h = get_or-append (groups_of library) (groups_of now) [] c h ∙ sym (get_or-append (groups_of library) (groups_of new) [] c h)
-
   forms_good : All Good (map canonical_group (groups_of now))
   forms_good =
       all_map (λ g. All Shaped g × (length g ≤ 255)) Good canonical_group
@@ -169,21 +157,8 @@ module _ (library now : List ℕ) (e : sheet_refusal library now ≡ none) (shap
           (group_all (RecordFits (class_count library) (total library now) (group library now) c) c (old.fits c)))
 
   deemed_fine : deemed_refusal library new ≡ none
-  unfolding sheet_refusal deemed_refusal deemed_tests badly
-  deemed_fine =
-      let nlib : ℕ = class_count library in
-      let g : ℕ → Group = group library now in
-      let g' : ℕ → Group = group library new in
-      let was : (c : ℕ) → All (Deems nlib g c) (g c) = by_class (Deems nlib g) library now
-      (passing (deemed_tests g nlib) (λ l. Deems nlib g l.class l.bytes)
-      (λ l f. not_and_r (is_class l.bytes && ltb l.class nlib) (badly l.class (overlay g l.class)) f.0) (located library now) (first_none _ e).1.1.1.1.1.1.0) in
-      unrefused (deemed_tests g' nlib) (λ l. Deems nlib g' l.class l.bytes)
-      (λ l f. (not_and (is_class l.bytes && ltb l.class nlib) (badly l.class (overlay g' l.class)) f, tt)) (located library new)
-      (of_class (Deems nlib g') library new old.library_sheet.loose (loose_of_canonical now shaped)
-      (λ c. weaken (Deems nlib g c) (Deems nlib g' c)
-      (λ r f t. subst (λ (m : ℕ). T (not (badly c m)))
-      (overlay_same nlib g g' (sound_falls library now old) library_same c (ltb→lt c nlib (and_r (is_class r) (ltb c nlib) t))) (f t))
-      (g' c) (group_all (Deems nlib g c) c (was c))))
+  unfolding sheet_refusal
+  deemed_fine = deemed_stays library now new (sound_falls library now old) old.library_sheet.loose (loose_of_canonical now shaped) (first_none _ e).1.1.1.1.1.1.0
 
   canonical_unrefused : sheet_refusal library new ≡ none
   unfolding sheet_refusal

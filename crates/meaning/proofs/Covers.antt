@@ -167,8 +167,9 @@ module _ (g h : Group) (u : UserGroup g) (v : UserGroup h) (m : SameMeaning g h)
 
   same_references : {d : ℕ} → References g d → References h d
   same_references {d} n =
-      kind_cases (References h d) b (at_member UserRecord g u.kinds n.member) (λ t. here_too (kind_member CLASS g h same_class n.member t)) by_implements
-      (λ t. here_too (kind_member FIELD g h m.fields n.member t)) (λ t. here_too (kind_member LOCAL g h m.locals n.member t)) by_uses by_builds by_refers
+      kind_cases (References h d) b (at_member UserRecord g u.kinds n.member) (λ t. here_too (kind_member CLASS g h same_class n.member t))
+      (by_said IMPLEMENTS references_implements (m.implements d).0) (λ t. here_too (kind_member FIELD g h m.fields n.member t))
+      (λ t. here_too (kind_member LOCAL g h m.locals n.member t)) by_uses (by_said BUILDS references_builds (m.builds d).0) by_refers
     where
       b : List ℕ
       b = n.bytes
@@ -181,20 +182,15 @@ module _ (g h : Group) (u : UserGroup g) (v : UserGroup h) (m : SameMeaning g h)
       is : references b ≡ target b ∷ [] → target b ≡ d
       is e = sym (Memᴰ.eq_of_singleton (subst (Memᴰ d) e n.names))
 
-      by_implements : T (is_kind IMPLEMENTS b) → References h d
-      by_implements t =
-          let q = (m.implements d).0 (record { bytes = b; member = n.member; of_kind = t; is = is (references_implements b t) }) in
-          target_named q.member (references_implements q.bytes q.of_kind) q.is
+      by_said : (k : ℕ) → ((r : List ℕ) → T (is_kind k r) → references r ≡ target r ∷ []) → (Says k target g d → Says k target h d) → T (is_kind k b) → References h d
+      by_said k alone says t =
+          let q = says (record { bytes = b; member = n.member; of_kind = t; is = is (alone b t) }) in
+          target_named q.member (alone q.bytes q.of_kind) q.is
 
       by_uses : T (is_kind USES b) → References h d
       by_uses t =
           let q = (m.uses d (index b)).0 (record { bytes = b; member = n.member; of_kind = t; owner = is (references_uses b t); variable = refl }) in
           target_named q.member (references_uses q.bytes q.of_kind) q.owner
-
-      by_builds : T (is_kind BUILDS b) → References h d
-      by_builds t =
-          let q = (m.builds d).0 (record { bytes = b; member = n.member; of_kind = t; is = is (references_builds b t) }) in
-          target_named q.member (references_builds q.bytes q.of_kind) q.is
 
       by_refers : T (is_kind REFERS b) → References h d
       by_refers t =

@@ -13,7 +13,7 @@ pub mod Lines
 pub mod Capture
 pub mod Form
 pub mod Few
-pub mod Lower
+pub mod Alike
 pub mod Slots
 pub mod Local
 pub mod Lowest
@@ -24,6 +24,7 @@ pub mod New
 pub mod Unrefused
 pub mod Promised
 pub mod Fitting
+pub mod Deemed
 pub mod Withdraw
 pub mod Refused
 pub mod Order

@@ -7,12 +7,12 @@ use Prim.Native.Nat.{ℕ, zero, suc}
 use lib.Dec.{T, eqb, ltb}
 use lib.ListN.{length, get_or, take, drop}
 use Rattle.spec.specs.Lists.{any, keep, gather, numbered, only_if, elem, ascending}
-use Rattle.spec.specs.Record.{bit, is_kind, CLASS, IMPLEMENTS, FIELD, LOCAL, BUILDS, MEMBER, REFERS, flags, own_markers, superclass, encloser}
+use Rattle.spec.specs.Record.{bit, is_kind, CLASS, IMPLEMENTS, FIELD, LOCAL, BUILDS, MEMBER, REFERS, flags, superclass, encloser}
 use Rattle.spec.specs.Record.{target, index, Ty, field_ty, local_ty, is_final, is_static, unless_none, ty_references, references}
 use Rattle.spec.specs.Sheet.{Group, class_count, group, class_record, group_references, of_kind, is_interface, is_inner, is_allowed, is_static_field, is_instance_field}
-use Rattle.spec.specs.Markers.{Immutable, Powerless, Selfless, DeepSelfless, closure, union, union_all}
+use Rattle.spec.specs.Markers.{Immutable, Powerless, Selfless, DeepSelfless}
 use Rattle.spec.specs.Classes.{superclasses, enclosing, targets, supertypes, locals, local_at, used_indexes, class_ty, Slot, field_slot, encloser_slot}
-use Rattle.spec.specs.Classes.{variable_slot, gathered, overlay, has_marker, satisfies, enclosers_in, enclosers, inside, lineage_in, lineage, root_in, root}
+use Rattle.spec.specs.Classes.{variable_slot, has_marker, satisfies, enclosers_in, enclosers, inside, lineage_in, lineage, root_in, root}
 use Rattle.spec.specs.Classes.{builds_inside, captured_of, captured, encloser_slots, field_slots, captured_slots, own_slots, slots}
 use Rattle.spec.specs.Rules.{Fault, static_breaks, slot_fault, faults_at, fault_if, forbidden, rule1, member_allowed, rule2, rule3, rule4, rule5, rule6, judged_for}
 use Rattle.spec.specs.Rules.{slot_faults, root_fits, root_faults, rule7, rule8, base_fits, base_faults, rule9, rule10, rules, verdict_of}
@@ -21,8 +21,9 @@ use Rattle.spec.specs.Verdicts.{verdict_at}
 use Rattle.theory.specs.Claims.{Locality}
 use Rattle.laws.proofs.Bools.{and_l, and_cong}
 use Rattle.laws.proofs.All.{All, all_append, all_left, all_right, all_keep, all_take, all_drop, all_if, of_members, at_member, weaken, all_kept}
-use Rattle.laws.proofs.All.{all_gather, all_map, all_parts, map_cong, any_cong, all_cong, keep_cong, all_numbered, gather_same}
+use Rattle.laws.proofs.All.{all_gather, all_map, all_parts, any_cong, all_cong, keep_cong, all_numbered, gather_same}
 use Rattle.theory.proofs.Reach.{reach_in, reach_same}
+use Rattle.theory.proofs.Alike.{overlay_same}
 use Rattle.laws.proofs.Members.{gather_mem, ascending_mem}
 use Rattle.theory.proofs.References.{references_class, references_implements, references_field, references_local, references_builds, references_refers}
 
@@ -84,21 +85,9 @@ module _ (nlib : ℕ) (g g' : ℕ → Group) (P : ℕ → Type 0) (closed : (d :
 
   -- ---- markers
 
-  gathered_same : (n c : ℕ) → P c → gathered g n c ≡ gathered g' n c
-  unfolding gathered
-  gathered_same zero c p = refl
-  gathered_same (suc n) c p =
-      rw (← same c p)
-      (ap (λ (ms : List ℕ). union (own_markers (class_record (g c))) (union_all ms))
-      (map_cong P (gathered g n) (gathered g' n) (gathered_same n) (supertypes (g c)) (supertypes_in c p)))
-
-  pub overlay_same : (c : ℕ) → P c → overlay g c ≡ overlay g' c
-  unfolding overlay
-  overlay_same c p = ap closure (gathered_same (suc c) c p)
-
   marker_same : (k c : ℕ) → P c → has_marker g k c ≡ has_marker g' k c
   unfolding has_marker
-  marker_same k c p = ap (bit k) (overlay_same c p)
+  marker_same k c p = ap (bit k) (overlay_same g g' P supertypes_in same c p)
 
   type_same : (k : ℕ) (t : Ty) → TypeIn t → satisfies g k t ≡ satisfies g' k t
   unfolding satisfies
@@ -339,7 +328,7 @@ module _ (nlib : ℕ) (g g' : ℕ → Group) (P : ℕ → Type 0) (closed : (d :
   pub verdict_same : (c : ℕ) → P c → verdict_of nlib g c ≡ verdict_of nlib g' c
   unfolding verdict_of rules rule3 rule4 rule6 fault_if
   verdict_same c p =
-      cc (same c p, overlay_same c p, rule1_same c p, rule2_same c p, rule5_same c p, rule7_same c p, rule8_same c p, rule9_same c p, rule10_same c p)
+      cc (same c p, overlay_same g g' P supertypes_in same c p, rule1_same c p, rule2_same c p, rule5_same c p, rule7_same c p, rule8_same c p, rule9_same c p, rule10_same c p)
 
 -- ---- the classes that c depends on are such a set
 

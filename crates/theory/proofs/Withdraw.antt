@@ -2,7 +2,7 @@
 -- Assumes nothing.
 use mathlib.Core.Path.{◌≡◌, sym, ap, ◌∙◌, subst}
 use mathlib.Core.Logic.{◌⊎◌, inl, inr, ◌≢◌}
-use mathlib.Core.Bool.{Bool, true, false, not, ◌&&◌, ◌||◌}
+use mathlib.Core.Bool.{Bool, true, false, not, ◌||◌}
 use mathlib.Core.List.Memᴰ
 use mathlib.Core.List.{List, [], ◌∷◌, ◌++◌, map, map-append, append_assoc, Memᴰ}
 use mathlib.Core.Option.{none}
@@ -14,12 +14,10 @@ use lib.ListN.{length, get_or, take, drop, length-append, take-append-drop, get_
 use lib.Seq.{length-take-le}
 use Rattle.spec.specs.Lists.{any, concat, elem, span, same_list}
 use Rattle.spec.specs.Record.{kind, is_class, bit, none16, flags, superclass, target, index, class_name, references, LOCAL, MEMBER}
-use Rattle.spec.specs.Sheet.{Group, Located, locate, located_in, located, split_groups, records_of, whole_end, groups_of, class_count, total, group, class_record, group_references, of_kind}
+use Rattle.spec.specs.Sheet.{Group, Located, locate, located_in, split_groups, records_of, whole_end, groups_of, class_count, total, group, class_record, group_references, of_kind}
 use Rattle.spec.specs.Sheet.{is_interface}
-use Rattle.spec.specs.Markers.{clash}
-use Rattle.spec.specs.Classes.{overlay}
 use Rattle.spec.specs.Relations.{References}
-use Rattle.spec.specs.Refusals.{no_class_refusal, record_tests, record_refusal, torn_refusal, superclass_fits, implements_fits, uses_fits, name_met, one_class, deemed_tests, form_refusal}
+use Rattle.spec.specs.Refusals.{no_class_refusal, record_tests, record_refusal, torn_refusal, superclass_fits, implements_fits, uses_fits, name_met, one_class, form_refusal}
 use Rattle.spec.specs.Refusals.{deemed_refusal, sheet_refusal, last_class, empty_refusal, named_refusal, withdrawn_sheet}
 use Rattle.theory.specs.Claims.{WithdrawnSheets, NamedRight}
 use Rattle.spec.proofs.Also.{◌also◌}
@@ -28,12 +26,13 @@ use Rattle.laws.proofs.All.{All, all_take, weaken, weaken₂, any_cong, all_part
 use Rattle.laws.proofs.Members.{elem_mem, mem_elem}
 use Rattle.theory.proofs.Answers.{Fails, first_none, none_first, none_if, plain_none, none_plain, passing, unrefused}
 use Rattle.theory.proofs.Cut.{IsGroup, concat_append, map_take, split_join, split_parts, records_of_groups, groups_of_join, sheet_grouped, sheet_groups, whole_join}
-use Rattle.theory.proofs.Accept.{locate_if, RecordFits, Sound, sound, references_below, by_class}
-use Rattle.theory.proofs.Local.{enclosers_same, overlay_same}
+use Rattle.theory.proofs.Accept.{locate_if, RecordFits, Sound, sound, references_below}
+use Rattle.theory.proofs.Local.{enclosers_same}
 use Rattle.theory.proofs.References.{references_uses, references_refers}
 use Rattle.theory.proofs.Groups.{reference_is}
-use Rattle.theory.proofs.Form.{group_past}
-use Rattle.theory.proofs.Fitting.{of_class, fits_form}
+use Rattle.theory.proofs.Form.{group_past, sound_falls}
+use Rattle.theory.proofs.Fitting.{fits_form}
+use Rattle.theory.proofs.Deemed.{deemed_stays}
 
 -- there is a class where 13 is not due
 pub some_class : (user : List ℕ) → empty_refusal user ≡ none → 1 ≤ class_count user
@@ -95,13 +94,6 @@ locate_left P s at n k p (r ∷ rs) rs' h = go (is_class r) h (locate_left P s (
     go false h f f' = (h.0, f' h.1)
 
 -- ---- the sheets without the last group
-
--- 11 of a record of class c, whose overlay markers are m
-deemed_bad : ℕ → ℕ → ℕ → List ℕ → Bool
-deemed_bad nlib m c r = is_class r && ltb c nlib && (clash m || (eqb c 0 && not (eqb m 0)))
-
-abbrev Deems : ℕ → (ℕ → Group) → ℕ → List ℕ → Type 0
-Deems nlib g c r = T (not (deemed_bad nlib (overlay g c) c r))
 
 module _ (library user : List ℕ) (e : sheet_refusal library user ≡ none) (filled : 1 ≤ class_count user) where
   old : Sound library user
@@ -227,22 +219,8 @@ module _ (library user : List ℕ) (e : sheet_refusal library user ≡ none) (fi
         (not_not (eqb (whole_end left) (length left)) (eq→eqb (whole_join (map concat (take k (groups_of user))) left_whole)))
 
     deemed_fine : deemed_refusal library left ≡ none
-    unfolding sheet_refusal deemed_refusal deemed_tests deemed_bad
-    deemed_fine =
-        let nlib : ℕ = class_count library in
-        let was : (c : ℕ) → All (Deems nlib g c) (g c) = by_class (Deems nlib g) library user
-        (passing (deemed_tests g nlib) (λ l. Deems nlib g l.class l.bytes) (λ l f. f.0) (located library user) (first_none _ e).1.1.1.1.1.1.0) in
-        unrefused (deemed_tests (group library left) nlib) (λ l. Deems nlib (group library left) l.class l.bytes) (λ l f. (f, tt)) (located library left)
-        (of_class (Deems nlib (group library left)) library left old.library_sheet.loose left_loose (λ c. go was c (decide (ltb c n'))))
-      where
-        go : ((c : ℕ) → All (Deems (class_count library) g c) (g c)) → (c : ℕ) → T (ltb c n') ⊎ T (not (ltb c n'))
-            → All (Deems (class_count library) (group library left) c) (group library left c)
-        go was c (inl t) =
-            let h = ltb→lt c n' t in
-            subst (λ (m : ℕ). All (λ r. T (not (deemed_bad (class_count library) m c r))) (group library left c))
-            (overlay_same (class_count library) g (group library left) (λ d. d < n') closed withdrawn_group c h)
-            (subst (All (Deems (class_count library) g c)) (withdrawn_group c h) (was c))
-        go was c (inr t) = subst (All (Deems (class_count library) (group library left) c)) (sym (group_past library left c (nltb→le c n' t))) tt
+    unfolding sheet_refusal
+    deemed_fine = deemed_stays library user left (sound_falls library user old) old.library_sheet.loose left_loose (first_none _ e).1.1.1.1.1.1.0
 
 pub withdrawn_sheets : WithdrawnSheets
 unfolding sheet_refusal
