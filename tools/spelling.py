@@ -125,7 +125,7 @@ def main(argv):
     together = 0
     for path in texts(root, (".antt", ".rt", ".edit", ".md")):
         old = read(path)
-        new, met = turned(path, old, table, labels.get(path, set()), lemmas, crates)
+        new, met = turned(path, old, table, labels.get(path, set()), crates)
         for k, v in sorted(met.items()):
             # A word may have the name of the Rust function that it is the meaning of, but not that of a variable.
             if len(v) > 1 and not (path.endswith(".rt") and not re.search(rf"\b{k}\s*:(?!:)|\blet (?:mut )?{k}\b", new)):
@@ -138,7 +138,7 @@ def main(argv):
     return 1 if together else 0
 
 
-def turned(path, text, table, labels, lemmas, crates):
+def turned(path, text, table, labels, crates):
     """The text in the new spelling, and for each word of its code what it was."""
     met = collections.defaultdict(set)
     code = COMMENT.sub("", text) if path.endswith(".antt") else RUST_COMMENT.sub("", text)
@@ -146,7 +146,7 @@ def turned(path, text, table, labels, lemmas, crates):
     answers = os.path.basename(path) in ANSWERS
     imported = {w for m in USE.finditer(code) if is_own(m[1].removeprefix("ghost "), crates) for w in WORD.findall(m[2] or "")} | {m[1] for m in ITEM.finditer(code)}
 
-    def word(m, prose=False):
+    def word(m):
         n = m[0]
         behind = text_of[: m.start()]
         new = table.get(n, n)
@@ -155,7 +155,7 @@ def turned(path, text, table, labels, lemmas, crates):
         # A lemma in snake case already: a Rust function may have its name.
         elif new == n + "_lem" and n not in imported:
             new = n
-        if not prose and not behind.endswith(".") and not re.match(r"\s*=\s", text_of[m.end() :]):
+        if not behind.endswith(".") and not re.match(r"\s*=\s", text_of[m.end() :]):
             met[new].add(n)
         return new
 

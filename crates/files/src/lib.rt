@@ -26,5 +26,6 @@ pub fn read_full<R: Read>(reader: &mut R, buffer: &mut [u8]) -> io::Result<usize
             }
         }
     }
+    // Each turn brings a byte or was interrupted, so no machine runs long enough to come here.
     Err(ErrorKind::Interrupted.into())
 }
