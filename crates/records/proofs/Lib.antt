@@ -7,3 +7,5 @@ pub mod Carried
 pub mod Positions
 pub mod Seeking
 pub mod Lengths
+pub mod Fits
+pub mod Lined

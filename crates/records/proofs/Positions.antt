@@ -9,9 +9,9 @@ use lib.ListN.{length, get_or}
 use borrow.Author.Tests.{ne_eqb}
 use Rattle.spec.specs.Record.{u8, u16, bit, kind, is_kind, CLASS, IMPLEMENTS, FIELD, LOCAL, USES, BUILDS, MEMBER, REFERS}
 use Rattle.spec.specs.Record.{flags, own_markers, superclass, encloser, target, index, ty_at, field_ty, local_ty, is_static}
-use Rattle.laws.proofs.Bools.{t_true, true_t}
+use Rattle.laws.proofs.Bools.{t_true}
 use Rattle.laws.proofs.Parts.{part_byte, part_word, part_type}
-use Rattle.records.proofs.Sizes.{each, shortest, size_known, at_least, length_fits_lem}
+use Rattle.records.proofs.Sizes.{six_long, no_kind, shortest, size_known, at_least, length_fits_lem}
 use Rattle.records.proofs.Whole.{Whole, whole_at, at_whole, length_here, kind_here}
 use Rattle.records.proofs.Walks.{walk_on, size_here}
 use Rattle.records.specs.Records.{Sized, record_at, size_fits, AtRecord}
@@ -26,15 +26,6 @@ walk_sized {s} {end} {at} w h =
     record { whole = at_whole a; size = t_true _ (size_here w h) }
 
 -- ---- a known kind that is none of the other seven is BUILDS
-
-no_kind : (n : ℕ) → size_fits 0 n ≡ true → ⊥
-unfolding size_fits
-no_kind n e = true_t e
-
-six_long : (k : ℕ) → k < 9 → (k ≡ 0 → ⊥) → 6 ≤ get_or shortest k 0
-six_long k h n =
-    each (λ j. (j ≡ 0 → ⊥) → 6 ≤ get_or shortest j 0) 9
-    (λ z. absurd (z refl), (λ z. omega arith, (λ z. omega arith, (λ z. omega arith, (λ z. omega arith, (λ z. omega arith, (λ z. omega arith, (λ z. omega arith, (λ z. omega arith, tt))))))))) k h n
 
 six_or_more : (k : ℕ) → (k ≡ 0 → ⊥) → (k ≡ 1 → ⊥) → (k ≡ 2 → ⊥) → (k ≡ 3 → ⊥) → (k ≡ 4 → ⊥) → (k ≡ 5 → ⊥) → 6 ≤ k
 six_or_more k n0 n1 n2 n3 n4 n5 = omega arith

@@ -65,3 +65,21 @@ size_known k n e = go (leb 9 k) refl
 pub at_least : (j : ℕ) {k n : ℕ} → k ≡ j → size_fits k n ≡ true → get_or shortest j 0 ≤ n
 at_least j {k} {n} e h =
     leb→le _ n (and_l (leb (get_or shortest j 0) n) (leb n (get_or longest j 0)) (true_t (rw (size_row k n (size_known k n h), e) at h)))
+
+-- ---- each kind has at least six bytes, and none is 0
+
+pub no_kind : (n : ℕ) → size_fits 0 n ≡ true → ⊥
+unfolding size_fits
+no_kind n e = true_t e
+
+pub six_long : (k : ℕ) → k < 9 → (k ≡ 0 → ⊥) → 6 ≤ get_or shortest k 0
+six_long k h n =
+    each (λ j. (j ≡ 0 → ⊥) → 6 ≤ get_or shortest j 0) 9
+    (λ z. absurd (z refl), (λ z. omega arith, (λ z. omega arith, (λ z. omega arith, (λ z. omega arith, (λ z. omega arith, (λ z. omega arith, (λ z. omega arith, (λ z. omega arith, tt))))))))) k h n
+
+-- the length of a record that fits its kind
+pub kind_sixes : (k n : ℕ) → size_fits k n ≡ true → 6 ≤ n
+kind_sixes k n h =
+    let l = six_long k (size_known k n h) (λ q. no_kind n (rw q at h)) in
+    let m = at_least k refl h in
+    omega arith

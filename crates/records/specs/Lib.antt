@@ -1,2 +1,3 @@
 pub mod Lengths
 pub mod Records
+pub mod Kinds

@@ -7,6 +7,10 @@ ghost use Rattle.spec.specs.Sheet.{of_kind};
 ghost use Rattle.records.specs.Lengths.{whole_length};
 ghost use Rattle.records.specs.Records.{between, AtRecord, nth_byte};
 
+pub mod group;
+pub mod kind;
+pub mod record;
+
 // The kinds of records.
 pub const CLASS: u16 = 1;
 
