@@ -14,6 +14,9 @@ use Rattle.spec.specs.Lists.{concat}
 use Rattle.spec.specs.Record.{u8, u16, kind, is_class, flags, own_markers, superclass, encloser, class_name}
 use Rattle.spec.specs.Sheet.{whole_first, records_in, records_of, whole_end, class_record}
 use Rattle.laws.proofs.Bools.{true_t}
+use lib.Dec.{T}
+use Rattle.spec.specs.Refusals.{one_class}
+use Rattle.theory.proofs.Form.{class_first}
 use Rattle.laws.proofs.All.{All}
 use Rattle.theory.proofs.Cut.{First, first_is, records_step, records_stop}
 use Rattle.records.specs.Kinds.{Fits, Lined, OneClass, head_of}
@@ -64,16 +67,20 @@ module _ {s : List ℕ} (w : Lined s) (h : 0 < length s) where
 
 -- ---- one class's bytes begin with its CLASS record
 
-open_lem : (s : List ℕ) → length s ≡ 0 → is_class (class_record (records_of s)) ≡ true → ⊥
-unfolding class_record kind u16
-open_lem s e o = true_t (rw (lined_end s e) at o)
+open_lem : (s : List ℕ) → length s ≡ 0 → T (one_class (records_of s)) → ⊥
+unfolding one_class
+open_lem s e o = rw (lined_end s e) at o
 
 pub some_bytes : {s : List ℕ} → OneClass s → 0 < length s
 some_bytes {s} w = go (ℕ_discrete (length s) 0)
   where
     go : Dec (length s ≡ 0) → 0 < length s
-    go (yes e) = absurd (open_lem s e w.opens)
+    go (yes e) = absurd (open_lem s e w.one)
     go (no n) = omega arith
+
+all_tt : (rs : List (List ℕ)) → All (λ _. Unit {0}) rs
+all_tt [] = tt
+all_tt (r ∷ rs) = (tt, all_tt rs)
 
 module _ {s : List ℕ} (w : OneClass s) where
   pub class_here : class_record (records_of s) ≡ take (u16 s 0) s
@@ -87,7 +94,7 @@ module _ {s : List ℕ} (w : OneClass s) where
   pub class_long : (13 ≤ u16 s 0) × (u16 s 0 ≤ length s)
   class_long =
       let f = first_lem w.lined (some_bytes w) in
-      let k : 1 ≡ kind (take (u16 s 0) s) = sym (eqb→eq (kind (take (u16 s 0) s)) 1 (true_t (subst (λ (r : List ℕ). is_class r ≡ true) class_here w.opens))) in
+      let k : 1 ≡ kind (take (u16 s 0) s) = sym (eqb→eq (kind (take (u16 s 0) s)) 1 (subst (λ (r : List ℕ). T (is_class r)) class_here (class_first (λ _. Unit {0}) (records_of s) w.one (all_tt (records_of s))).1)) in
       let l = long class_fits 1 k in
       (omega (arith, l, length-take-le (u16 s 0) s f.ends), f.ends)
 

@@ -1,9 +1,10 @@
 -- Kinds as an enum, and what a record says by its kind.
 -- Assumes nothing.
 use Rattle.std.specs.Prelude.{◌≡◌, true, false, Option, None, Some, Result, MatchResult, List, ℕ, ◌<◌, ◌⊎◌, T, eqb, length}
-use Rattle.spec.specs.Sheet.{records_of, whole_end, class_record}
+use Rattle.spec.specs.Sheet.{records_of, whole_end}
+use Rattle.spec.specs.Refusals.{one_class}
 use Rattle.laws.proofs.All.{All}
-use Rattle.spec.specs.Record.{u16, kind, is_class, flags, own_markers, superclass, encloser, target, index, Ty as SpecTy, field_ty, local_ty, length_fits}
+use Rattle.spec.specs.Record.{u16, kind, flags, own_markers, superclass, encloser, target, index, Ty as SpecTy, field_ty, local_ty, length_fits}
 use Rattle.records.specs.declared.kind.Kind.{Kind}
 use Rattle.records.specs.declared.kind.Kind.TheVariants.{Class, Implements, Field, Local, Uses, Builds, Member, Refers}
 use Rattle.records.specs.declared.kind.UnknownKind.{UnknownKind}
@@ -61,4 +62,4 @@ pub record Lined (s : List ℕ) : Type 0 where
 -- bytes that are the records of one class, its CLASS record first
 pub record OneClass (s : List ℕ) : Type 0 where
   pub lined : Lined s
-  pub opens : is_class (class_record (records_of s)) ≡ true
+  pub one : T (one_class (records_of s))
