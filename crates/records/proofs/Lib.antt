@@ -10,3 +10,4 @@ pub mod Lengths
 pub mod Fits
 pub mod Lined
 pub mod Bodies
+pub mod Optional
