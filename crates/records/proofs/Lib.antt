@@ -9,3 +9,4 @@ pub mod Seeking
 pub mod Lengths
 pub mod Fits
 pub mod Lined
+pub mod Bodies
