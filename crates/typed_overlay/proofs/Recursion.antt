@@ -2,14 +2,14 @@
 -- Assumes nothing.
 use mathlib.Core.Path.{◌≡◌, refl, sym, ap, ◌∙◌, subst}
 use mathlib.Core.Bool.{Bool, true, false}
-use mathlib.Core.List.{List, [], ◌∷◌, ◌++◌, map, append-nil, map-append, Memᴰ}
+use mathlib.Core.List.{List, [], ◌∷◌, ◌++◌, map, append-nil, map-append}
 use Prim.Native.Nat.{ℕ, suc, ◌<◌}
 use native.Mathlib.Nat.{le_refl}
 use lib.Dec.{T, eqb}
 use Rattle.std.specs.Prelude.{Option, None, Some}
 use Rattle.std.proofs.Math.Option.{none}
 use Rattle.spec.specs.Lists.{gather}
-use Rattle.spec.specs.Record.{is_kind, IMPLEMENTS, own_markers, superclass, target, none16, unless_none}
+use Rattle.spec.specs.Record.{is_kind, IMPLEMENTS, own_markers, superclass, target, unless_none}
 use Rattle.spec.specs.Sheet.{Group, class_record, of_kind}
 use Rattle.spec.specs.Markers.{union, union_all}
 use Rattle.spec.specs.Classes.{superclasses, targets, supertypes, gathered}

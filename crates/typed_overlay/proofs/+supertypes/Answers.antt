@@ -1,10 +1,9 @@
 -- Each call asks lower numbers only, which the memo knows: so just the class that is asked is put into it.
-use Rattle.std.proofs.Common.{◌≡◌, ◌∙◌, ◌<◌, Option, Some, refl, sym, ap, ap₂, arith, List, ℕ, set}
+use Rattle.std.proofs.Common.{◌≡◌, ◌∙◌, Option, Some, refl, sym, ap₂, arith, List, ℕ, set}
 use Rattle.spec.specs.Lists.{keep}
-use Rattle.spec.specs.Sheet.{class_record, of_kind}
+use Rattle.spec.specs.Sheet.{of_kind}
 use Rattle.spec.specs.Markers.{union_all}
 use Rattle.spec.specs.Classes.{targets}
-use Rattle.records.specs.Kinds.{head_of}
 use Rattle.typed_overlay.specs.Memo.{with_interfaces}
 use Rattle.typed_overlay.proofs.Memos.{knows_lower, set_lower}
 use Rattle.typed_overlay.proofs.Recursion.{lists, lists_none, interfaces_lower, superclass_lower, raw_above, raw_alone}

@@ -1,5 +1,5 @@
 -- The entries below the next class are right, and the memo knows those classes; past the last class there is none.
-use Rattle.std.proofs.Common.{◌≡◌, ◌∙◌, ℕ, ap, max, arith}
+use Rattle.std.proofs.Common.{◌≡◌, ◌∙◌, ap, max, arith}
 use Rattle.spec.specs.Classes.{overlay}
 use Rattle.laws.proofs.Rows.{set_below}
 use Rattle.sheets.specs.Sheets.{groups, library_count, count}

@@ -1,5 +1,5 @@
 -- The entries below the next class are right; the classes below it are known, and those of the library.
-use Rattle.std.proofs.Common.{◌≡◌, ◌<◌, ℕ, max, length, get_or}
+use Rattle.std.proofs.Common.{◌≡◌, ◌<◌, ℕ, max, get_or}
 use Rattle.spec.specs.Classes.{overlay}
 use Rattle.sheets.specs.Sheets.{groups, library_count}
 use Rattle.typed_overlay.specs.Memo.{memo_of}
