@@ -2,8 +2,7 @@
 -- Assumes nothing.
 use Rattle.std.specs.Prelude.{Option, None, Some, List, [], ◌∷◌, ◌++◌, ℕ}
 use Rattle.spec.specs.Lists.{only_if}
-use Rattle.spec.specs.Record.{is_kind, BUILDS, target, references, Ty as SpecTy}
-use Rattle.records.specs.declared.record.Ty.{Ty}
+use Rattle.spec.specs.Record.{is_kind, BUILDS, target, references}
 use Rattle.typed_named.specs.declared.Targets.{Targets}
 use Rattle.typed_named.specs.declared.Along.{Along}
 use Rattle.typed_named.specs.declared.Along.TheVariants.{Builds, Every}
@@ -17,10 +16,6 @@ listed n = option_list n.first ++ option_list n.second
 
 abbrev pub alone : Option ℕ → Targets
 alone o = record { first = o; second = None }
-
--- a type as the document has it
-abbrev pub spec_ty : Ty → SpecTy
-spec_ty t = record { dims = t.dims; code = t.code; class = t.class }
 
 -- what a search goes along
 abbrev pub named_by : Along → List ℕ → List ℕ

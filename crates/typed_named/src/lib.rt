@@ -4,7 +4,8 @@
 ghost use Rattle.std.specs.Prelude.{◌≡◌, [], ◌∷◌};
 ghost use Rattle.spec.specs.Lists.{elem, only_if};
 ghost use Rattle.spec.specs.Record.{is_kind, BUILDS, target, references, ty_references};
-ghost use Rattle.typed_named.specs.Named.{listed, option_list, named_by, alone, spec_ty};
+ghost use Rattle.records.specs.Kinds.{spec_ty};
+ghost use Rattle.typed_named.specs.Named.{listed, option_list, named_by, alone};
 
 use records::record::{Body, Record, Ty};
 

@@ -2,7 +2,6 @@
 -- Assumes nothing.
 use Rattle.std.specs.Prelude.{◌≡◌, true, false, List, ℕ, eqb, length, get_or}
 use Rattle.spec.specs.Record.{Ty}
-use Rattle.records.specs.declared.record.Ty.{Ty as ReadTy}
 use Rattle.spec.specs.Sheet.{Group}
 use Rattle.spec.specs.Classes.{overlay}
 
@@ -21,7 +20,3 @@ type_markers g t = markers_by (overlay g) t
 
 unfoldable pub row_markers : List ℕ → Ty → ℕ
 row_markers row t = markers_by (λ c. get_or row c 0) t
-
--- the type that was read
-abbrev pub spec_ty : ReadTy → Ty
-spec_ty t = record { dims = t.dims; code = t.code; class = t.class }

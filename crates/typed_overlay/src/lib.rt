@@ -4,9 +4,10 @@
 
 ghost use Rattle.std.specs.Prelude.{◌≡◌, Some, ◌+◌, ◌<◌, max, length, get_or, set};
 ghost use Rattle.spec.specs.Classes.{overlay as overlay_of};
+ghost use Rattle.records.specs.Kinds.{spec_ty};
 ghost use Rattle.sheets.specs.Sheets.{count, groups, library_count};
 ghost use Rattle.typed_overlay.specs.Memo.{raw, with_interfaces, memo_of, Knows};
-ghost use Rattle.typed_overlay.specs.Types.{Known, row_markers, spec_ty};
+ghost use Rattle.typed_overlay.specs.Types.{Known, row_markers};
 
 use markers::{ALL, closure, union};
 use records::record::{Body, Ty};
