@@ -30,7 +30,7 @@ module _ (library new : List ℕ) (cut : Cut) (c : ℕ) {n : ℕ} (en : n ≡ to
     where
       at : (d : ℕ) → d < 256 → Dec (d ≡ c) → eqb (get_or (set marks c 0) d 0) 0 ≡ eqb d c
       at d h (yes q) = rw (q, get_or-set_same marks c 0 0 (omega (arith, long))) (sym (eq-eqb c c refl))
-      at d h (no q) = rw (get_or-set_other marks c d 0 0 q, em, get_or-replicate 256 d 255 0 h, ne_eqb d c q)
+      at d h (no q) = rw (get_or-set_other marks c d 0 0 q, em, get_or-replicate {A = ℕ} 256 d 255 0 h, ne_eqb d c q)
 
   -- all that depend on it
   pub touched_all : (cut.from ≡ cut.used → ⊥) → {after : List ℕ} → length after ≡ length marks → after ≡ dependent_row library new c marks → Touched library new cut c after
