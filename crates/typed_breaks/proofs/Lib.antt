@@ -1,0 +1,5 @@
+pub mod Bits
+pub mod Banning
+pub mod Naming
+pub mod Statics
+pub mod Members

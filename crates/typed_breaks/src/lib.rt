@@ -1,0 +1,5 @@
+// Whether one record of one class breaks a rule. Nothing is searched here: captured variables and overlay markers stand in their rows.
+#![tactic(auto)]
+
+pub mod bans;
+pub mod early;
