@@ -9,6 +9,7 @@ use Rattle.spec.specs.Refusals.{Refusal, record_tests, record_refusal, torn_refu
 use Rattle.records.specs.Kinds.{kind_number}
 use Rattle.refusals.specs.Refusals.{sheet_number, reason_number}
 use Rattle.refusals.specs.declared.Reason.{Reason}
+use Rattle.refusals.specs.declared.Refusal.{Refusal as Refused}
 use Rattle.typed_pass.specs.declared.place.OpenGroup.{OpenGroup}
 use Rattle.typed_pass.specs.declared.place.Place.{Place}
 
@@ -23,23 +24,36 @@ abbrev pub group_kind : StdOption OpenGroup → ℕ
 group_kind None = 0
 group_kind (Some o) = kind_number o.last
 
-unfoldable pub located : Place → List ℕ → Located
-located p r = record {
-  sheet = sheet_number p.side;
-  byte = p.byte;
-  class = elim (is_class r) [ true ↦ p.classes | false ↦ p.classes - 1 ];
-  record_number = elim (is_class r) [ true ↦ 0 | false ↦ group_records p.group ];
-  before = elim (is_class r) [ true ↦ 0 | false ↦ group_kind p.group ];
-  grouped = elim (is_class r) [ true ↦ true | false ↦ ltb 0 (group_records p.group) ];
+-- a record of sheet `sheet` at a byte, after n classes, and k records of the open group whose last has kind b
+unfoldable pub place : ℕ → ℕ → ℕ → ℕ → ℕ → List ℕ → Located
+place sheet at n k b r = record {
+  sheet = sheet;
+  byte = at;
+  class = elim (is_class r) [ true ↦ n | false ↦ n - 1 ];
+  record_number = elim (is_class r) [ true ↦ 0 | false ↦ k ];
+  before = elim (is_class r) [ true ↦ 0 | false ↦ b ];
+  grouped = elim (is_class r) [ true ↦ true | false ↦ ltb 0 k ];
   bytes = r;
 }
+
+unfoldable pub located : Place → List ℕ → Located
+located p r = place (sheet_number p.side) p.byte p.classes (group_records p.group) (group_kind p.group) r
+
+-- the numbers of classes and of the open group's records after one more record, a CLASS record or another
+abbrev pub classes_after : Bool → ℕ → ℕ
+classes_after true n = suc n
+classes_after false n = n
+
+abbrev pub records_after : Bool → ℕ → ℕ
+records_after true k = 1
+records_after false k = suc k
 
 -- the place after a record
 pub record Follows (p : Place) (r : List ℕ) (after : Place) : Type 0 where
   pub side : after.side ≡ p.side
   pub byte : after.byte ≡ p.byte + length r
-  pub classes : after.classes ≡ elim (is_class r) [ true ↦ p.classes + 1 | false ↦ p.classes ]
-  pub records : group_records after.group ≡ elim (is_class r) [ true ↦ 1 | false ↦ group_records p.group + 1 ]
+  pub classes : after.classes ≡ classes_after (is_class r) p.classes
+  pub records : group_records after.group ≡ records_after (is_class r) (group_records p.group)
   pub last : group_kind after.group ≡ kind r
 
 -- ---- what refuses a record
@@ -67,6 +81,12 @@ pub record Passes (p : Place) (s r : List ℕ) : Type 0 where
   pub whole : whole_first s ≡ true
   pub is : r ≡ first_record s
   pub fine : first_met (record_tests (located p r)) ≡ none
+
+-- it is refused, and e is the refusal
+pub record Blames (p : Place) (s : List ℕ) (e : Refused) : Type 0 where
+  pub number : refused_at p s ≡ some (reason_number e.reason)
+  pub sheet : e.sheet ≡ p.side
+  pub byte : e.byte ≡ p.byte
 
 -- ---- the whole pass
 

@@ -65,7 +65,7 @@ impl<'a> Candidate<'a> {
     ghost use Rattle.typed_pass.specs.Pass.{first_record, refused_at};
 
     /// The record that some bytes begin with.
-    #[tactic(auto, unfolding(spec::specs::Sheet::whole_first, spec::specs::Record::by_kind, spec::specs::Record::kind_fits, spec::specs::Refusals::record_tests, crate::specs::Pass::first_record, crate::specs::Pass::located, crate::specs::Pass::first_met, crate::specs::Pass::refused_at))]
+    #[tactic(auto, unfolding(spec::specs::Sheet::whole_first, spec::specs::Record::by_kind, spec::specs::Record::kind_fits, spec::specs::Refusals::record_tests, crate::specs::Pass::first_record, crate::specs::Pass::place, crate::specs::Pass::located, crate::specs::Pass::first_met, crate::specs::Pass::refused_at))]
     pub(crate) fn first(bytes: &'a [u8]) -> Result<Candidate<'a>, Reason>
         ensures { MatchResult result (λ r. (whole_first bytes.now ≡ true) × (r.bytes.now ≡ first_record bytes.now)) (λ e. (p : Place) → refused_at p bytes.now ≡ some (reason_number e)) }
     {

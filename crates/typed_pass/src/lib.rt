@@ -27,15 +27,10 @@ pub fn first_pass(
     ensures answer { Answers (shifted from (pass_refusal (sheet_number side) base bytes.now)) result (λ n. n ≡ base + class_count bytes.now) }
     ensures starts { Filled (pass_refusal (sheet_number side) base bytes.now) base from bytes.now starts.old starts.new }
 {
-    let mut place = Place {
-        side,
-        byte: from,
-        classes: base,
-        group: None,
-    };
+    let mut place = Place::start(side, from, base);
     let mut rest = bytes;
     while !rest.is_empty() {
-        let record = place.next(rest).map_err(|reason| place.blame(reason))?;
+        let record = place.next(rest)?;
         if record.is_class() {
             starts[place.classes] = place.byte as u16;
         }

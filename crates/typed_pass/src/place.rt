@@ -32,10 +32,24 @@ impl Place {
     ghost use Rattle.spec.specs.Record.{kind as kind_of};
     ghost use Rattle.spec.specs.Refusals.{record_tests};
     ghost use Rattle.refusals.specs.Refusals.{reason_number};
-    ghost use Rattle.typed_pass.specs.Pass.{located, first_met, refused_at, Meets, Passes, Follows};
+    ghost use Rattle.typed_pass.specs.Pass.{located, first_met, refused_at, Meets, Passes, Blames, Follows};
+
+    /// The place where the first of some bytes stands, after so many classes.
+    pub(crate) fn start(side: Side, byte: usize, classes: usize) -> Place
+        requires { classes ≤ 256 }
+        ensures place { (result.side ≡ side) × (result.byte ≡ byte) × (result.classes ≡ classes) }
+        ensures group { result.group ≡ None }
+    {
+        Place {
+            side,
+            byte,
+            classes,
+            group: None,
+        }
+    }
 
     /// Whether the record has a group here, or opens one.
-    #[tactic(auto, unfolding(crate::specs::Pass::located))]
+    #[tactic(auto, unfolding(crate::specs::Pass::place, crate::specs::Pass::located))]
     fn has_group(self, candidate: &Candidate) -> bool
         ensures { result ≡ (located self candidate.now.bytes.now).grouped }
     {
@@ -43,7 +57,7 @@ impl Place {
     }
 
     /// Whether the record is neither a class nor a record of a group too many.
-    #[tactic(auto, unfolding(crate::specs::Pass::located))]
+    #[tactic(auto, unfolding(crate::specs::Pass::place, crate::specs::Pass::located))]
     fn has_room(self, candidate: &Candidate) -> bool
         ensures { let l = located self candidate.now.bytes.now in result ≡ not (leb 256 l.class || leb 255 l.record_number) }
     {
@@ -57,7 +71,7 @@ impl Place {
     }
 
     /// Whether the record is of no lower kind than the one before it in its group.
-    #[tactic(auto, unfolding(crate::specs::Pass::located))]
+    #[tactic(auto, unfolding(crate::specs::Pass::place, crate::specs::Pass::located))]
     fn keeps_order(self, candidate: &Candidate) -> bool
         ensures { result ≡ not (ltb (kind_of candidate.now.bytes.now) (located self candidate.now.bytes.now).before) }
     {
@@ -72,7 +86,7 @@ impl Place {
 
     /// What is wrong with the record here.
     #[inline(always)]
-    #[tactic(auto, unfolding(spec::specs::Refusals::record_tests, crate::specs::Pass::located, crate::specs::Pass::first_met))]
+    #[tactic(auto, unfolding(spec::specs::Refusals::record_tests, crate::specs::Pass::place, crate::specs::Pass::located, crate::specs::Pass::first_met))]
     fn test(self, candidate: &Candidate) -> Result<(), Reason>
         ensures { Meets (record_tests (located self candidate.now.bytes.now)) result }
     {
@@ -138,17 +152,8 @@ impl Place {
         }
     }
 
-    /// The first record of the bytes from here on, or what is wrong with it.
-    pub(crate) fn next(self, rest: &[u8]) -> Result<Candidate<'_>, Reason>
-        ensures { MatchResult result (λ r. Passes self rest.now r.bytes.now) (λ e. refused_at self rest.now ≡ some (reason_number e)) }
-    {
-        let candidate = Candidate::first(rest)?;
-        self.test_by_kind(&candidate)?;
-        Ok(candidate)
-    }
-
     /// The refusal that blames the record here.
-    pub(crate) fn blame(self, reason: Reason) -> Refusal
+    fn blame(self, reason: Reason) -> Refusal
         ensures { result ≡ record { reason = reason; sheet = self.side; byte = self.byte } }
     {
         Refusal {
@@ -158,34 +163,42 @@ impl Place {
         }
     }
 
+    /// The first record of the bytes from here on, or what is wrong with it.
+    fn tested(self, rest: &[u8]) -> Result<Candidate<'_>, Reason>
+        ensures { MatchResult result (λ r. Passes self rest.now r.bytes.now) (λ e. refused_at self rest.now ≡ some (reason_number e)) }
+    {
+        let candidate = Candidate::first(rest)?;
+        self.test_by_kind(&candidate)?;
+        Ok(candidate)
+    }
+
+    /// The same, or the refusal that blames it.
+    pub(crate) fn next(self, rest: &[u8]) -> Result<Candidate<'_>, Refusal>
+        ensures { MatchResult result (λ r. Passes self rest.now r.bytes.now) (λ e. Blames self rest.now e) }
+    {
+        self.tested(rest).map_err(|reason| self.blame(reason))
+    }
+
     /// The place after a record with which nothing is wrong.
     pub(crate) fn after(self, candidate: &Candidate) -> Place
         requires passes { first_met (record_tests (located self candidate.now.bytes.now)) ≡ none }
         requires fits { self.byte + length candidate.now.bytes.now < 2 ^ 64 }
         ensures { Follows self candidate.now.bytes.now result }
     {
-        let byte = self.byte + candidate.bytes.len();
-        if candidate.is_class() {
-            let group = OpenGroup {
-                records: 1,
-                last: candidate.kind,
-            };
-            return Place {
-                side: self.side,
-                byte,
-                classes: self.classes + 1,
-                group: Some(group),
-            };
-        }
-        let group = self.group.map(|group| OpenGroup {
-            records: group.records + 1,
+        let opens = candidate.is_class();
+        let records = match self.group {
+            Some(group) if !opens => group.records + 1,
+            _ => 1,
+        };
+        let group = OpenGroup {
+            records,
             last: candidate.kind,
-        });
+        };
         Place {
             side: self.side,
-            byte,
-            classes: self.classes,
-            group,
+            byte: self.byte + candidate.bytes.len(),
+            classes: self.classes + usize::from(opens),
+            group: Some(group),
         }
     }
 }
