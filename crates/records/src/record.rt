@@ -108,6 +108,13 @@ fn index_in(bytes: &[u8]) -> usize
 }
 
 impl<'a> Record<'a> {
+    /// How many bytes the record has.
+    pub fn len(&self) -> usize
+        ensures { result ≡ length self.now }
+    {
+        self.bytes.len()
+    }
+
     /// The record's kind.
     pub fn kind(&self) -> Kind
         ensures { kind_number result ≡ kind self.now }

@@ -1,0 +1,7 @@
+pub mod Indexing
+pub mod Asking
+pub mod ByKind
+pub mod Enclosing
+pub mod Names
+pub mod Classes
+pub mod Passing
