@@ -8,7 +8,6 @@ use Prim.Native.Nat.{ℕ, ◌≤◌, ◌<◌}
 use native.Mathlib.Omega.{arith}
 use lib.Dec.{T, ltb, ltb→lt, nltb→le}
 use lib.ListN.{length, get_or}
-use borrow.Author.Tests.{lt-ltb, le-ltb}
 use Rattle.spec.specs.Lists.{keep}
 use Rattle.spec.specs.Record.{is_kind, LOCAL, MEMBER}
 use Rattle.spec.specs.Sheet.{Group, of_kind}

@@ -2,15 +2,14 @@
 -- Assumes nothing.
 use mathlib.Core.Path.{◌≡◌, refl, sym, ap, ap₂, ◌∙◌}
 use mathlib.Core.Bool.{Bool, true, false, not, ◌&&◌, ◌||◌, or-false}
-use mathlib.Core.List.{List, [], ◌∷◌, ◌++◌}
-use mathlib.Core.Option.{Option}
-use Prim.Native.Nat.{ℕ, ◌≤◌, ◌<◌}
+use mathlib.Core.List.{List, [], ◌∷◌}
+use Prim.Native.Nat.{ℕ, ◌<◌}
 use native.Mathlib.Omega.{arith}
 use lib.Dec.{eqb, leb, ltb, eqb→eq}
 use lib.ListN.{length}
 use borrow.Author.Tests.{le-ltb}
 use Rattle.std.specs.declared.option.Option.{Option as Maybe}
-use Rattle.spec.specs.Lists.{any, elem}
+use Rattle.spec.specs.Lists.{any}
 use Rattle.spec.specs.Record.{bit, none16, kind, CLASS, IMPLEMENTS, FIELD, LOCAL, USES, BUILDS, MEMBER, REFERS, flags, superclass, encloser, target, index}
 use Rattle.spec.specs.Record.{Ty as SpecTy, field_ty, local_ty, is_static, unless_none, ty_references, references}
 use Rattle.spec.specs.Sheet.{Group, of_kind, is_interface, is_instance_field}

@@ -1,7 +1,7 @@
 -- The second pass over the classes of both sheets, and over the records of a class.
 -- Assumes nothing.
-use mathlib.Core.Path.{◌≡◌, refl, sym, ap, ◌∙◌, subst}
-use mathlib.Core.Bool.{Bool, true, false, not}
+use mathlib.Core.Path.{◌≡◌, refl, sym, subst}
+use mathlib.Core.Bool.{Bool, false, not}
 use mathlib.Core.List.{List, [], ◌∷◌}
 use mathlib.Core.Option.{Option, none, some}
 use Prim.Native.Nat.{ℕ, ◌+◌, ◌≤◌, ◌<◌}
@@ -13,7 +13,7 @@ use Rattle.spec.specs.Record.{is_class}
 use Rattle.spec.specs.Sheet.{Group, group, class_count, total, class_record, Located}
 use Rattle.spec.specs.Refusals.{Refusal, form_tests, form_refusal, one_class}
 use Rattle.laws.proofs.All.{All, weaken}
-use Rattle.laws.proofs.Bools.{true_t, false_t, and_r}
+use Rattle.laws.proofs.Bools.{and_r}
 use Rattle.theory.proofs.Form.{group_one_class}
 use Rattle.groups.specs.Groups.{sheet_number, start_of, end_of}
 use Rattle.groups.proofs.Held.{end_small}
@@ -51,9 +51,10 @@ module _ {p : Pair} (w : Passed p) where
 one_first : (h : Group) → T (one_class h) → All (λ r. T (is_class r) → r ≡ class_record h) h
 unfolding one_class class_record
 one_first [] w = absurd w
-one_first (r ∷ rs) w =
-    (λ t. refl,
-    weaken (λ q. is_class q ≡ false) (λ q. T (is_class q) → q ≡ r) (λ q e t. absurd (rw e at t)) rs (others rs (and_r (is_class r) (not (any is_class rs)) w)))
+one_first (r ∷ rs) w = (
+  λ t. refl,
+  weaken (λ q. is_class q ≡ false) (λ q. T (is_class q) → q ≡ r) (λ q e t. absurd (rw e at t)) rs (others rs (and_r (is_class r) (not (any is_class rs)) w)),
+)
 
 -- the walk over the records of class c has come to those that are left, of which the first begins at `at`
 pub record Going (p : Pair) (c at : ℕ) (left : Group) : Type 0 where

@@ -3,10 +3,10 @@
 use Rattle.std.specs.Prelude.{◌≡◌, Bool, true, false, not, ◌&&◌, ◌||◌, Option, None, Some, Result, Ok, Err, List, [], ◌∷◌, ℕ, ◌+◌, ◌≤◌, ◌<◌, eqb, leb, ltb, length, get_or}
 use Rattle.std.proofs.Math.Option as spec
 use Rattle.spec.specs.Lists.{elem}
-use Rattle.spec.specs.Record.{bit, flags, class_name, LOCAL, MEMBER}
-use Rattle.spec.specs.Sheet.{Group, class_count, total, group, class_record, of_kind, is_interface}
+use Rattle.spec.specs.Record.{bit, LOCAL, MEMBER}
+use Rattle.spec.specs.Sheet.{Group, class_count, total, group, of_kind, is_interface}
 use Rattle.spec.specs.Classes.{enclosers}
-use Rattle.spec.specs.Refusals.{Refusal, form_tests, name_met}
+use Rattle.spec.specs.Refusals.{Refusal, form_tests}
 use Rattle.groups.specs.Groups.{sheet_number, start_of}
 use Rattle.refusals.specs.declared.Reason.{Reason}
 use Rattle.refusals.specs.declared.Side.{Side}

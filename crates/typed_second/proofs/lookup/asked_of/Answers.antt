@@ -1,4 +1,4 @@
-use Rattle.std.proofs.Common.{rules, arith}
+use Rattle.std.proofs.Common.{rules}
 use Rattle.spec.specs.Sheet.{is_interface}
 use Rattle.records.specs.Kinds.{kind_number}
 use Rattle.sheets.specs.Sheets.{library_count}

@@ -1,5 +1,4 @@
-use Rattle.std.proofs.Common.{◌≡◌, ◌+◌, ◌-◌}
-use Rattle.sheets.specs.Sheets.{count}
+use Rattle.std.proofs.Common.{◌+◌, ◌-◌}
 use Rattle.typed_second.proofs.Enclosing.{Rising}
 use Rattle.typed_second.proofs.lookup.Lookup.enclosing.Given as goal
 

@@ -1,8 +1,6 @@
-use Rattle.std.proofs.Common.{sym, ap, ◌∙◌, rules}
+use Rattle.std.proofs.Common.{sym, ◌∙◌, rules}
 use denote.Enum.Bare.{same_true, same_false}
 use Rattle.refusals.specs.contracts.Side.{the_type}
-use Rattle.refusals.specs.declared.Side.{Side}
-use Rattle.records.specs.Kinds.{kind_number}
 use Rattle.typed_second.proofs.Asking.{indexed_here, indexed_none}
 use Rattle.typed_second.proofs.lookup.Lookup.indexed.Goals as goal
 
