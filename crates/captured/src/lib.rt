@@ -14,7 +14,7 @@ ghost use Rattle.captured.specs.Seeds.{Lowering, InLane, InLanes, ByRecords, ByC
 ghost use Rattle.records.specs.Records.{Carries};
 
 use groups::{Classes, class_bytes};
-use lanes::{EMPTY, LANE, NO_OWNER, entry, fill};
+use lanes::{EMPTY, LANE, entry};
 use markers::{DEEP_SELFLESS, IMMUTABLE, POWERLESS, has};
 use overlay::type_markers;
 use reach::{close, enclosers};
@@ -70,7 +70,7 @@ fn lower_lane(set: u8, k: usize, m: usize, d: usize, row: &mut [u8])
     if has(set, lane_set(k)) {
         return;
     }
-    if entry(row, k * LANE + m) <= d {
+    if usize::from(entry(row, k * LANE + m)) <= d {
         return;
     }
     row[k * LANE + m] = d as u8;
@@ -192,7 +192,7 @@ pub fn captures<'a>(
     requires long { 768 ≤ length row.old }
     ensures { Captured g classes.all row.old row.new }
 {
-    fill(row, OWNERS, EMPTY);
+    row[..OWNERS].fill(EMPTY);
     seed(library, user, starts, classes, markers, row);
     close(library, user, starts, classes, true, LANES, row);
 }
@@ -202,5 +202,5 @@ pub fn lacking(row: &[u8], k: usize, l: usize) -> bool
     requires { (k < 3) × (l < 256) }
     ensures { result ≡ ltb (entry_at row.now k l) 255 }
 {
-    entry(row, k * LANE + l) < NO_OWNER
+    entry(row, k * LANE + l) < EMPTY
 }

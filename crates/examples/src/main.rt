@@ -28,11 +28,18 @@ fn run<R: Files + Print + Eprint>(rt: &R, path: &str) -> io::Result<()> {
     script::run(rt, &text[..n])
 }
 
+const FILES: [&str; 6] = [
+    "questions.txt",
+    "judgings.txt",
+    "limits.txt",
+    "week.txt",
+    "interfaces.txt",
+    "papers.txt",
+];
+
 fn main(rt: HostRuntime) -> io::Result<()> {
-    run(&rt, "questions.txt")?;
-    run(&rt, "judgings.txt")?;
-    run(&rt, "limits.txt")?;
-    run(&rt, "week.txt")?;
-    run(&rt, "interfaces.txt")?;
-    run(&rt, "papers.txt")
+    for path in FILES {
+        run(&rt, path)?;
+    }
+    Ok(())
 }

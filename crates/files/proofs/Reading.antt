@@ -4,10 +4,11 @@ use mathlib.Core.Path.{◌≡◌, sym, ap, ◌∙◌}
 use mathlib.Core.List.{List, ◌++◌}
 use Prim.Native.Nat.{ℕ, ◌+◌, ◌≤◌}
 use native.Mathlib.Omega.{arith}
-use lib.ListN.{length, take, length-append}
+use lib.ListN.{length, take}
 use lib.Seq.{length-take-le}
 use Rattle.std.proofs.lemmas.List.{take-append-le, append_assoc}
 use Rattle.std.proofs.Math.Seq.{take-append-add}
+use Rattle.std.proofs.lemmas.Slice.{overwrites}
 use Rattle.std.specs.Prelude.{Option, None, Some}
 use Rattle.std.specs.Io.KnownBytes.{Consumes, Keeps}
 use borrow.Rule.Slice.PartMut.{put_mid, post_of}
@@ -33,5 +34,4 @@ front_more row new done k n h l =
 
 pub room_more : (row new : List ℕ) (done k n : ℕ) → done ≤ length row → n ≤ length new → done + n ≤ length (put_mid done k row new)
 room_more row new done k n h l =
-    let rest = post_of done k row in
-    omega (arith, length-append (take done row) (new ++ rest), length-append new rest, length-take-le done row h)
+    grind (arith, overwrites)

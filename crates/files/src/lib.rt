@@ -19,11 +19,8 @@ pub fn read_full<R: Read>(reader: &mut R, buffer: &mut [u8]) -> io::Result<usize
         match reader.read(&mut buffer[done..]) {
             Ok(0) => return Ok(done),
             Ok(n) => done += n,
-            Err(error) => {
-                if error.kind() != ErrorKind::Interrupted {
-                    return Err(error);
-                }
-            }
+            Err(error) if error.kind() == ErrorKind::Interrupted => {}
+            Err(error) => return Err(error),
         }
     }
     // Each turn brings a byte or was interrupted, so no machine runs long enough to come here.

@@ -20,7 +20,6 @@ ghost use Rattle.flat.specs.Row.{put_at, chosen, faulted_in, marked_in};
 use breaks::{BANS_AT, FACTS, SETS_AT, bans};
 use captured::captures;
 use groups::Classes;
-use lanes::fill;
 use overlay::overlays;
 use records::{SCRATCH_BYTES, VERDICT_BYTES};
 use rules::{KEPT, Verdict, verdict_of};
@@ -153,7 +152,7 @@ pub fn rejudge<'a>(
     rewrite(
         library, user, starts, classes, &facts, scratch, marks, verdicts,
     );
-    fill(scratch, SCRATCH_BYTES, 0);
+    scratch[..SCRATCH_BYTES].fill(0);
 }
 
 // ---- counting

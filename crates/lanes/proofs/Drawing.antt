@@ -1,28 +1,20 @@
 -- One class draws from one other, in one lane, then lane after lane: the row and the answer are those of the definitions, and so a part of the search.
 -- Assumes nothing.
 use mathlib.Core.Path.{◌≡◌, refl, ◌∙◌}
-use mathlib.Core.Bool.{Bool, true, false, ◌&&◌, and-true, and-false, or-true}
+use mathlib.Core.Bool.{Bool, true, false, ◌||◌, and-true, or-true}
 use mathlib.Core.List.{List}
 use mathlib.Core.Logic.{inl, inr, ⊎_elim}
 use Prim.Native.Nat.{ℕ, zero, suc, ◌+◌, ◌*◌, ◌≤◌, ◌<◌}
 use native.Mathlib.Nat.{le_refl, not-suc-le-zero, le_of_suc-le-suc, eq-or-lt_of_le}
 use native.Mathlib.Decide.{ℕ_discrete}
-use native.Mathlib.Numerals.{add-one}
 use native.Mathlib.Omega.{arith}
 use lib.Dec.{eqb, ltb}
 use lib.ListN.{length, get_or, set, length-set}
-use borrow.Author.Tests.{eq-eqb, ne_eqb, eqb-true, lt-ltb, le-ltb, ltb-true, ltb-false}
-use Rattle.lanes.specs.Lanes.{OwnerFits, entry_at, Settled, Enclosers, fits_row, either_of, lowers, drawn, drew, drawn_lanes, drew_lanes, lanes_of}
+use Rattle.std.proofs.lemmas.Bool.{eq-eqb, ne_eqb, eqb-true, lt-ltb, le-ltb, ltb-true, ltb-false, and_parts, cases_Bool, cases_lt}
+use Rattle.lanes.specs.Lanes.{OwnerFits, entry_at, Settled, Enclosers, fits_row, lowers, drawn, drawn_lanes, drew_lanes, lanes_of}
 use Rattle.lanes.proofs.Runs.{run_none, run_then, run_lower, Offered}
 
 -- ---- the row of marks says what fits
-
-false_true : {A : Type 0} {b : Bool} → b ≡ false → b ≡ true → A
-false_true p q = absurd (let z : ◌≡◌ {A = Bool} true false = cc in let y : ◌≡◌ {A = ℕ} 0 1 = cc in omega arith)
-
-both_true : (a b : Bool) → (a && b) ≡ true → (a ≡ true) × (b ≡ true)
-both_true true b e = (refl, e)
-both_true false b e = false_true refl e
 
 module _ (marks : List ℕ) (outer : ℕ → ℕ) (m y : ℕ) (right : Enclosers outer m marks) where
   pub fits_only : fits_row marks y ≡ true → OwnerFits outer y m
@@ -41,42 +33,18 @@ module _ (marks : List ℕ) (outer : ℕ → ℕ) (m y : ℕ) (right : Enclosers
 -- ---- one lane
 
 module _ (marks : List ℕ) (m t k : ℕ) (s : List ℕ) where
-  -- the row and the answer, by the test
-  drawn_none : lowers marks m t k s ≡ false → (s ≡ drawn marks m t k s) × (0 ≡ drew marks m t k s)
-  unfolding drawn drew
-  drawn_none h = (rw (h, drawn), rw (h, drew))
+  drawn_none : lowers marks m t k s ≡ false → drawn marks m t k s ≡ s
+  unfolding drawn
+  drawn_none h = rw (h, drawn)
 
-  drawn_some : lowers marks m t k s ≡ true → (set s (k * 256 + m) (entry_at s k t) ≡ drawn marks m t k s) × (1 ≡ drew marks m t k s)
-  unfolding drawn drew
-  drawn_some h = (rw (h, drawn), rw (h, drew))
+  drawn_some : lowers marks m t k s ≡ true → drawn marks m t k s ≡ set s (k * 256 + m) (entry_at s k t)
+  unfolding drawn
+  drawn_some h = rw (h, drawn)
 
   drawn_long : length (drawn marks m t k s) ≡ length s
-  drawn_long = go (lowers marks m t k s) refl
-    where
-      go : (b : Bool) → lowers marks m t k s ≡ b → length (drawn marks m t k s) ≡ length s
-      go true e = rw (← (drawn_some e).0) (length-set s (k * 256 + m) (entry_at s k t))
-      go false e = rw (← (drawn_none e).0)
-
-  module _ {has new : ℕ} (eh : has ≡ entry_at s k m) (en : new ≡ entry_at s k t) where
-    pub draw_high : has ≤ new → (s ≡ drawn marks m t k s) × (0 ≡ drew marks m t k s)
-    unfolding lowers
-    draw_high h = drawn_none (rw (le-ltb (entry_at s k t) (entry_at s k m) (omega arith)))
-
-    pub draw_unfit : fits_row marks new ≡ false → (s ≡ drawn marks m t k s) × (0 ≡ drew marks m t k s)
-    unfolding lowers
-    draw_unfit h = drawn_none (rw (rw en at h) (and-false (ltb (entry_at s k t) (entry_at s k m))))
-
-    pub draw_low : new < has → fits_row marks new ≡ true → (set s (k * 256 + m) new ≡ drawn marks m t k s) × (1 ≡ drew marks m t k s)
-    unfolding lowers
-    draw_low h f = rw en (drawn_some (rw (lt-ltb (entry_at s k t) (entry_at s k m) (omega arith)) (rw en at f)))
+  drawn_long = ⊎_elim (λ e. rw (drawn_some e) (length-set s (k * 256 + m) (entry_at s k t))) (λ e. rw (drawn_none e)) (cases_Bool (lowers marks m t k s))
 
 -- ---- all lanes
-
-module _ (marks : List ℕ) (m t : ℕ) (s : List ℕ) where
-  lanes_next : (k : ℕ) → (drawn_lanes marks m t (k + 1) s ≡ drawn marks m t k (drawn_lanes marks m t k s))
-      × (drew_lanes marks m t (k + 1) s ≡ either_of (drew_lanes marks m t k s) (drew marks m t k (drawn_lanes marks m t k s)))
-  unfolding drawn_lanes drew_lanes
-  lanes_next k = (rw (add-one k), rw (add-one k))
 
 lanes_there : (n lanes t : ℕ) → t < n → lanes_of n lanes t ≡ lanes
 unfolding lanes_of
@@ -87,52 +55,24 @@ unfolding lanes_of
 lanes_past n lanes t h = rw (le-ltb t n h, lanes_of)
 
 -- the row s' and the answer r of all lanes
-abbrev pub Drawn : List ℕ → ℕ → ℕ → ℕ → ℕ → List ℕ → List ℕ → ℕ → Type 0
+abbrev pub Drawn : List ℕ → ℕ → ℕ → ℕ → ℕ → List ℕ → List ℕ → Bool → Type 0
 Drawn marks n lanes m t s s' r = (s' ≡ drawn_lanes marks m t (lanes_of n lanes t) s) × (r ≡ drew_lanes marks m t (lanes_of n lanes t) s)
-
--- k lanes of t have been drawn from
-pub record DrawAt (marks : List ℕ) (lanes m t : ℕ) (s₀ s : List ℕ) (a k : ℕ) : Type 0 where
-  pub within : k ≤ lanes
-  pub long : length s ≡ length s₀
-  pub row : s ≡ drawn_lanes marks m t k s₀
-  pub answer : a ≡ drew_lanes marks m t k s₀
-
-pub draw_start : (marks : List ℕ) (lanes m t : ℕ) (s : List ℕ) → DrawAt marks lanes m t s s 0 0
-unfolding drawn_lanes drew_lanes
-draw_start marks lanes m t s = record { within = omega arith; long = refl; row = refl; answer = refl }
-
-module _ {marks : List ℕ} {lanes m t : ℕ} {s₀ s : List ℕ} {a k : ℕ} (f : DrawAt marks lanes m t s₀ s a k) where
-  pub draw_next : {s' : List ℕ} {b r : ℕ} → k < lanes → (s' ≡ drawn marks m t k s) × (b ≡ drew marks m t k s) → r ≡ either_of a b → length s' ≡ length s
-      → DrawAt marks lanes m t s₀ s' r (k + 1)
-  draw_next h q e l = record {
-    within = omega arith;
-    long = l ∙ f.long;
-    row = rw ((lanes_next marks m t s₀ k).0, ← f.row) q.0;
-    answer = rw ((lanes_next marks m t s₀ k).1, ← f.row, ← f.answer, ← q.1) e;
-  }
-
-  pub draw_end : {n : ℕ} → lanes ≤ k → t < n → Drawn marks n lanes m t s₀ s a
-  draw_end {n} h l = let e : lanes_of n lanes t ≡ k = lanes_there n lanes t l ∙ omega (arith, f.within) in rw e (f.row, f.answer)
-
-pub draw_past : (marks : List ℕ) (n lanes m t : ℕ) (s : List ℕ) → n ≤ t → Drawn marks n lanes m t s s 0
-unfolding drawn_lanes drew_lanes
-draw_past marks n lanes m t s h = rw (lanes_past n lanes t h) (refl, refl)
 
 -- ---- what it does for the search
 
 module _ {marks : List ℕ} {n lanes m t : ℕ} (few : n ≤ 256) (hm : m < n) where
   module _ (ht : t < n) (s : List ℕ) (long : lanes * 256 ≤ length s) (k : ℕ) (hk : k < lanes) where
-    stays : lowers marks m t k s ≡ false → Offered marks n lanes m t (λ j. j ≡ k) s s 0
+    stays : lowers marks m t k s ≡ false → Offered marks n lanes m t (λ j. j ≡ k) s s false
     unfolding Settled lowers
     stays h = record { run = λ step outer e g. run_none s (λ j q a b c. rw q (settled outer g (rw q at c))) }
       where
         settled : (outer : ℕ → ℕ) → Enclosers outer m marks → OwnerFits outer (entry_at s k t) m → entry_at s k m ≤ entry_at s k t
         settled outer g c = ltb-false (entry_at s k t) (entry_at s k m) (rw (fits_every marks outer m (entry_at s k t) g c, and-true) at h)
 
-    takes : lowers marks m t k s ≡ true → Offered marks n lanes m t (λ j. j ≡ k) s (set s (k * 256 + m) (entry_at s k t)) 1
+    takes : lowers marks m t k s ≡ true → Offered marks n lanes m t (λ j. j ≡ k) s (set s (k * 256 + m) (entry_at s k t)) true
     unfolding lowers
     takes h =
-        let w = both_true (ltb (entry_at s k t) (entry_at s k m)) (fits_row marks (entry_at s k t)) h in
+        let w = and_parts (ltb (entry_at s k t) (entry_at s k m)) (fits_row marks (entry_at s k t)) h in
         record {
           run = λ step outer e g.
               run_lower step outer n lanes s k m t few hk hm ht long (λ s. (j : ℕ) → j ≡ k → Settled outer n j m s t)
@@ -141,19 +81,16 @@ module _ {marks : List ℕ} {n lanes m t : ℕ} (few : n ≤ 256) (hm : m < n) w
               e;
         }
 
-    one_lane : Offered marks n lanes m t (λ j. j ≡ k) s (drawn marks m t k s) (drew marks m t k s)
-    one_lane = go (lowers marks m t k s) refl
-      where
-        go : (b : Bool) → lowers marks m t k s ≡ b → Offered marks n lanes m t (λ j. j ≡ k) s (drawn marks m t k s) (drew marks m t k s)
-        go true e = rw (← (drawn_some marks m t k s e).0, ← (drawn_some marks m t k s e).1) (takes e)
-        go false e = rw (← (drawn_none marks m t k s e).0, ← (drawn_none marks m t k s e).1) (stays e)
+    one_lane : Offered marks n lanes m t (λ j. j ≡ k) s (drawn marks m t k s) (lowers marks m t k s)
+    one_lane =
+        ⊎_elim (λ e. rw (drawn_some marks m t k s e, e) (takes e)) (λ e. rw (drawn_none marks m t k s e, e) (stays e)) (cases_Bool (lowers marks m t k s))
 
-  then_lane : {s₀ s s' : List ℕ} {k a b : ℕ} → Offered marks n lanes m t (λ j. j < k) s₀ s a → Offered marks n lanes m t (λ j. j ≡ k) s s' b
-      → Offered marks n lanes m t (λ j. j < suc k) s₀ s' (either_of a b)
+  then_lane : {s₀ s s' : List ℕ} {k : ℕ} {a b : Bool} → Offered marks n lanes m t (λ j. j < k) s₀ s a → Offered marks n lanes m t (λ j. j ≡ k) s s' b
+      → Offered marks n lanes m t (λ j. j < suc k) s₀ s' (a || b)
   then_lane {k = k} f h =
       record {
         run = λ step outer x g.
-            run_then (λ s. (j : ℕ) → j < suc k → Settled outer n j m s t) (f.run step outer x g) (h.run step outer x g) refl
+            run_then (λ s. (j : ℕ) → j < suc k → Settled outer n j m s t) (f.run step outer x g) (h.run step outer x g)
             (λ p q j l. ⊎_elim (λ z. q j z) (λ z. p j z) (eq-or-lt_of_le (le_of_suc-le-suc l)));
       }
 
@@ -168,14 +105,10 @@ module _ {marks : List ℕ} {n lanes m t : ℕ} (few : n ≤ 256) (hm : m < n) w
         (drawn_long marks m t k s' ∙ w.0, then_lane w.1 (one_lane ht s' (omega (arith, w.0)) k (omega arith)))
 
     -- a number that is no class has nothing to offer
-    no_lanes : n ≤ t → Offered marks n lanes m t (λ j. j < lanes) s s 0
+    no_lanes : n ≤ t → Offered marks n lanes m t (λ j. j < lanes) s s false
     unfolding Settled
     no_lanes h = record { run = λ step outer e g. run_none s (λ j q a b c. absurd (omega arith)) }
 
-    pub offered : {s' : List ℕ} {r : ℕ} → Drawn marks n lanes m t s s' r → Offered marks n lanes m t (λ j. j < lanes) s s' r
+    pub offered : {s' : List ℕ} {r : Bool} → Drawn marks n lanes m t s s' r → Offered marks n lanes m t (λ j. j < lanes) s s' r
     unfolding drawn_lanes drew_lanes
-    offered q = rw (q.0, q.1) (go (ltb t n) refl)
-      where
-        go : (b : Bool) → ltb t n ≡ b → Offered marks n lanes m t (λ j. j < lanes) s (drawn_lanes marks m t (lanes_of n lanes t) s) (drew_lanes marks m t (lanes_of n lanes t) s)
-        go true e = let h = ltb-true t n e in rw (lanes_there n lanes t h) (first_lanes h lanes (le_refl lanes)).1
-        go false e = let h = ltb-false t n e in rw (lanes_past n lanes t h) (no_lanes h)
+    offered q = rw (q.0, q.1) (⊎_elim (λ h. rw (lanes_there n lanes t h) (first_lanes h lanes (le_refl lanes)).1) (λ h. rw (lanes_past n lanes t h) (no_lanes h)) (cases_lt t n))

@@ -1,4 +1,4 @@
--- Rows of numbers: an entry inside them, a row of zeros, and what one write changes.
+-- Rows of numbers: a row of zeros, and what one write changes.
 -- Assumes nothing.
 use mathlib.Core.Path.{◌≡◌, refl, sym, ◌∙◌}
 use mathlib.Core.List.{List, [], ◌∷◌}
@@ -10,12 +10,6 @@ use native.Mathlib.Omega.{arith}
 use lib.ListN.{length, get_or, set, replicate}
 use lib.Seq.{get_or-set_same, get_or-set_other}
 use Rattle.lanes.specs.Lanes.{sum_of}
-
--- inside a row the default does not matter
-pub get_or_any : (s : List ℕ) (i d e : ℕ) → i < length s → get_or s i d ≡ get_or s i e
-get_or_any [] i d e h = absurd (not-suc-le-zero h)
-get_or_any (x ∷ s) zero d e h = refl
-get_or_any (x ∷ s) (suc i) d e h = get_or_any s i d e (le_of_suc-le-suc h)
 
 pub zeros : (n x : ℕ) → ◌≡◌ {A = ℕ} (get_or (replicate n 0) x 0) 0
 zeros zero x = refl

@@ -2,15 +2,16 @@
 -- Assumes nothing.
 use mathlib.Core.Path.{◌≡◌, refl, sym, ◌∙◌, subst}
 use mathlib.Core.List.Memᴰ
+use mathlib.Core.Bool.{Bool, false, ◌||◌}
 use mathlib.Core.List.{List, [], ◌∷◌, Memᴰ}
 use mathlib.Core.Logic.{⊎_elim}
 use Prim.Native.Nat.{ℕ, ◌<◌}
 use lib.ListN.{length}
-use Rattle.lanes.specs.Lanes.{Settled, Run, SettledAt, Enclosers, either_of}
+use Rattle.lanes.specs.Lanes.{Settled, Run, SettledAt, Enclosers}
 use Rattle.lanes.proofs.Runs.{run_none, run_then, run_only, Offered}
 
 -- The steps of m to the classes `rest` are still to be taken: if m is settled with these, it is settled.
-pub record VisitAt (step : ℕ → List ℕ) (outer : ℕ → ℕ) (n lanes m : ℕ) (marks s₀ s rest : List ℕ) (a : ℕ) : Type 0 where
+pub record VisitAt (step : ℕ → List ℕ) (outer : ℕ → ℕ) (n lanes m : ℕ) (marks s₀ s rest : List ℕ) (a : Bool) : Type 0 where
   pub long : length s ≡ length s₀
   pub wide : length marks ≡ 256
   pub right : Enclosers outer m marks
@@ -18,7 +19,7 @@ pub record VisitAt (step : ℕ → List ℕ) (outer : ℕ → ℕ) (n lanes m : 
   pub run : Run step outer n lanes (λ s. ((k t : ℕ) → k < lanes → Memᴰ t rest → Settled outer n k m s t) → SettledAt step outer n lanes m s) s₀ s a
 
 pub visit_start : (step : ℕ → List ℕ) (outer : ℕ → ℕ) (n lanes m : ℕ) (marks s : List ℕ) → length marks ≡ 256 → Enclosers outer m marks → (rest : List ℕ)
-    → rest ≡ step m → VisitAt step outer n lanes m marks s s rest 0
+    → rest ≡ step m → VisitAt step outer n lanes m marks s s rest false
 unfolding SettledAt
 visit_start step outer n lanes m marks s w g rest q =
     record {
@@ -29,10 +30,10 @@ visit_start step outer n lanes m marks s w g rest q =
       run = run_none s (λ h k t l e. h k t l (rw q e));
     }
 
-module _ {step : ℕ → List ℕ} {outer : ℕ → ℕ} {n lanes m : ℕ} {marks s₀ s rest : List ℕ} {a : ℕ} (f : VisitAt step outer n lanes m marks s₀ s rest a) where
-  pub visit_next : {s' rest' : List ℕ} {t b r : ℕ} → rest ≡ t ∷ rest' → Offered marks n lanes m t (λ j. j < lanes) s s' b → r ≡ either_of a b → length s' ≡ length s
-      → VisitAt step outer n lanes m marks s₀ s' rest' r
-  visit_next {s'} {rest'} {t} q o e l =
+module _ {step : ℕ → List ℕ} {outer : ℕ → ℕ} {n lanes m : ℕ} {marks s₀ s rest : List ℕ} {a : Bool} (f : VisitAt step outer n lanes m marks s₀ s rest a) where
+  pub visit_next : {s' rest' : List ℕ} {t : ℕ} {b : Bool} → rest ≡ t ∷ rest' → Offered marks n lanes m t (λ j. j < lanes) s s' b → length s' ≡ length s
+      → VisitAt step outer n lanes m marks s₀ s' rest' (a || b)
+  visit_next {s'} {rest'} {t} q o l =
       record {
         long = l ∙ f.long;
         wide = f.wide;
@@ -42,7 +43,6 @@ module _ {step : ℕ → List ℕ} {outer : ℕ → ℕ} {n lanes m : ℕ} {mark
             (λ s. ((k t : ℕ) → k < lanes → Memᴰ t rest' → Settled outer n k m s t) → SettledAt step outer n lanes m s)
             f.run
             (o.run step outer (f.part t (rw q (Memᴰ.head refl))) f.right)
-            e
             (λ p w h. p (λ k u kl x. ⊎_elim (λ z. subst (Settled outer n k m s₀) (sym z) (w k kl)) (λ y. h k u kl y) (Memᴰ.cases_cons (rw q at x))));
       }
 

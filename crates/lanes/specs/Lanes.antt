@@ -84,18 +84,14 @@ unfoldable pub sum_of : List ℕ → ℕ
 sum_of [] = 0
 sum_of (x ∷ xs) = x + sum_of xs
 
--- A part of the search leads from the row s₀ to the row s. Its answer r is 0 only where it changed nothing, and then P holds of the row.
-pub record Run (step : ℕ → List ℕ) (outer : ℕ → ℕ) (n lanes : ℕ) (P : List ℕ → Type 0) (s₀ s : List ℕ) (r : ℕ) : Type 0 where
+-- A part of the search leads from the row s₀ to the row s. It answers whether it changed anything; if not, P holds of the row.
+pub record Run (step : ℕ → List ℕ) (outer : ℕ → ℕ) (n lanes : ℕ) (P : List ℕ → Type 0) (s₀ s : List ℕ) (r : Bool) : Type 0 where
   pub keeps : (g : List ℕ) → Sound step outer n lanes g s₀ → Sound step outer n lanes g s
   pub down : (i : ℕ) → get_or s i 255 ≤ get_or s₀ i 255
   pub kept : (i : ℕ) → Other n lanes i → get_or s i 255 ≡ get_or s₀ i 255
-  pub less : sum_of s + r ≤ sum_of s₀
-  pub still : r ≡ 0 → s ≡ s₀
-  pub closed : r ≡ 0 → P s₀
-
--- the answer for two parts of a search: the first one's, but the second's where the first changed nothing
-unfoldable pub either_of : ℕ → ℕ → ℕ
-either_of a b = elim (eqb a 0) [ true ↦ b | false ↦ a ]
+  pub less : r ≡ true → sum_of s < sum_of s₀
+  pub still : r ≡ false → s ≡ s₀
+  pub closed : r ≡ false → P s₀
 
 -- ---- one class draws from one other
 
@@ -103,21 +99,18 @@ either_of a b = elim (eqb a 0) [ true ↦ b | false ↦ a ]
 unfoldable pub lowers : List ℕ → ℕ → ℕ → ℕ → List ℕ → Bool
 lowers marks m t k row = ltb (entry_at row k t) (entry_at row k m) && fits_row marks (entry_at row k t)
 
--- then m takes it, and nothing else changes; the answer says whether it did
+-- then m takes it, and nothing else changes
 unfoldable pub drawn : List ℕ → ℕ → ℕ → ℕ → List ℕ → List ℕ
 drawn marks m t k row = elim (lowers marks m t k row) [ true ↦ set row (k * 256 + m) (entry_at row k t) | false ↦ row ]
 
-unfoldable pub drew : List ℕ → ℕ → ℕ → ℕ → List ℕ → ℕ
-drew marks m t k row = elim (lowers marks m t k row) [ true ↦ 1 | false ↦ 0 ]
-
--- the same in the first `lanes` lanes, one after another
+-- the same in the first `lanes` lanes, one after another; and whether any of them changes
 unfoldable pub drawn_lanes : List ℕ → ℕ → ℕ → ℕ → List ℕ → List ℕ
 drawn_lanes marks m t zero row = row
 drawn_lanes marks m t (suc k) row = drawn marks m t k (drawn_lanes marks m t k row)
 
-unfoldable pub drew_lanes : List ℕ → ℕ → ℕ → ℕ → List ℕ → ℕ
-drew_lanes marks m t zero row = 0
-drew_lanes marks m t (suc k) row = either_of (drew_lanes marks m t k row) (drew marks m t k (drawn_lanes marks m t k row))
+unfoldable pub drew_lanes : List ℕ → ℕ → ℕ → ℕ → List ℕ → Bool
+drew_lanes marks m t zero row = false
+drew_lanes marks m t (suc k) row = drew_lanes marks m t k row || lowers marks m t k (drawn_lanes marks m t k row)
 
 -- a number that is no class offers nothing in any lane
 unfoldable pub lanes_of : ℕ → ℕ → ℕ → ℕ

@@ -19,49 +19,37 @@ ghost use Rattle.listing_text.specs.Rows.{RowHolds};
 use form::Refusal;
 use groups::group_length;
 use records::{CLASS, CLASS_LIMIT, NAME_AT, count_in, wide, word_in};
-use text::{put, put_number, put_part};
+use text::{put, put_bytes, put_number};
 use verifier::{Judged, VERDICT_BYTES, judge};
 
-// A byte as a number of the machine.
-fn wide_byte(x: u8) -> usize
-    ensures { result ≡ x }
-{
-    x as usize
-}
-
-// All bytes of a word.
-fn put_word(out: &mut [u8], at: usize, word: &[u8]) -> usize
-    requires { (at < 900000) × (length word.now ≤ 100) }
-    ensures { Written out.old at word.now out.new result }
-{
-    put_part(out, at, word, 0, word.len())
-}
-
 // The line of a refusal.
+#[tactic(auto, using(text::proofs::Digits::decimal_length))]
 fn refusal_line(out: &mut [u8], refusal: Refusal) -> usize
     ensures { Written out.old 0 (refusal_text (refusal_of refusal)) out.new result }
 {
-    let opened = put_word(out, 0, b"refused ");
-    let first = put_number(out, opened, wide_byte(refusal.number));
-    let on = put_word(out, first, b" sheet ");
-    let second = put_number(out, on, wide_byte(refusal.sheet));
-    let further = put_word(out, second, b" byte ");
+    let opened = put_bytes(out, 0, b"refused ");
+    let first = put_number(out, opened, usize::from(refusal.number));
+    let on = put_bytes(out, first, b" sheet ");
+    let second = put_number(out, on, usize::from(refusal.sheet));
+    let further = put_bytes(out, second, b" byte ");
     let third = put_number(out, further, refusal.byte);
     put(out, third, b'\n')
 }
 
 // The line of the counts.
+#[tactic(auto, using(text::proofs::Digits::decimal_length))]
 fn counts_line(out: &mut [u8], classes: usize, faulted: usize) -> usize
     ensures { Written out.old 0 (counts_text (record { classes = classes; faulted = faulted })) out.new result }
 {
-    let opened = put_word(out, 0, b"classes ");
+    let opened = put_bytes(out, 0, b"classes ");
     let first = put_number(out, opened, classes);
-    let on = put_word(out, first, b" faulted ");
+    let on = put_bytes(out, first, b" faulted ");
     let second = put_number(out, on, faulted);
     put(out, second, b'\n')
 }
 
 // The end of a class's line: rule and place.
+#[tactic(auto, using(text::proofs::Digits::decimal_length))]
 fn put_verdict(out: &mut [u8], at: usize, rule: usize, place: usize) -> usize
     requires { at < 800000 }
     ensures { Written out.old at (decimal rule ++ (space ++ (decimal place ++ newline))) out.new result }
@@ -73,6 +61,7 @@ fn put_verdict(out: &mut [u8], at: usize, rule: usize, place: usize) -> usize
 }
 
 // The line of the i-th user class, whose group begins at `start`: number, name, rule, place.
+#[tactic(auto, using(text::proofs::Digits::decimal_length))]
 fn class_line(
     sheet: &[u8],
     start: usize,
@@ -90,11 +79,12 @@ fn class_line(
         out.new result }
 {
     let end = start + wide(word_in(sheet, start));
-    let rule = wide_byte(verdicts[VERDICT_BYTES * i]);
-    let place = wide_byte(verdicts[VERDICT_BYTES * i + 1]);
+    let name = &sheet[start + NAME_AT..end];
+    let rule = usize::from(verdicts[VERDICT_BYTES * i]);
+    let place = usize::from(verdicts[VERDICT_BYTES * i + 1]);
     let numbered = put_number(out, at, nlib + i);
     let spaced = put(out, numbered, b' ');
-    let named = put_part(out, spaced, sheet, start + NAME_AT, end);
+    let named = put_bytes(out, spaced, name);
     let parted = put(out, named, b' ');
     put_verdict(out, parted, rule, place)
 }

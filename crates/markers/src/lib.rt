@@ -5,12 +5,14 @@ ghost use Rattle.std.specs.Prelude.{◌≡◌, ◌&&◌, ℕ, ◌/◌, ◌%◌, 
 ghost use Rattle.spec.specs.Record.{bit};
 ghost use Rattle.spec.specs.Markers.{closure as closure_of, union as union_of, clash as clash_of};
 
-// The markers, each as a set of its own, and all of them.
+// The markers, each as a set of its own, and all of them. A set is a byte, since rows of bytes hold sets.
 pub const IMMUTABLE: u8 = 1;
 
 pub const POWERLESS: u8 = 2;
 
 pub const SELFLESS: u8 = 4;
+
+pub const EQUATABLE: u8 = 8;
 
 pub const TOKEN: u8 = 16;
 
@@ -39,14 +41,15 @@ const CLOSURES: [u8; 256] = [
     255, 255, 255, 255, 255, 255, 255,
 ];
 
+#[tactic(auto, unfolding(spec::specs::Markers::closure, spec::specs::Markers::closures))]
 pub fn closure(m: u8) -> u8
     ensures { result ≡ closure_of m }
 {
-    let i = m as usize;
-    CLOSURES[i]
+    CLOSURES[m as usize]
 }
 
 // The markers of both sets.
+#[tactic(auto, unfolding(spec::specs::Markers::union))]
 pub fn union(a: u8, b: u8) -> u8
     ensures { result ≡ union_of a b }
 {
@@ -61,13 +64,11 @@ pub fn common(a: u8, b: u8) -> u8
 }
 
 // Powerless with Token, Selfless with Equatable.
+#[tactic(auto, unfolding(spec::specs::Markers::clash, spec::specs::Record::bit))]
 pub fn clash(m: u8) -> bool
     ensures { result ≡ clash_of m }
 {
-    if m / 2 % 2 + m / 16 % 2 == 2 {
-        return true;
-    }
-    m / 4 % 2 + m / 8 % 2 == 2
+    has(m, POWERLESS) && has(m, TOKEN) || has(m, SELFLESS) && has(m, EQUATABLE)
 }
 
 // Whether a set holds a marker, given as the set of that marker alone.

@@ -9,7 +9,7 @@ use Prim.Native.Nat.{ℕ, ◌+◌, ◌*◌, ◌-◌, ◌≤◌, ◌<◌}
 use native.Mathlib.Decide.{ℕ_discrete}
 use native.Mathlib.Omega.{arith}
 use lib.Dec.{T, ltb}
-use lib.ListN.{length, get_or, set, drop, replicate, length-append, length-drop, get_or-append}
+use lib.ListN.{length, get_or, set, take, drop, replicate, length-append, length-drop, get_or-append}
 use lib.Seq.{get_or-set_same, get_or-set_other, get_or-append-add, get_or-drop, ext_get_or}
 use borrow.Author.Tests.{lt-ltb, ltb-true, ltb-false}
 use Rattle.spec.specs.Lists.{gather, elem, span, reach}
@@ -30,13 +30,18 @@ use Rattle.named.specs.Named.{first_named, second_named, named_by}
 use Rattle.named.proofs.Meaning.{below, named_below}
 use Rattle.lanes.specs.Lanes.{Draws, own, via, entry_at, Other, SeedsFit, Least}
 use Rattle.lanes.proofs.Chains.{least_steps}
-use Rattle.lanes.proofs.Filling.{filled_long, filled_new, filled_kept}
+use Rattle.lanes.proofs.Filling.{filled}
+use Rattle.std.proofs.lemmas.List.{get_or-replicate, get_or-append_right, length-replicate, places}
 use Rattle.reach.specs.Reach.{named_in, steps_of, outer_of, Emptied, dependent_row}
 
 -- ---- emptying
 
-pub emptied : {k : ℕ} (before : List ℕ) {row : List ℕ} → k ≤ length before → row ≡ replicate k 255 ++ drop k before → Emptied k before row
-emptied {k} before h e = rw e (record { long = filled_long k 255 before h; none = filled_new k 255 before h 255; kept = filled_kept k 255 before h 255 })
+pub emptied : {k : ℕ} (before : List ℕ) {part : List ℕ} → part ≡ replicate (length (take k before)) 255 → k ≤ length before → Emptied k before (part ++ drop k before)
+emptied {k} before e h = rw (filled 255 before e h) (record {
+  long = simp (length-append, length-replicate, length-drop) (omega arith);
+  none = λ i l. grind (arith, places, get_or-replicate);
+  kept = λ i l. grind (arith, places, get_or-append_right);
+})
 
 -- ---- the seeds: 0 at d, none elsewhere
 

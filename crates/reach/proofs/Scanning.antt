@@ -1,7 +1,7 @@
 -- One class draws along its records: what is left of the group is what is left to draw.
 -- Assumes nothing.
 use mathlib.Core.Path.{◌≡◌, refl, sym, ap, ◌∙◌, subst}
-use mathlib.Core.Bool.{Bool, true}
+use mathlib.Core.Bool.{Bool, true, false, ◌||◌}
 use mathlib.Core.List.Memᴰ
 use mathlib.Core.List.{List, [], ◌∷◌, Memᴰ}
 use Prim.Native.Nat.{ℕ, ◌+◌, ◌*◌, ◌≤◌, ◌<◌}
@@ -17,8 +17,8 @@ use Rattle.records.proofs.Between.{tiled_end}
 use Rattle.records.proofs.Walks.{walk_here, walk_next}
 use Rattle.records.proofs.Nth.{nth_record}
 use Rattle.named.specs.Named.{first_named, second_named, named_by}
-use Rattle.lanes.specs.Lanes.{Room, Settled, Run, SettledAt, Enclosers, either_of}
-use Rattle.lanes.proofs.Rows.{get_or_any}
+use Rattle.lanes.specs.Lanes.{Room, Settled, Run, SettledAt, Enclosers}
+use Rattle.std.proofs.lemmas.List.{get_or_default}
 use Rattle.lanes.proofs.Runs.{run_none, Offered}
 use Rattle.lanes.proofs.Drawing.{Drawn, offered}
 use Rattle.lanes.proofs.Visiting.{VisitAt, visit_start, visit_next, visit_end}
@@ -52,7 +52,7 @@ settled_zero : (step : ℕ → List ℕ) (outer : ℕ → ℕ) (n : ℕ) {lanes 
 unfolding SettledAt Settled
 settled_zero step outer n {m = m} s e l z k t hk w ht b f =
     let i : k * 256 + m ≡ m = omega arith in
-    omega (arith, ap (λ (j : ℕ). get_or s j 255) i, get_or_any s m 0 255 l)
+    omega (arith, ap (λ (j : ℕ). get_or s j 255) i, get_or_default s m 0 255 l)
 
 -- ---- the records of a group
 
@@ -68,7 +68,7 @@ named_nil builds = refl
 abbrev Scans : List ℕ → List ℕ → Bool → ℕ → (ℕ → List ℕ) → (ℕ → ℕ) → Type 0
 Scans bytes marks builds m step outer = (step m ≡ named_in builds (between bytes 0 (length bytes))) × Enclosers outer m marks
 
-pub record ScanAt (bytes marks : List ℕ) (builds : Bool) (n lanes m : ℕ) (row₀ row : List ℕ) (a at : ℕ) : Type 0 where
+pub record ScanAt (bytes marks : List ℕ) (builds : Bool) (n lanes m : ℕ) (row₀ row : List ℕ) (a : Bool) (at : ℕ) : Type 0 where
   pub place : AtRecord bytes (length bytes) at
   pub room : Room n lanes row₀
   pub there : m < n
@@ -76,16 +76,16 @@ pub record ScanAt (bytes marks : List ℕ) (builds : Bool) (n lanes m : ℕ) (ro
   pub visit : (step : ℕ → List ℕ) (outer : ℕ → ℕ) → Scans bytes marks builds m step outer → VisitAt step outer n lanes m marks row₀ row (named_in builds (between bytes at (length bytes))) a
 
 pub scan_start : {bytes marks : List ℕ} (builds : Bool) (n lanes m : ℕ) (row : List ℕ) → AtRecord bytes (length bytes) 0
-    → Room n lanes row → (length marks ≡ 256) × (m < n) → ScanAt bytes marks builds n lanes m row row 0 0
+    → Room n lanes row → (length marks ≡ 256) × (m < n) → ScanAt bytes marks builds n lanes m row row false 0
 scan_start {marks = marks} builds n lanes m row p r z =
     record { place = p; room = r; there = z.1; long = refl; visit = λ step outer h. visit_start step outer n lanes m marks row z.0 h.1 _ (sym h.0) }
 
-module _ {bytes marks : List ℕ} {builds : Bool} {n lanes m : ℕ} {row₀ row : List ℕ} {a at : ℕ} (f : ScanAt bytes marks builds n lanes m row₀ row a at) where
-  pub scan_next : {row₁ row₂ : List ℕ} {t u l b c x y : ℕ} → at < length bytes → t ≡ first_named builds (record_at bytes at) → Drawn marks n lanes m t row row₁ b → x ≡ either_of a b
-      → length row₁ ≡ length row → u ≡ second_named builds (record_at bytes at) → Drawn marks n lanes m u row₁ row₂ c → y ≡ either_of x c → length row₂ ≡ length row₁ → l ≡ u16 bytes at
-      → ScanAt bytes marks builds n lanes m row₀ row₂ y (at + l)
+module _ {bytes marks : List ℕ} {builds : Bool} {n lanes m : ℕ} {row₀ row : List ℕ} {a : Bool} {at : ℕ} (f : ScanAt bytes marks builds n lanes m row₀ row a at) where
+  pub scan_next : {row₁ row₂ : List ℕ} {t u l : ℕ} {b c : Bool} → at < length bytes → t ≡ first_named builds (record_at bytes at) → Drawn marks n lanes m t row row₁ b
+      → length row₁ ≡ length row → u ≡ second_named builds (record_at bytes at) → Drawn marks n lanes m u row₁ row₂ c → length row₂ ≡ length row₁ → l ≡ u16 bytes at
+      → ScanAt bytes marks builds n lanes m row₀ row₂ ((a || b) || c) (at + l)
   unfolding record_at
-  scan_next h et o e q eu o' e' q' el =
+  scan_next h et o q eu o' q' el =
       rw el
       (record {
         place = walk_next f.place h;
@@ -94,14 +94,13 @@ module _ {bytes marks : List ℕ} {builds : Bool} {n lanes m : ℕ} {row₀ row 
         long = q' ∙ q ∙ f.long;
         visit = λ step outer r.
             visit_next
-            (visit_next (f.visit step outer r) (ap (named_in builds) (walk_here f.place h) ∙ named_cons builds (record_at bytes at) _ ∙ rw (et, eu)) (from row f.long o) e q)
+            (visit_next (f.visit step outer r) (ap (named_in builds) (walk_here f.place h) ∙ named_cons builds (record_at bytes at) _ ∙ rw (et, eu)) (from row f.long o) q)
             refl
             (from _ (q ∙ f.long) o')
-            e'
             q';
       })
     where
-      from : (s : List ℕ) → length s ≡ length row₀ → {t b : ℕ} {s' : List ℕ} → Drawn marks n lanes m t s s' b → Offered marks n lanes m t (λ j. j < lanes) s s' b
+      from : (s : List ℕ) → length s ≡ length row₀ → {t : ℕ} {b : Bool} {s' : List ℕ} → Drawn marks n lanes m t s s' b → Offered marks n lanes m t (λ j. j < lanes) s s' b
       from s l d = offered f.room.few f.there s (omega (arith, f.room.long, l)) d
 
   pub scan_end : length bytes ≤ at → Scanned bytes marks builds n lanes m row₀ row a
@@ -126,13 +125,13 @@ module _ {bytes marks : List ℕ} {builds : Bool} {n lanes m : ℕ} {row₀ row 
 -- ---- a class
 
 -- the bytes are those of class m
-pub scanned : (g : ℕ → Group) {builds : Bool} {n lanes m : ℕ} {bytes marks row₀ row : List ℕ} {a : ℕ} → Scanned bytes marks builds n lanes m row₀ row a → Carries bytes (g m)
+pub scanned : (g : ℕ → Group) {builds : Bool} {n lanes m : ℕ} {bytes marks row₀ row : List ℕ} {a : Bool} → Scanned bytes marks builds n lanes m row₀ row a → Carries bytes (g m)
     → Enclosers (outer_of g) m marks
     → Run (steps_of g builds) (outer_of g) n lanes (SettledAt (steps_of g builds) (outer_of g) n lanes m) row₀ row a
 scanned g {builds} f w right = f.run (steps_of g builds) (outer_of g) (ap (named_in builds) (sym w.records)) right
 
 -- the class has 0 already
-pub visit_marked : {step : ℕ → List ℕ} {outer : ℕ → ℕ} {n lanes m : ℕ} (s : List ℕ) → lanes ≡ 1 → m < length s → get_or s m 0 ≡ 0 → Run step outer n lanes (SettledAt step outer n lanes m) s s 0
+pub visit_marked : {step : ℕ → List ℕ} {outer : ℕ → ℕ} {n lanes m : ℕ} (s : List ℕ) → lanes ≡ 1 → m < length s → get_or s m 0 ≡ 0 → Run step outer n lanes (SettledAt step outer n lanes m) s s false
 visit_marked {step} {outer} {n} s e l z = run_none s (settled_zero step outer n s e l z)
 
 -- a class without BUILDS has no step along it
@@ -144,6 +143,6 @@ module _ (g : ℕ → Group) {n : ℕ} (m : ℕ) (few : n ≤ 65535) (none : len
       let o = only_mem (is_kind BUILDS a.source) (target a.source ∷ []) a.part in
       empty none (mem_keep (is_kind BUILDS) a.member o.0)
 
-  pub visit_none : {outer : ℕ → ℕ} {lanes : ℕ} (s : List ℕ) → Run (steps_of g true) outer n lanes (SettledAt (steps_of g true) outer n lanes m) s s 0
+  pub visit_none : {outer : ℕ → ℕ} {lanes : ℕ} (s : List ℕ) → Run (steps_of g true) outer n lanes (SettledAt (steps_of g true) outer n lanes m) s s false
   unfolding SettledAt Settled
   visit_none s = run_none s (λ k t hk w ht b f. absurd (no_step ht w))

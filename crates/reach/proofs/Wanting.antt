@@ -66,7 +66,7 @@ module _ {bytes : List ℕ} {builds : Bool} {n lanes m : ℕ} {row : List ℕ} {
 
 pub visit_content : (g : ℕ → Group) (builds : Bool) {outer : ℕ → ℕ} {n lanes m : ℕ} {bytes : List ℕ} (row : List ℕ) {told : Bool} → Carries bytes (g m)
     → Content row n lanes m (named_in builds (between bytes 0 (length bytes))) told → told ≡ false
-    → Run (steps_of g builds) outer n lanes (SettledAt (steps_of g builds) outer n lanes m) row row 0
+    → Run (steps_of g builds) outer n lanes (SettledAt (steps_of g builds) outer n lanes m) row row false
 unfolding SettledAt Settled
 visit_content g builds row {told} w c e =
     run_none row (λ k t hk x ht b f. c.is e t (subst (λ (h : Group). Memᴰ t (named_in builds h)) (sym w.records) x) ht k hk)

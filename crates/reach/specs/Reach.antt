@@ -22,7 +22,7 @@ unfoldable pub outer_of : (ℕ → Group) → ℕ → ℕ
 outer_of g m = encloser (class_record (g m))
 
 -- Class m has drawn along all that the records in these bytes name. Only the bytes and the row of marks were asked, so it holds for all steps and enclosers that they are right for.
-pub record Scanned (bytes marks : List ℕ) (builds : Bool) (n lanes m : ℕ) (s₀ s : List ℕ) (r : ℕ) : Type 0 where
+pub record Scanned (bytes marks : List ℕ) (builds : Bool) (n lanes m : ℕ) (s₀ s : List ℕ) (r : Bool) : Type 0 where
   pub run : (step : ℕ → List ℕ) (outer : ℕ → ℕ) → step m ≡ named_in builds (between bytes 0 (length bytes)) → Enclosers outer m marks
       → Run step outer n lanes (SettledAt step outer n lanes m) s₀ s r
 

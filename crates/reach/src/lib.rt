@@ -11,7 +11,7 @@ ghost use Rattle.reach.specs.Reach.{named_in, steps_of, outer_of, Scanned, Conte
 ghost use Rattle.records.specs.Records.{between, AtRecord};
 
 use groups::{Classes, class_bytes, class_word};
-use lanes::{EMPTY, LANE, draw_lanes, either, fill, swept};
+use lanes::{EMPTY, LANE, draw_lanes, swept};
 use named::{first_named, second_named};
 use records::{BUILDS, CLASS_LIMIT, ENCLOSER_AT, nth_in, wide, word_in};
 
@@ -49,25 +49,21 @@ fn scan(
     lanes: usize,
     m: usize,
     row: &mut [u8],
-) -> usize
+) -> bool
     requires at_record { AtRecord bytes.now (length bytes.now) 0 }
     requires room { Room n lanes row.old }
     requires marks { (length marks.now ≡ 256) × (m < n) }
     ensures { Scanned bytes.now marks.now builds n lanes m row.old row.new result }
 {
     let mut at = 0;
-    let mut added = 0;
+    let mut added = false;
     while at < bytes.len() {
         let t = first_named(bytes, at, builds);
-        let got = draw_lanes(marks, n, lanes, m, t, row);
-        let so_far = either(added, got);
+        added |= draw_lanes(marks, n, lanes, m, t, row);
         let u = second_named(bytes, at, builds);
-        let more = draw_lanes(marks, n, lanes, m, u, row);
-        added = either(so_far, more);
-        if lanes == 1 {
-            if row[m] == 0 {
-                return added;
-            }
+        added |= draw_lanes(marks, n, lanes, m, u, row);
+        if lanes == 1 && row[m] == 0 {
+            return added;
         }
         at += wide(word_in(bytes, at));
     }
@@ -124,7 +120,7 @@ fn visit<'a>(
     lanes: usize,
     m: usize,
     row: &mut [u8],
-) -> usize
+) -> bool
     ghost g: { ℕ → Group }
     requires groups { group_of library.now user.now ≡ g }
     requires indexed { Indexed library.now user.now classes.library classes.all starts.now }
@@ -133,24 +129,18 @@ fn visit<'a>(
     ensures { Run (steps_of g builds) (outer_of g) classes.all lanes
         (SettledAt (steps_of g builds) (outer_of g) classes.all lanes m) row.old row.new result }
 {
-    if lanes == 1 {
-        if row[m] == 0 {
-            return 0;
-        }
+    if lanes == 1 && row[m] == 0 {
+        return false;
     }
-    if builds {
-        if m < classes.library {
-            return 0;
-        }
+    if builds && m < classes.library {
+        return false;
     }
     let bytes = class_bytes(library, user, starts, classes, m);
-    if builds {
-        if nth_in(bytes, BUILDS, 0) == bytes.len() {
-            return 0;
-        }
+    if builds && nth_in(bytes, BUILDS, 0) == bytes.len() {
+        return false;
     }
     if !wants(bytes, classes.all, builds, lanes, m, row) {
-        return 0;
+        return false;
     }
     let mut marks = [0u8; CLASS_LIMIT];
     enclosers(library, user, starts, classes, m, &mut marks);
@@ -167,7 +157,7 @@ fn sweep<'a>(
     lanes: usize,
     up: bool,
     row: &mut [u8],
-) -> usize
+) -> bool
     ghost g: { ℕ → Group }
     requires groups { group_of library.now user.now ≡ g }
     requires indexed { Indexed library.now user.now classes.library classes.all starts.now }
@@ -175,13 +165,10 @@ fn sweep<'a>(
     ensures { Run (steps_of g builds) (outer_of g) classes.all lanes
         (AllSettled (steps_of g builds) (outer_of g) classes.all lanes) row.old row.new result }
 {
-    let mut added = 0;
-    let mut i = 0;
-    while i < classes.all {
+    let mut added = false;
+    for i in 0..classes.all {
         let m = swept(up, classes.all, i);
-        let got = visit(library, user, starts, classes, builds, lanes, m, row);
-        added = either(added, got);
-        i += 1;
+        added |= visit(library, user, starts, classes, builds, lanes, m, row);
     }
     added
 }
@@ -204,9 +191,7 @@ pub fn close<'a>(
     ensures { Least (steps_of g builds) (outer_of g) classes.all lanes row.old row.new }
 {
     let mut up = true;
-    let mut added = 1;
-    while added != 0 {
-        added = sweep(library, user, starts, classes, builds, lanes, up, row);
+    while sweep(library, user, starts, classes, builds, lanes, up, row) {
         up = !up;
     }
 }
@@ -227,7 +212,7 @@ pub fn dependents<'a>(
     requires there { (d < classes.all) × (256 ≤ length row.old) }
     ensures { row.new ≡ dependent_row library.now user.now d row.old }
 {
-    fill(row, CLASS_LIMIT, EMPTY);
+    row[..CLASS_LIMIT].fill(EMPTY);
     row[d] = 0;
     close(library, user, starts, classes, false, 1, row);
 }

@@ -1,58 +1,23 @@
--- What a reader finds and where it moves: by the tests that the code makes, and by the records of the sheet.
+-- Where a reader moves, and that it finds the records of the sheet.
 -- Assumes nothing.
 use mathlib.Core.Path.{◌≡◌, refl, sym, ap, ap₂, ◌∙◌}
-use mathlib.Core.Bool.{false, not}
 use mathlib.Core.List.{List, [], ◌∷◌}
 use Prim.Native.Nat.{ℕ, zero, suc, ◌+◌, ◌-◌, ◌≤◌, ◌<◌}
-use native.Mathlib.Nat.{zero-add, add-zero, suc-add}
+use native.Mathlib.Nat.{zero-add, suc-add}
 use native.Mathlib.Numerals.{add-one}
 use native.Mathlib.Decide.{ℕ_discrete}
 use native.Mathlib.Omega.{arith}
-use lib.Dec.{T, ltb, eqb, ltb→lt, lt→ltb, eqb→eq}
 use lib.ListN.{length, get_or, take, drop, length-append}
 use lib.Seq.{take-suc, drop-cons, take-length, drop-length}
-use borrow.Author.Tests.{le-ltb, lt-ltb, le-leb, lt-leb, eq-eqb, ne_eqb}
+use borrow.Author.Tests.{lt-leb, ne_eqb}
 use Rattle.spec.specs.Lists.{concat}
 use Rattle.spec.specs.Sheet.{records_of, whole_end}
-use Rattle.laws.proofs.Bools.{and_l, un_not, not_and_r}
 use Rattle.laws.proofs.Parts.{part_length}
 use Rattle.theory.proofs.Cut.{concat_append, records_stop}
 use Rattle.records.specs.Lengths.{whole_length}
 use Rattle.records.proofs.Lengths.{Stands, length_some, length_zero, records_here}
-use Rattle.reader.specs.Reading.{found_at, after_at, moves_at, nth_at}
-use Rattle.reader.specs.declared.Found.TheVariants.{Record, Broken, End}
-
-module _ (s : List ℕ) (at : ℕ) where
-  pub found_end : length s ≤ at → End ≡ found_at s at
-  unfolding found_at
-  found_end h = rw (le-leb (length s) at h, found_at)
-
-  module _ (h : at < length s) {n : ℕ} (e : n ≡ whole_length s at) where
-    pub found_broken : n ≡ 0 → Broken at ≡ found_at s at
-    unfolding found_at
-    found_broken z = rw (lt-leb (length s) at h, eq-eqb (whole_length s at) 0 (sym e ∙ z), found_at)
-
-    pub found_record : (n ≡ 0 → ⊥) → Record at n ≡ found_at s at
-    unfolding found_at
-    found_record z = rw (lt-leb (length s) at h, e, ne_eqb (whole_length s at) 0 (λ q. z (e ∙ q)), found_at)
-
-  module _ (i n : ℕ) where
-    pub moves_not : n ≤ i → false ≡ moves_at s at i n
-    unfolding moves_at
-    moves_not h = rw (le-ltb i n h, moves_at)
-
-    pub moves_is : i < n → {k : ℕ} → k ≡ whole_length s at → not (eqb k 0) ≡ moves_at s at i n
-    unfolding moves_at
-    moves_is h e = rw (lt-ltb i n h, e, moves_at)
-
-    pub moves_before : T (moves_at s at i n) → i < n
-    unfolding moves_at
-    moves_before t = ltb→lt i n (and_l (ltb i n) (not (eqb (whole_length s at) 0)) t)
-
-    -- no move: n records are passed, or no whole record stands here
-    moves_no : T (not (moves_at s at i n)) → i < n → whole_length s at ≡ 0
-    unfolding moves_at
-    moves_no t h = eqb→eq (whole_length s at) 0 (un_not (eqb (whole_length s at) 0) (not_and_r (ltb i n) (not (eqb (whole_length s at) 0)) t (lt→ltb i n h)))
+use Rattle.reader.specs.Reading.{found_at, after_at, nth_at}
+use Rattle.reader.specs.declared.Found.TheVariants.{Record}
 
 -- ---- where record n begins
 
@@ -61,30 +26,20 @@ module _ (s : List ℕ) where
   unfolding nth_at
   nth_zero = refl
 
-  nth_suc : (i : ℕ) → nth_at s i + whole_length s (nth_at s i) ≡ nth_at s (suc i)
-  unfolding nth_at after_at
+  nth_suc : (i : ℕ) → after_at s (nth_at s i) ≡ nth_at s (suc i)
+  unfolding nth_at
   nth_suc i = refl
 
   pub nth_step : (i : ℕ) → after_at s (nth_at s i) ≡ nth_at s (i + 1)
-  unfolding after_at
   nth_step i = nth_suc i ∙ ap (nth_at s) (sym (add-one i))
 
-  -- where no whole record stands it stays
-  stays_for : (i k : ℕ) → whole_length s (nth_at s i) ≡ 0 → nth_at s (k + i) ≡ nth_at s i
-  stays_for i zero z = ap (nth_at s) (zero-add i)
-  stays_for i (suc k) z =
-      ap (nth_at s) (suc-add k i) ∙ sym (nth_suc (k + i)) ∙ ap (λ (p : ℕ). p + whole_length s p) (stays_for i k z) ∙ ap (λ (m : ℕ). nth_at s i + m) z ∙ add-zero (nth_at s i)
+  -- a reader that does not move stays
+  stays_for : (i k : ℕ) → after_at s (nth_at s i) ≡ nth_at s i → nth_at s (k + i) ≡ nth_at s i
+  stays_for i zero e = ap (nth_at s) (zero-add i)
+  stays_for i (suc k) e = ap (nth_at s) (suc-add k i) ∙ sym (nth_suc (k + i)) ∙ ap (after_at s) (stays_for i k e) ∙ e
 
-  nth_stays : (i n : ℕ) → i ≤ n → whole_length s (nth_at s i) ≡ 0 → nth_at s i ≡ nth_at s n
-  nth_stays i n h z = sym (stays_for i (n - i) z) ∙ ap (nth_at s) (omega arith)
-
-  -- a search for record n that goes no further is there
-  pub nth_end : (i n : ℕ) → i ≤ n → T (not (moves_at s (nth_at s i) i n)) → nth_at s i ≡ nth_at s n
-  nth_end i n h t = go (ℕ_discrete i n)
-    where
-      go : Dec (i ≡ n) → nth_at s i ≡ nth_at s n
-      go (yes e) = ap (nth_at s) e
-      go (no e) = nth_stays i n h (moves_no s (nth_at s i) i n t (omega arith))
+  pub nth_stays : (i n : ℕ) → i ≤ n → after_at s (nth_at s i) ≡ nth_at s i → nth_at s i ≡ nth_at s n
+  nth_stays i n h e = sym (stays_for i (n - i) e) ∙ ap (nth_at s) (omega arith)
 
 -- ---- the records of the sheet
 
@@ -137,6 +92,10 @@ unfolding nth_at concat
 passed s zero h = record { begins = refl; left = refl }
 passed s (suc n) h = one_more (passed s n (omega arith)) (omega arith)
 
+found_record : (s : List ℕ) (i : ℕ) → i < length s → (whole_length s i ≡ 0 → ⊥) → found_at s i ≡ Record i (whole_length s i)
+unfolding found_at
+found_record s i h z = rw (found_at, lt-leb (length s) i h, ne_eqb (whole_length s i) 0 z)
+
 -- Record n of the sheet is what a reader finds after n moves, its first byte and its length; after the last record a reader stays at the byte after it.
 pub reader_finds : (s : List ℕ) (n : ℕ)
     → (n < length (records_of s) → found_at s (nth_at s n) ≡ Record (length (concat (take n (records_of s)))) (length (get_or (records_of s) n [])))
@@ -148,9 +107,9 @@ reader_finds s n = (record_n, after)
     record_n h =
         let p = passed s n (omega arith) in
         let w = stands p h in
-        sym (found_record s (nth_at s n) (omega (arith, w)) refl (λ z. omega (arith, w))) ∙ ap₂ Record p.begins (sym (size p h))
+        found_record s (nth_at s n) (omega (arith, w)) (λ z. omega (arith, w)) ∙ ap₂ Record p.begins (sym (size p h))
 
     after : length (records_of s) ≤ n → nth_at s n ≡ whole_end s
     after h =
         let p = passed s (length (records_of s)) (omega arith) in
-        sym (nth_stays s (length (records_of s)) n h (none_left p refl)) ∙ p.begins ∙ ap (λ (rs : List (List ℕ)). length (concat rs)) (take-length (records_of s))
+        sym (nth_stays s (length (records_of s)) n h (omega (arith, none_left p refl))) ∙ p.begins ∙ ap (λ (rs : List (List ℕ)). length (concat rs)) (take-length (records_of s))

@@ -1,6 +1,6 @@
 -- What a reader finds at a position of a sheet, and where it moves.
 -- Assumes nothing.
-use Rattle.std.specs.Prelude.{Bool, true, false, not, ◌&&◌, List, ℕ, zero, suc, ◌+◌, eqb, leb, ltb, length}
+use Rattle.std.specs.Prelude.{true, false, List, ℕ, zero, suc, ◌+◌, eqb, leb, length}
 use Rattle.records.specs.Lengths.{whole_length}
 use Rattle.reader.specs.declared.Found.{Found}
 use Rattle.reader.specs.declared.Found.TheVariants.{Record, Broken, End}
@@ -9,11 +9,8 @@ use Rattle.reader.specs.declared.Found.TheVariants.{Record, Broken, End}
 unfoldable pub found_at : List ℕ → ℕ → Found
 found_at s at = elim (leb (length s) at) [ true ↦ End | false ↦ elim (eqb (whole_length s at) 0) [ true ↦ Broken at | false ↦ Record at (whole_length s at) ] ]
 
-unfoldable pub after_at : List ℕ → ℕ → ℕ
+abbrev pub after_at : List ℕ → ℕ → ℕ
 after_at s at = at + whole_length s at
-
-unfoldable pub moves_at : List ℕ → ℕ → ℕ → ℕ → Bool
-moves_at s at i n = ltb i n && not (eqb (whole_length s at) 0)
 
 -- where record n begins; after the last whole record it stays
 unfoldable pub nth_at : List ℕ → ℕ → ℕ

@@ -9,3 +9,5 @@ pub mod Seeking
 pub mod Lengths
 pub mod Fits
 pub mod Lined
+pub mod Bodies
+pub mod Optional

@@ -40,6 +40,10 @@ optional n = elim (eqb n 65535) [ true ↦ None | false ↦ Some n ]
 abbrev pub ty_of : SpecTy → Ty
 ty_of t = record { dims = t.dims; code = t.code; class = t.class }
 
+-- and back
+abbrev pub spec_ty : Ty → SpecTy
+spec_ty t = record { dims = t.dims; code = t.code; class = t.class }
+
 abbrev pub head_of : List ℕ → Head
 head_of r = record { flags = flags r; markers = own_markers r; superclass = optional (superclass r); encloser = optional (encloser r) }
 

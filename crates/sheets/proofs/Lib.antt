@@ -1,1 +1,2 @@
 pub mod Views
+pub mod Indexes

@@ -1,13 +1,18 @@
 -- What a buffer holds after bytes were put into it, part by part.
 -- Assumes nothing.
-use mathlib.Core.Path.{◌≡◌, refl, ap, ◌∙◌}
+use mathlib.Core.Path.{◌≡◌, refl, sym, ap, ◌∙◌}
 use mathlib.Core.List.{List, [], ◌∷◌, ◌++◌, append-nil}
-use Prim.Native.Nat.{ℕ, suc, ◌+◌, ◌-◌, ◌≤◌, ◌<◌}
+use mathlib.Core.Logic.{⊎_elim}
+use Prim.Native.Nat.{ℕ, suc, min, ◌+◌, ◌-◌, ◌≤◌, ◌<◌}
 use native.Mathlib.Nat.{add-zero}
 use native.Mathlib.Omega.{arith}
-use lib.ListN.{length, get_or, set, take, drop, length-set, length-append, length-drop}
-use lib.Seq.{take-nil, append_snoc, take-suc, length-take-le, get_or-drop}
+use lib.ListN.{length, set, take, drop, length-set, length-append}
+use lib.Seq.{take-nil, append_snoc}
+use borrow.Rule.Slice.PartMut.{put_mid}
+use Rattle.std.proofs.lemmas.Bool.{cases_lt}
+use Rattle.std.proofs.lemmas.List.{append_assoc, take-append-drop, take_all, take_more_set, drop-set-lt, set_past, take_min, drop_min, drop-drop}
 use Rattle.text.specs.Text.{put_all, overlaid}
+use Rattle.text.specs.Written.{Written}
 
 -- ---- lengths
 
@@ -23,10 +28,6 @@ unfolding put_all
 put_append out at [] ys = rw add-zero
 put_append out at (x ∷ xs) ys =
     put_append (set out at x) (at + 1) xs ys ∙ ap (λ (k : ℕ). put_all (put_all (set out at x) (at + 1) xs) k ys) (omega arith)
-
-pub put_snoc : (out : List ℕ) (at : ℕ) (xs : List ℕ) (b : ℕ) → put_all out at (xs ++ (b ∷ [])) ≡ set (put_all out at xs) (at + length xs) b
-unfolding put_all
-put_snoc out at xs b = put_append out at xs (b ∷ [])
 
 -- ---- a text that grows
 
@@ -50,39 +51,38 @@ put_text text out (b ∷ bs) =
     ∙ put_text (text ++ (b ∷ [])) out bs
     ∙ rw append_snoc)
 
--- ---- a part of a text, byte by byte
+-- ---- what fits
 
-pub part_snoc : (text : List ℕ) {from i : ℕ} → from ≤ i → i < length text
-    → take (i + 1 - from) (drop from text) ≡ take (i - from) (drop from text) ++ (get_or text i 0 ∷ [])
-part_snoc text {from} {i} h l =
-    let e : i + 1 - from ≡ suc (i - from) = omega arith in
-    let back : from + (i - from) ≡ i = omega arith in
-    let room : i - from < length (drop from text) = simp length-drop (omega arith) in
-    rw e (take-suc (drop from text) (i - from) 0 room ∙ rw (get_or-drop, back))
+-- the byte at the place, then the others
+module _ (b : ℕ) (bs out : List ℕ) (at : ℕ)
+    (rest : (o : List ℕ) → put_all o (at + 1) bs ≡ take (at + 1) o ++ (take (length o - (at + 1)) bs ++ drop (at + 1 + length bs) o)) where
+  put_inside : at < length out → put_all (set out at b) (at + 1) bs ≡ take at out ++ (take (length out - at) (b ∷ bs) ++ drop (at + suc (length bs)) out)
+  put_inside h =
+      let one : length out - at ≡ suc (length out - (at + 1)) = omega arith in
+      let on : at + 1 + length bs ≡ at + suc (length bs) = omega arith in
+      rest (set out at b)
+      ∙ rw (length-set, take_more_set out at b h, one, on, drop-set-lt (at + suc (length bs)) out at b (omega arith)) (append_assoc (take at out) (b ∷ []) _)
 
-pub record Copied (out₀ : List ℕ) (at : ℕ) (text : List ℕ) (from to : ℕ) (out : List ℕ) (i to_at : ℕ) : Type 0 where
-  pub low : from ≤ i
-  pub high : i ≤ to
-  pub place : to_at ≡ at + (i - from)
-  pub written : out ≡ put_all out₀ at (take (i - from) (drop from text))
+  put_past : length out ≤ at → put_all (set out at b) (at + 1) bs ≡ take at out ++ (take (length out - at) (b ∷ bs) ++ drop (at + suc (length bs)) out)
+  put_past h =
+      let none : length out - at ≡ 0 = omega arith in
+      let none_next : length out - (at + 1) ≡ 0 = omega arith in
+      let on : at + 1 + length bs ≡ at + suc (length bs) = omega arith in
+      rw (set_past out at b h) (rest out ∙ rw (none, none_next, on, take_all (at + 1) out (omega arith), take_all at out h))
 
-module _ {out₀ : List ℕ} {at : ℕ} {text : List ℕ} {from to : ℕ} where
-  pub copied_start : from ≤ to → Copied out₀ at text from to out₀ from at
-  unfolding put_all
-  copied_start h =
-      let e : from - from ≡ 0 = omega arith in
-      record { low = omega arith; high = h; place = omega arith; written = rw e }
+put_is : (bs out : List ℕ) (at : ℕ) → put_all out at bs ≡ take at out ++ (take (length out - at) bs ++ drop (at + length bs) out)
+unfolding put_all
+put_is [] out at = rw (add-zero, take-nil) (sym (take-append-drop at out))
+put_is (b ∷ bs) out at =
+    let rest = λ (o : List ℕ). put_is bs o (at + 1) in ⊎_elim (λ h. put_inside b bs out at rest h) (λ h. put_past b bs out at rest h) (cases_lt at (length out))
 
-  pub copied_next : {out out' : List ℕ} {i p p' : ℕ} → Copied out₀ at text from to out i p → i < to → to ≤ length text
-      → out' ≡ set out p (get_or text i 0) → p' ≡ p + 1 → Copied out₀ at text from to out' (i + 1) p'
-  copied_next {i = i} c l r e q =
-      let done = take (i - from) (drop from text) in
-      let room : i - from ≤ length (drop from text) = simp length-drop (omega (arith, c.low)) in
-      let long : length done ≡ i - from = length-take-le (i - from) (drop from text) room in
-      record {
-        low = omega arith;
-        high = omega arith;
-        place = omega arith;
-        written =
-            e ∙ rw (c.written, c.place, part_snoc text c.low (omega arith), put_snoc out₀ at done (get_or text i 0), long);
-      }
+-- as many bytes as there is room for, copied
+pub put_part : {out bytes ys : List ℕ} (at : ℕ) {from to : ℕ} → from ≡ min at (length out) → to ≡ min (at + length bytes) (length out) → ys ≡ take (to - from) bytes
+    → Written out at bytes (put_mid from (to - from) out ys) (at + length bytes)
+put_part {out} {bytes} at {from} {to} f t e =
+    let back : from + (to - from) ≡ to = omega arith in
+    let some : to - from ≡ min (length out - at) (length bytes) = omega arith in
+    record {
+      place = refl;
+      bytes = rw (put_is bytes out at, e, drop-drop, back, t, drop_min, ← t, some, take_min, f, take_min);
+    }

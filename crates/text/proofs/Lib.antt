@@ -1,4 +1,3 @@
 pub mod Buffer
 pub mod Digits
-pub mod Numbers
 pub mod Texts

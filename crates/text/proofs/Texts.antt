@@ -1,29 +1,15 @@
 -- Texts written one after another into a buffer.
 -- Assumes nothing.
 use mathlib.Core.Path.{◌≡◌, sym, ap, ◌∙◌, subst}
-use mathlib.Core.List.{List, [], ◌∷◌, ◌++◌}
-use Prim.Native.Nat.{ℕ, ◌+◌, ◌-◌, ◌≤◌}
+use mathlib.Core.List.{List, [], ◌++◌}
+use Prim.Native.Nat.{ℕ}
 use native.Mathlib.Omega.{arith}
-use lib.ListN.{length, set, take, drop, length-append, length-drop}
-use lib.Seq.{length-take-le}
-use Rattle.text.specs.Text.{decimal, put_all, overlaid}
+use lib.ListN.{length, length-append}
+use Rattle.text.specs.Text.{put_all, overlaid}
 use Rattle.text.specs.Written.{Written}
 use Rattle.text.proofs.Buffer.{put_length, put_append, put_nothing, put_text}
 
 module _ {out : List ℕ} {at : ℕ} {out' : List ℕ} {after : ℕ} where
-  -- what the functions of `text` promise
-  pub one_byte : {b : ℕ} → after ≡ at + 1 → out' ≡ set out at b → Written out at (b ∷ []) out' after
-  unfolding put_all
-  one_byte e f = record { place = e; bytes = f }
-
-  pub a_number : (x : ℕ) → after ≡ at + length (decimal x) → out' ≡ put_all out at (decimal x) → Written out at (decimal x) out' after
-  a_number x e f = record { place = e; bytes = f }
-
-  pub a_part : (text : List ℕ) (from to : ℕ) → from ≤ to → to ≤ length text → after ≡ at + (to - from) → out' ≡ put_all out at (take (to - from) (drop from text))
-      → Written out at (take (to - from) (drop from text)) out' after
-  a_part text from to l h e f =
-      record { place = e ∙ ap (λ (k : ℕ). at + k) (sym (length-take-le (to - from) (drop from text) (omega (arith, length-drop from text)))); bytes = f }
-
   -- the buffer's length stays
   pub same_size : {text : List ℕ} → Written out at text out' after → length out' ≡ length out
   same_size {text} w = ap length w.bytes ∙ put_length out at text

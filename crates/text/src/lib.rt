@@ -2,14 +2,15 @@
 // is written there.
 #![tactic(auto)]
 
-ghost use Rattle.std.specs.Prelude.{◌≡◌, ◌+◌, ◌-◌, ◌≤◌, ◌<◌, length, set, take, drop};
-ghost use Rattle.text.specs.Text.{decimal, put_all};
+ghost use Rattle.std.specs.Prelude.{[], ◌∷◌, ◌≤◌, ◌<◌, length};
+ghost use Rattle.text.specs.Text.{decimal};
+ghost use Rattle.text.specs.Written.{Written};
 
 // One byte.
+#[tactic(auto, unfolding(crate::specs::Text::put_all))]
 pub fn put(out: &mut [u8], at: usize, byte: u8) -> usize
     requires { at < 1000000 }
-    ensures answer { result ≡ at + 1 }
-    ensures out { out.new ≡ set out.old at byte }
+    ensures { Written out.old at (byte ∷ []) out.new result }
 {
     if at < out.len() {
         out[at] = byte;
@@ -17,30 +18,26 @@ pub fn put(out: &mut [u8], at: usize, byte: u8) -> usize
     at + 1
 }
 
-// The bytes of `text` from `from` up to `to`.
-pub fn put_part(out: &mut [u8], at: usize, text: &[u8], from: usize, to: usize) -> usize
-    requires { (at < 900000) × (from ≤ to) × (to ≤ length text.now) × (to ≤ 65536) }
-    ensures answer { result ≡ at + (to - from) }
-    ensures out { out.new ≡ put_all out.old at (take (to - from) (drop from text.now)) }
+// Some bytes, of which as many are copied as there is room for.
+pub fn put_bytes(out: &mut [u8], at: usize, bytes: &[u8]) -> usize
+    requires { (at < 900000) × (length bytes.now ≤ 65536) }
+    ensures { Written out.old at bytes.now out.new result }
 {
-    let mut i = from;
-    let mut to_at = at;
-    while i < to {
-        to_at = put(out, to_at, text[i]);
-        i += 1;
-    }
-    to_at
+    let after = at + bytes.len();
+    let from = at.min(out.len());
+    let to = after.min(out.len());
+    out[from..to].copy_from_slice(&bytes[..to - from]);
+    after
 }
 
 // A number in decimal.
 pub fn put_number(out: &mut [u8], at: usize, x: usize) -> usize
     requires { at < 900000 }
-    ensures answer { result ≡ at + length (decimal x) }
-    ensures out { out.new ≡ put_all out.old at (decimal x) }
+    ensures { Written out.old at (decimal x) out.new result }
 {
     if x < 10 {
-        return put(out, at, 48 + x as u8);
+        return put(out, at, b'0' + x as u8);
     }
     let then = put_number(out, at, x / 10);
-    put(out, then, 48 + (x % 10) as u8)
+    put(out, then, b'0' + (x % 10) as u8)
 }

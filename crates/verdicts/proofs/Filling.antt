@@ -5,8 +5,9 @@ use mathlib.Core.List.{List, [], ◌∷◌, ◌++◌, append_assoc}
 use Prim.Native.Nat.{ℕ, zero, suc, ◌+◌, ◌-◌, ◌/◌, ◌≤◌, ◌<◌, min}
 use native.Mathlib.Numerals.{add-one}
 use native.Mathlib.Omega.{arith}
-use lib.ListN.{length, get_or, set, drop, length-append, length-drop, get_or-append}
+use lib.ListN.{length, get_or, set, take, drop, length-append, length-drop, get_or-append}
 use lib.Seq.{drop-cons, set_at, get_or_at, get_or-drop, get_or-append-add}
+use Rattle.std.proofs.lemmas.List.{append-nil, drop_all, length-take}
 use borrow.Author.Count.{below_more}
 use Rattle.spec.specs.Rules as spec
 use Rattle.spec.specs.Verdicts.{verdict_bytes, flat_lines, flat_at}
@@ -41,7 +42,7 @@ module _ (flat : List ℕ) where
       i (omega arith)
 
   module _ (row : List Verdict) where
-    -- the row after its first i lines
+    -- a row after its first i lines
     abbrev pub filled : ℕ → List Verdict
     filled i = first_lines flat i ++ drop i row
 
@@ -64,10 +65,6 @@ module _ (flat : List ℕ) where
         ∙ ap filled (sym (add-one i))
 
     module _ (n : ℕ) where
-      pub filled_written : filled (shared n (length row) flat) ≡ written flat row n
-      unfolding written
-      filled_written = refl
-
       pub written_length : length (written flat row n) ≡ length row
       unfolding written
       written_length = filled_length (shared n (length row) flat) (omega arith)
@@ -93,3 +90,13 @@ module _ (flat : List ℕ) where
           (ap (λ (j : ℕ). get_or (first_lines flat k ++ drop k row) j clean) (sym z)
           ∙ get_or-append-add (first_lines flat k) (drop k row) (i - k) clean ∙ get_or-drop k row (i - k) clean
           ∙ ap (λ (j : ℕ). get_or row j clean) (let y : k + (i - k) ≡ i = omega arith in y))
+
+  -- the lines that both rows have, filled apart from the others
+  pub filled_front : (row : List Verdict) (n : ℕ) {k i : ℕ} → k ≡ shared n (length row) flat → i ≡ length (take k row) → filled (take k row) i ++ drop k row ≡ written flat row n
+  unfolding written
+  filled_front row n {k} {i} e f =
+      let all : i ≡ k = omega (arith, length-take k row) in
+      ap (λ (j : ℕ). filled (take k row) j ++ drop k row) all
+      ∙ ap (λ (l : List Verdict). (first_lines flat k ++ l) ++ drop k row) (drop_all k (take k row) (omega (arith, length-take k row)))
+      ∙ ap (λ (l : List Verdict). l ++ drop k row) (append-nil (first_lines flat k))
+      ∙ ap (λ (j : ℕ). first_lines flat j ++ drop j row) e

@@ -1,6 +1,6 @@
 -- The verdict row as a list of structs, the report over it, and a flat row's lines written into it.
 -- Assumes nothing.
-use Rattle.std.specs.Prelude.{Bool, true, false, not, List, [], ◌∷◌, ◌++◌, ℕ, zero, suc, ◌+◌, min, eqb, length, get_or, take, drop}
+use Rattle.std.specs.Prelude.{Bool, true, false, not, List, [], ◌∷◌, ◌++◌, ℕ, zero, suc, min, eqb, length, get_or, take, drop, count_by}
 use Rattle.spec.specs.Lists.{count, span}
 use Rattle.spec.specs.Rules as spec
 use Rattle.spec.specs.Verdicts.{VerdictRow, flat_lines, flat_at}
@@ -27,15 +27,12 @@ structs = record { Row = List Verdict; lines = length; at = line_at; rewritten =
 
 -- ---- the report
 
-unfoldable pub is_faulted : Verdict → Bool
+abbrev pub is_faulted : Verdict → Bool
 is_faulted v = not (eqb v.rule 0)
-
-unfoldable pub tallied : ℕ → Verdict → ℕ
-tallied n v = elim (is_faulted v) [ true ↦ n + 1 | false ↦ n ]
 
 -- how many of the first n verdicts are faulted
 unfoldable pub faulted_in : List Verdict → ℕ → ℕ
-faulted_in row n = count is_faulted (take n row)
+faulted_in row n = count_by is_faulted (take n row)
 
 -- ---- a flat row, and its lines written into the row
 

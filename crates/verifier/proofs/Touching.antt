@@ -11,7 +11,7 @@ use lib.Seq.{get_or-set_same, get_or-set_other}
 use borrow.Author.Tests.{eq-eqb, ne_eqb}
 use Rattle.spec.specs.Sheet.{total}
 use Rattle.view.specs.declared.Cut.{Cut}
-use Rattle.lanes.proofs.Filling.{get_or_replicate}
+use Rattle.std.proofs.lemmas.List.{get_or-replicate}
 use Rattle.reach.specs.Reach.{dependent_row}
 use Rattle.verifier.specs.Changing.{touches, Touched}
 use Rattle.verifier.proofs.Replacing.{mark_at}
@@ -30,7 +30,7 @@ module _ (library new : List ℕ) (cut : Cut) (c : ℕ) {n : ℕ} (en : n ≡ to
     where
       at : (d : ℕ) → d < 256 → Dec (d ≡ c) → eqb (get_or (set marks c 0) d 0) 0 ≡ eqb d c
       at d h (yes q) = rw (q, get_or-set_same marks c 0 0 (omega (arith, long))) (sym (eq-eqb c c refl))
-      at d h (no q) = rw (get_or-set_other marks c d 0 0 q, em, get_or_replicate 256 255 0 d h, ne_eqb d c q)
+      at d h (no q) = rw (get_or-set_other marks c d 0 0 q, em, get_or-replicate {A = ℕ} 256 d 255 0 h, ne_eqb d c q)
 
   -- all that depend on it
   pub touched_all : (cut.from ≡ cut.used → ⊥) → {after : List ℕ} → length after ≡ length marks → after ≡ dependent_row library new c marks → Touched library new cut c after

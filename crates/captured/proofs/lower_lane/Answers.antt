@@ -7,4 +7,4 @@ pub returns-then-has : goal.returns-then-has
 returns-then-has c = lane_has c.has.ensures c.lane_set.ensures.0 _ c.if-has.true
 
 pub returns : goal.returns
-returns c = lane_write c.has.ensures c.lane_set.ensures.0 _ c.if-has.false c.entry.ensures.0 c.if-entry-d.false (omega arith)
+returns c = lane_write c.has.ensures c.lane_set.ensures.0 _ c.if-has.false c.entry.ensures (omega arith) (omega arith)

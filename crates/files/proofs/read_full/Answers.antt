@@ -3,7 +3,7 @@ use Rattle.std.proofs.Common.{arith, length, take, ◌-◌, sym, subst}
 use Rattle.std.proofs.lemmas.Slice.{take-put_mid_below}
 use Rattle.std.specs.Io.KnownBytes.{Consumes}
 use Rattle.files.proofs.Reading.{consumes_more, consumes_kept, front_more, room_more}
-use Rattle.files.proofs.read_full.Goals.{in-Ok, in-Err+else-ne}
+use Rattle.files.proofs.read_full.Goals.{in-Ok, in-Err}
 use Rattle.files.proofs.read_full.Goals as goal
 
 pub loop-preserved : goal.loop-preserved
@@ -24,7 +24,7 @@ loop-preserved g c =
             subst (Consumes first after) (sym (front_more row new done k n fits w.in-Ok.ensures.bound.0))
                 (consumes_more first before after (take done row) (take n new) c.loop.invariant.1 w.in-Ok.ensures.bytes.0),
           )
-      | in-Err+else-ne w ↦
+      | in-Err w ↦
           rw w.done-is (
             omega (arith, room_more row new done k 0 fits (omega arith)),
             subst (Consumes first after) (sym (take-put_mid_below done k row new done (omega arith) fits))

@@ -18,10 +18,10 @@ second_named-u-requires-clause-sized c = walk_sized c.loop-at.invariant.place c.
 -- the length of this record is not read yet
 pub returns-then-row-m-eq0 : goal.returns-then-row-m-eq0
 returns-then-row-m-eq0 c =
-    let got = c.draw_lanes-got in
-    let more = c.draw_lanes-more in
-    let next = scan_next c.loop-at.invariant c.loop-at-test.true c.first_named-t.ensures (got.ensures.row, got.ensures.answer) c.either-so_far.ensures got.auto.row
-    c.second_named-u.ensures (more.ensures.row, more.ensures.answer) c.either-added.ensures more.auto.row refl in
+    let first = c.draw_lanes-added in
+    let second = c.draw_lanes-added-in-loop-at in
+    let next = scan_next c.loop-at.invariant c.loop-at-test.true c.first_named-t.ensures (first.ensures.row, first.ensures.answer) first.auto.row
+    c.second_named-u.ensures (second.ensures.row, second.ensures.answer) second.auto.row refl in
     scan_zero next c.if-lanes-eq1.true (omega (arith, next.long)) c.if-row-m-eq0.true
 
 pub word_in-requires : goal.word_in-requires
@@ -32,10 +32,10 @@ loop-at-smaller c = omega (arith, (walk_on c.loop-at.invariant.place c.loop-at-t
 
 pub loop-at-preserved : goal.loop-at-preserved
 loop-at-preserved c =
-    let got = c.draw_lanes-got in
-    let more = c.draw_lanes-more in
-    scan_next c.loop-at.invariant c.loop-at-test.true c.first_named-t.ensures (got.ensures.row, got.ensures.answer) c.either-so_far.ensures got.auto.row
-    c.second_named-u.ensures (more.ensures.row, more.ensures.answer) c.either-added.ensures more.auto.row (c.wide-at.ensures.0 ∙ c.word_in.ensures)
+    let first = c.draw_lanes-added in
+    let second = c.draw_lanes-added-in-loop-at in
+    scan_next c.loop-at.invariant c.loop-at-test.true c.first_named-t.ensures (first.ensures.row, first.ensures.answer) first.auto.row
+    c.second_named-u.ensures (second.ensures.row, second.ensures.answer) second.auto.row (c.wide-at.ensures.0 ∙ c.word_in.ensures)
 
 pub returns : goal.returns
 returns c = scan_end c.loop-at.invariant c.loop-at-test.false

@@ -1,31 +1,34 @@
-use Rattle.std.proofs.Common.{List, ℕ, ◌<◌, ◌∙◌, Bool, ap, sym, subst, arith}
+-- Where no whole record stood a reader stays, and so it is already where record n begins.
+use Rattle.std.proofs.Common.{◌≡◌, ap, sym, ◌∙◌, arith}
 use mathlib.Core.Path.{ap₂}
-use lib.Dec.{T}
-use mathlib.Core.Bool.{not}
-use Rattle.reader.specs.Reading.{after_at, moves_at, found_at}
-use Rattle.reader.proofs.Reading.{moves_before, nth_zero, nth_step, nth_end}
+use Rattle.std.proofs.lemmas.Grind.{common_steps}
+use Rattle.reader.specs.Reading.{after_at, found_at, nth_at}
+use Rattle.reader.proofs.Reading.{nth_zero, nth_step, nth_stays}
+use Rattle.reader.proofs.nth.Goals.{else-loop-test, then-loop-test+then-not-advance}
 use Rattle.reader.proofs.nth.Goals as goal
 
--- the reader moves only while record n is not reached
-ahead : (c : goal.After-moved-reader) → c.loop-reader.i < c.args.n
-ahead c = moves_before _ _ _ _ (subst T (sym c.loop-reader-test.true ∙ c.moves.ensures) tt)
+pub loop-init : goal.loop-init
+loop-init c = (ap (λ b. b.now) c.new-reader.ensures.bytes, c.new-reader.ensures.at ∙ nth_zero c.args.sheet.now)
 
-pub loop-reader-init : goal.loop-reader-init
-loop-reader-init c = (omega arith, ap (λ b. b.now) c.new-reader.ensures.0, c.new-reader.ensures.1 ∙ nth_zero c.args.sheet.now)
+pub loop-preserved : goal.loop-preserved
+loop-preserved c =
+    let inv = c.loop.invariant in
+    (ap (λ b. b.now) c.advance.ensures.bytes ∙ inv.0, c.advance.ensures.at ∙ ap₂ after_at inv.0 inv.1 ∙ nth_step _ _)
 
-pub overflow_add-i : goal.overflow_add-i
-overflow_add-i c = omega (arith, ahead c)
-
-pub loop-reader-smaller : goal.loop-reader-smaller
-loop-reader-smaller c = omega (arith, ahead c)
-
-pub loop-reader-preserved : goal.loop-reader-preserved
-loop-reader-preserved c =
-    let inv = c.loop-reader.invariant in
-    (omega (arith, ahead c), ap (λ b. b.now) c.moved-reader.ensures.0 ∙ inv.1, c.moved-reader.ensures.1 ∙ ap₂ after_at inv.1 inv.2 ∙ nth_step _ _)
+-- However the loop ended, the reader is where record n begins.
+there : (c : goal.After-read) → (c.loop-test.reader.bytes.now ≡ c.args.sheet.now) × (c.loop-test.reader.at ≡ nth_at c.args.sheet.now c.args.n)
+there c =
+    let inv = c.loop.invariant in
+    elim c.loop-test.branch [
+      | else-loop-test w ↦ rw w.reader-is (inv.0, inv.1 ∙ ap (nth_at c.args.sheet.now) (omega arith))
+      | then-loop-test+then-not-advance w ↦
+          let moved = w.advance.ensures.at ∙ ap₂ after_at inv.0 inv.1 in
+          let still : w.advance.new.self.at ≡ c.loop.reader.at = grind (arith, common_steps) in
+          rw w.reader-is (
+            ap (λ b. b.now) w.advance.ensures.bytes ∙ inv.0,
+            still ∙ inv.1 ∙ nth_stays c.args.sheet.now c.loop.counter c.args.n (omega arith) (sym moved ∙ still ∙ inv.1),
+          )
+    ]
 
 pub returns : goal.returns
-returns c =
-    let inv = c.loop-reader.invariant in
-    let ends = sym c.loop-reader-test.false ∙ c.moves.ensures ∙ ap₂ (λ (s : List ℕ) (at : ℕ). moves_at s at c.loop-reader.i c.args.n) inv.1 inv.2 in
-    c.read.ensures ∙ ap₂ found_at inv.1 (inv.2 ∙ nth_end _ _ _ inv.0 (subst (λ (b : Bool). T (not b)) ends tt))
+returns c = let t = there c in c.read.ensures ∙ ap₂ found_at t.0 t.1

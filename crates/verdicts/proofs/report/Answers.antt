@@ -1,14 +1,19 @@
-use Rattle.std.proofs.Common.{get_or, arith, ap, ◌∙◌}
-use Rattle.verdicts.specs.Row.{clean, tallied}
-use Rattle.verdicts.proofs.Counting.{faulted_none, faulted_more, faulted_most}
+-- The chain counts the first n, and all where there are no more.
+use Rattle.std.proofs.Common.{◌≡◌, take, length, ap, sym, ◌∙◌, rules, tests}
+use Rattle.std.specs.List.{count_by, filter}
+use Rattle.std.proofs.lemmas.Iterator.{YieldsList-from_slice, YieldsList-from_take}
+use Rattle.std.proofs.lemmas.Iterator.Consumers.{YieldsList-at, YieldsList-from_filter, count_from_yields_List}
+use Rattle.std.proofs.lemmas.List.{take_min}
+use Rattle.std.proofs.lemmas.List.Sums.{length-filter}
+use Rattle.verdicts.specs.Row.{is_faulted, faulted_in}
 use Rattle.verdicts.proofs.report.Goals as goal
 
-pub loop-i-init : goal.loop-i-init
-loop-i-init c = (omega arith, faulted_none c.args.row.now)
-
-pub tally-count-requires : goal.tally-count-requires
-tally-count-requires c = omega (arith, c.loop-i.invariant, faulted_most c.args.row.now c.loop-i.i (omega arith))
-
-pub loop-i-preserved : goal.loop-i-preserved
-loop-i-preserved c =
-    (omega arith, c.tally-count.ensures ∙ ap (λ n. tallied n (get_or c.args.row.now c.loop-i.i clean)) c.loop-i.invariant.1 ∙ faulted_more c.args.row.now c.loop-i.i (omega arith))
+pub returns : goal.returns
+unfolding faulted_in
+returns c =
+    let row = c.args.row.now in
+    let counted : c.count.result ≡ length (filter is_faulted (take c.args.n row)) =
+    count_from_yields_List c.filter.result _ c.count.ensures.ran
+    (YieldsList-from_filter _ is_faulted (YieldsList-at c.filter.ensures.source (YieldsList-from_take c.args.n (YieldsList-from_slice row cc) c.take.ensures.count))
+    c.filter.ensures.closure (λ x r q k. search (rules, tests))) in
+    counted ∙ length-filter is_faulted (take c.args.n row) ∙ ap (count_by is_faulted) (sym (take_min c.args.n row))

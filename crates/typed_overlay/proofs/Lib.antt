@@ -1,0 +1,4 @@
+pub mod Unions
+pub mod Memos
+pub mod Recursion
+pub mod Types

@@ -1,0 +1,110 @@
+// Overlay markers: a class asks its superclass and its interfaces, and each interface asks those it extends. A memo row keeps what is known.
+// Classes are asked in rising order, so that a class finds its supertypes there: each is computed once, and no call is deep.
+#![tactic(auto)]
+
+ghost use Rattle.std.specs.Prelude.{◌≡◌, Some, ◌+◌, ◌<◌, max, length, get_or, set};
+ghost use Rattle.spec.specs.Classes.{overlay as overlay_of};
+ghost use Rattle.records.specs.Kinds.{spec_ty};
+ghost use Rattle.sheets.specs.Sheets.{count, groups, library_count};
+ghost use Rattle.typed_overlay.specs.Memo.{raw, with_interfaces, memo_of, Knows};
+ghost use Rattle.typed_overlay.specs.Types.{Known, row_markers};
+
+use markers::{ALL, closure, union};
+use records::record::{Body, Ty};
+use sheets::formed::Formed;
+
+// The own markers of class c and of all its supertypes, unless the memo has them.
+#[cycle(supertypes)]
+fn gathered(formed: &Formed, c: usize, memo: &mut [Option<u8>]) -> u8
+    requires there { c < count formed.now.sheets }
+    requires knows { Knows (groups formed.now.sheets) c memo.old }
+    ensures markers { result ≡ raw (groups formed.now.sheets) c }
+    ensures memo { memo.new ≡ set memo.old c (Some (raw (groups formed.now.sheets) c)) }
+{
+    if let Some(known) = memo[c] {
+        return known;
+    }
+    let head = formed.sheets.group(c).head();
+    let mut mine = head.markers;
+    if let Some(above) = head.superclass {
+        mine = union(mine, gathered(formed, above, memo));
+    }
+    let markers = interfaces(formed, c, mine, memo);
+    memo[c] = Some(markers);
+    markers
+}
+
+// The set `mine` joined with what is gathered for the interfaces that class c lists.
+#[cycle(supertypes)]
+fn interfaces(formed: &Formed, c: usize, mine: u8, memo: &mut [Option<u8>]) -> u8
+    requires there { c < count formed.now.sheets }
+    requires knows { Knows (groups formed.now.sheets) c memo.old }
+    ensures markers { result ≡ with_interfaces (groups formed.now.sheets) c mine }
+    ensures memo { memo.new ≡ memo.old }
+{
+    let mut markers = mine;
+    for record in formed.sheets.group(c).records() {
+        if let Body::Implements(interface) = record.body() {
+            markers = union(markers, gathered(formed, interface, memo));
+        }
+    }
+    markers
+}
+
+/// The overlay markers of class c.
+pub fn overlay(formed: &Formed, c: usize, memo: &mut [Option<u8>]) -> u8
+    requires there { c < count formed.now.sheets }
+    requires knows { Knows (groups formed.now.sheets) c memo.old }
+    ensures markers { result ≡ overlay_of (groups formed.now.sheets) c }
+    ensures memo { memo.new ≡ set memo.old c (Some (raw (groups formed.now.sheets) c)) }
+{
+    let open = gathered(formed, c, memo);
+    closure(open)
+}
+
+/// The overlay markers of class c, where the memo knows the library classes. The user classes below c are asked first, so that each finds its supertypes
+/// in the memo and no call is deep.
+pub fn overlay_in_turn(formed: &Formed, c: usize, memo: &mut [Option<u8>]) -> u8
+    requires there { c < count formed.now.sheets }
+    requires memo { memo.old ≡ memo_of (groups formed.now.sheets) (library_count formed.now.sheets) }
+    ensures markers { result ≡ overlay_of (groups formed.now.sheets) c }
+    ensures memo { memo.new ≡ memo_of (groups formed.now.sheets) (max (library_count formed.now.sheets) (c + 1)) }
+{
+    let first = formed.sheets.library_count();
+    for below in first..c {
+        gathered(formed, below, memo);
+    }
+    overlay(formed, c, memo)
+}
+
+/// Writes the overlay markers of each class, 0 past the last one.
+pub fn overlays(formed: &Formed, memo: &mut [Option<u8>], row: &mut [u8])
+    requires memo { memo.old ≡ memo_of (groups formed.now.sheets) (library_count formed.now.sheets) }
+    requires row { length row.old ≡ 256 }
+    ensures row { Known (groups formed.now.sheets) row.new }
+    ensures memo { memo.new ≡ memo_of (groups formed.now.sheets) (count formed.now.sheets) }
+{
+    let (there, past) = row.split_at_mut(formed.sheets.count());
+    for (c, markers) in there.iter_mut().enumerate() {
+        *markers = overlay(formed, c, memo);
+    }
+    past.fill(0);
+}
+
+/// The set that the row holds for class c.
+pub fn known(row: &[u8], c: usize) -> u8
+    ensures { result ≡ get_or row.now c 0 }
+{
+    row.get(c).copied().unwrap_or(0)
+}
+
+/// The markers that a type satisfies, by the row of all classes' markers: those of its class, all if it is primitive, none if it is an array.
+pub fn type_markers(ty: Ty, row: &[u8]) -> u8
+    ensures { result ≡ row_markers row.now (spec_ty ty) }
+{
+    match (ty.dims, ty.code) {
+        (0, 0) => known(row, ty.class),
+        (0, _) => ALL,
+        _ => 0,
+    }
+}

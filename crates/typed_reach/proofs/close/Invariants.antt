@@ -1,0 +1,12 @@
+-- Each sweep that changes something lowers the row's sum; after one that does not, the row is least.
+use Rattle.lanes.specs.Lanes.{sum_of}
+use Rattle.lanes.proofs.Closing.{CloseAt}
+use Rattle.sheets.specs.Sheets.{count, groups}
+use Rattle.typed_reach.specs.Reach.{steps_of, outer_of}
+use Rattle.typed_reach.proofs.close.Given as goal
+
+abbrev pub invariant-loop-along : goal.invariant-loop-along
+invariant-loop-along l = CloseAt (steps_of (groups l.sheets) l.along) (outer_of (groups l.sheets)) (count l.sheets) l.lanes l.fn.row l.row
+
+abbrev pub decreases-loop-along : goal.decreases-loop-along
+decreases-loop-along l = sum_of l.row
