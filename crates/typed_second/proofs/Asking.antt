@@ -24,7 +24,7 @@ use Rattle.refusals.specs.Refusals.{sheet_number as side_number}
 use Rattle.sheets.specs.Sheets.{Pair, Passed, count, groups, library_count}
 use Rattle.typed_second.specs.declared.lookup.Asked.{Asked}
 use Rattle.typed_second.specs.Second.{indexed_kind, indexed_number, asked_of, Heads}
-use Rattle.typed_second.proofs.Indexing.{indexed}
+use Rattle.sheets.proofs.Indexes.{indexed}
 
 -- no more of a kind than its records, which are few
 kept_few : (k : ℕ) (h : Group) → length (of_kind k h) ≤ length h

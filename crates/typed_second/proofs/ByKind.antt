@@ -57,7 +57,9 @@ module _ (g : ℕ → Group) (nlib c : ℕ) (r : List ℕ) where
           none false = rw (le-ltb (superclass r) c (omega (arith, eqb→eq (superclass r) none16 (true_t e))))
       go false e = some (bare c (flags r))
         where
-          some : (b : Bool) → (elim b as (λ (_ : Bool). Bool) [ true ↦ false | false ↦ ltb (superclass r) c && not (is_interface (g (superclass r))) ]) ≡ (not b && ltb (superclass r) c && not (is_interface (g (superclass r))))
+          some : (b : Bool)
+              → (elim b as (λ (_ : Bool). Bool) [ true ↦ false | false ↦ ltb (superclass r) c && not (is_interface (g (superclass r))) ])
+              ≡ (not b && ltb (superclass r) c && not (is_interface (g (superclass r))))
           some true = refl
           some false = refl
 

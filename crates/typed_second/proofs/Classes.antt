@@ -45,7 +45,8 @@ module _ (sheet at n k b : ℕ) (r : List ℕ) (rs : List (List ℕ)) where
   locate_class e = rw (e, locate)
 
   locate_other : is_class r ≡ false
-      → locate sheet at n k b (r ∷ rs) ≡ record { sheet = sheet; byte = at; class = n - 1; record_number = k; before = b; grouped = ltb 0 k; bytes = r } ∷ locate sheet (at + length r) n (suc k) (kind r) rs
+      → locate sheet at n k b (r ∷ rs)
+      ≡ record { sheet = sheet; byte = at; class = n - 1; record_number = k; before = b; grouped = ltb 0 k; bytes = r } ∷ locate sheet (at + length r) n (suc k) (kind r) rs
   unfolding locate
   locate_other e = rw (e, locate)
 

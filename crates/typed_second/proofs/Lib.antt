@@ -1,4 +1,3 @@
-pub mod Indexing
 pub mod Asking
 pub mod ByKind
 pub mod Enclosing

@@ -19,7 +19,7 @@ use Rattle.groups.specs.Groups.{sheet_number, start_of, end_of}
 use Rattle.groups.proofs.Held.{end_small}
 use Rattle.sheets.specs.Sheets.{Pair, Passed, count, groups, library_count}
 use Rattle.typed_second.specs.Second.{first_met, form_number, form_of, class_refusal}
-use Rattle.typed_second.proofs.Indexing.{indexed}
+use Rattle.sheets.proofs.Indexes.{indexed}
 use Rattle.typed_second.proofs.Classes.{others, first_class, no_class}
 
 -- ---- class by class

@@ -40,8 +40,9 @@ fn class_pass(lookup: &Lookup, c: usize) -> Result<(), Refusal>
 pub fn second_pass(sheets: &Sheets) -> Result<(), Refusal>
     ensures { Answers (form_refusal sheets.now.library sheets.now.user) result (λ _. Unit {0}) }
 {
+    let n = sheets.count();
     let lookup = Lookup::new(sheets);
-    for c in 0..sheets.count() {
+    for c in 0..n {
         class_pass(&lookup, c)?;
     }
     Ok(())
