@@ -1,0 +1,47 @@
+// Fingerprints of class names: whether a name is new is asked of a row of numbers.
+#![tactic(auto)]
+
+ghost use Rattle.std.specs.Prelude.{◌≡◌, ◌≤◌, length, drop};
+ghost use Rattle.spec.specs.Lists.{elem};
+ghost use Rattle.sheets.specs.Sheets.{count, groups};
+ghost use Rattle.typed_fingerprints.specs.Fingerprints.{print_with, print_of, Printed};
+
+use sheets::Sheets;
+
+// The fingerprint after one byte more.
+fn print_with(print: u16, byte: u8) -> u16
+    ensures { result ≡ print_with print byte }
+{
+    print.wrapping_mul(31).wrapping_add(u16::from(byte))
+}
+
+// The fingerprint of a name.
+fn print_of(name: &[u8]) -> u16
+    ensures { result ≡ print_of name.now }
+{
+    name.iter().fold(0, |print, byte| print_with(print, *byte))
+}
+
+/// Fills a row with the fingerprint of each class's name; what stands past them is kept.
+pub fn prints(sheets: &Sheets, row: &mut [u16])
+    requires { count sheets.now ≤ length row.old }
+    ensures first { Printed (groups sheets.now) (count sheets.now) row.new }
+    ensures rest { drop (count sheets.now) row.new ≡ drop (count sheets.now) row.old }
+{
+    for c in 0..sheets.count() {
+        row[c] = print_of(sheets.group(c).name());
+    }
+}
+
+/// Whether an entry is `print`. All are read, so that many are compared at once.
+pub fn met(row: &[u16], print: u16) -> bool
+    ensures { result ≡ elem print row.now }
+{
+    let mut found = false;
+    for entry in row {
+        if *entry == print {
+            found = true;
+        }
+    }
+    found
+}

@@ -1,0 +1,8 @@
+use Rattle.std.proofs.Common.{◌≡◌, ℕ, ◌<◌}
+use mathlib.Core.Option.{none}
+use Rattle.typed_second.specs.Second.{class_refusal}
+use Rattle.typed_second.proofs.second_pass.Given as goal
+
+-- no class below c is refused
+abbrev pub invariant-loop-c : goal.invariant-loop-c
+invariant-loop-c l = (d : ℕ) → d < l.c → class_refusal l.lookup.sheets.now.library l.lookup.sheets.now.user d ≡ none

@@ -1,0 +1,49 @@
+// The second pass over both sheets, class by class: each record by what it names. Refusals 9, 8 and 10.
+#![tactic(auto)]
+
+ghost use Rattle.std.specs.Prelude.{◌≡◌, ◌<◌};
+ghost use Rattle.spec.specs.Refusals.{form_refusal};
+ghost use Rattle.refusals.specs.Refusals.{Answers};
+ghost use Rattle.sheets.specs.Sheets.{Passed, count};
+ghost use Rattle.typed_second.specs.Second.{class_refusal};
+
+mod fits;
+mod lookup;
+
+use lookup::Lookup;
+use refusals::Refusal;
+use sheets::Sheets;
+
+// The records of class c.
+fn class_pass(lookup: &Lookup, c: usize) -> Result<(), Refusal>
+    requires passed { Passed lookup.now.sheets.now }
+    requires there { c < count lookup.now.sheets.now }
+    ensures { Answers (class_refusal lookup.now.sheets.now.library lookup.now.sheets.now.user c) result (λ _. Unit {0}) }
+{
+    let sheets = lookup.sheets;
+    let marks = lookup.enclosing(c);
+    let mut byte = sheets.start(c);
+    for record in sheets.group(c).records() {
+        if let Err(reason) = lookup.record_fits(c, &marks, &record) {
+            return Err(Refusal {
+                reason,
+                sheet: sheets.side(c),
+                byte,
+            });
+        }
+        byte += record.len();
+    }
+    Ok(())
+}
+
+/// The second pass over both sheets: refusals 9, 8 and 10.
+pub fn second_pass(sheets: &Sheets) -> Result<(), Refusal>
+    ensures { Answers (form_refusal sheets.now.library sheets.now.user) result (λ _. Unit {0}) }
+{
+    let n = sheets.count();
+    let lookup = Lookup::new(sheets);
+    for c in 0..n {
+        class_pass(&lookup, c)?;
+    }
+    Ok(())
+}
