@@ -1,2 +1,1 @@
-pub mod Copying
 pub mod Splicing

@@ -1,13 +1,17 @@
 -- The last class taken out: where its group begins, what its bytes and its line become.
 -- Assumes nothing.
-use mathlib.Core.Path.{◌≡◌, sym, ap, ap₂, ◌∙◌}
+use mathlib.Core.Path.{◌≡◌, sym, ap, ◌∙◌}
 use mathlib.Core.List.{List, map, ◌++◌}
 use mathlib.Core.Option.{none, some}
 use Prim.Native.Nat.{ℕ, ◌+◌, ◌-◌, ◌*◌, ◌≤◌, ◌<◌}
 use native.Mathlib.Omega.{arith}
 use lib.Dec.{ltb, nltb→le}
-use lib.ListN.{length, get_or, take, drop, replicate, length-append}
+use lib.ListN.{length, get_or, take, drop, replicate, length-append, length-replicate}
 use lib.Seq.{paste, take-take, take-append_seam, length-take-le}
+use borrow.Rule.Slice.PartMut.{put_mid}
+use Rattle.std.specs.List.{between}
+use Rattle.std.proofs.lemmas.List.Edits.{length-between}
+use Rattle.std.proofs.lemmas.Slice.{put_mid-paste}
 use Rattle.spec.specs.Lists.{concat}
 use Rattle.spec.specs.Sheet.{groups_of, class_count, group_start, total}
 use Rattle.spec.specs.Rules.{clean}
@@ -88,15 +92,18 @@ module _ (library user : List ℕ) (used : ℕ) (verdicts : List ℕ) where
 
     -- ---- the end
 
-    pub withdrawn : {value start line : ℕ} {user' verdicts' : List ℕ} → value ≡ last_class library sheet → start ≡ length left
-        → user' ≡ paste user start (replicate (used - start) 0) (used - start) → line ≡ verdict_bytes * (class_count sheet - 1)
-        → verdicts' ≡ paste verdicts line (replicate (line + verdict_bytes - line) 0) (line + verdict_bytes - line)
-        → Changes flat edit held (accepted value) (record { user = user'; used = start; verdicts = verdicts' })
+    pub withdrawn : {value start line : ℕ} {zeros blank : List ℕ} → value ≡ last_class library sheet → start ≡ length left
+        → zeros ≡ replicate (length (between start used user)) 0 → line ≡ verdict_bytes * (class_count sheet - 1) → line + verdict_bytes ≤ length verdicts
+        → blank ≡ replicate (length (between line (line + verdict_bytes) verdicts)) 0
+        → Changes flat edit held (accepted value)
+        (record { user = put_mid start (used - start) user zeros; used = start; verdicts = put_mid line (line + verdict_bytes - line) verdicts blank })
     unfolding withdrawal bytes_of
-    withdrawn {line = line} ev es eu el er =
-        let w : line + verdict_bytes - line ≡ verdict_bytes = omega arith in
+    withdrawn {line = line} {zeros} {blank} ev es ez el room eb =
+        let w : verdict_bytes ≡ line + verdict_bytes - line = omega arith in
+        let clear : blank ≡ replicate verdict_bytes 0 = eb ∙ ap (λ (k : ℕ). replicate k 0) (length-between verdicts line (line + verdict_bytes) room ∙ sym w) in
         changes_made flat edit held o ev
-        (eu ∙ ap (λ (k : ℕ). paste user k (replicate (used - k) 0) (used - k)) es
-        ∙ cut_off user used (length left) (omega (arith, left_within, used_within)) ∙ ap (λ (s : List ℕ). buffer_with s user used) left_is)
+        (rw es (cut_off user used (length left) left_within used_within (rw es at ez) ∙ ap (λ (s : List ℕ). buffer_with s user used) left_is))
         es
-        (er ∙ ap₂ (λ (at k : ℕ). paste verdicts at (replicate k 0) k) el w ∙ line_put clean verdicts (class_count sheet - 1) (omega (arith, some_left, lines_there)))
+        (put_mid-paste line (line + verdict_bytes - line) verdicts blank (replicate verdict_bytes 0) verdict_bytes clear w (sym (length-replicate {A = ℕ} verdict_bytes 0))
+        ∙ ap (λ (at : ℕ). paste verdicts at (replicate verdict_bytes 0) verdict_bytes) el
+        ∙ line_put clean verdicts (class_count sheet - 1) (omega (arith, some_left, lines_there)))

@@ -1,4 +1,4 @@
-// Taking the last user class back out (document 02, C-12). No other class names it, so no other verdict changes.
+// Taking the last user class back out. No other class names it, so no other verdict changes.
 #![tactic(auto)]
 
 ghost use Rattle.std.specs.Prelude.{◌≡◌, ℕ, ◌≤◌, ◌<◌, length, take, replicate};
@@ -11,7 +11,6 @@ ghost use Rattle.records.specs.Records.{between, AtRecord};
 ghost use Rattle.groups.specs.Groups.{Indexed};
 ghost use Rattle.form.specs.Form.{Checks, outcome_answer};
 
-use edit::clear;
 pub use form::Outcome;
 use form::{Checked, UNASKED, plain, present};
 use groups::{Classes, class_bytes};
@@ -110,10 +109,10 @@ pub fn withdraw<'a>(
         Checked::Fine(classes) => {
             let last = classes.all - 1;
             let start = wide(starts[last]);
-            clear(user, start, size);
+            user[start..size].fill(0);
             *used = start;
             let line = VERDICT_BYTES * (last - classes.library);
-            clear(verdicts, line, line + VERDICT_BYTES);
+            verdicts[line..line + VERDICT_BYTES].fill(0);
             Outcome::Fine(last)
         }
     }

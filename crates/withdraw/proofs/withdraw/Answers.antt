@@ -37,32 +37,48 @@ module _ (library user : List ℕ) (used : ℕ) (verdicts : List ℕ) {p : Check
   starts_at : {start : ℕ} → start ≡ get_or row (k.all - 1) 0 → start ≡ length (withdrawn_sheet (take used user))
   starts_at s = begins library user used verdicts free starts_here s
 
+  used_there : used ≤ length user
+  used_there = used_within library user used verdicts free
+
+  begins_within : {start : ℕ} → start ≡ get_or row (k.all - 1) 0 → start ≤ used
+  begins_within s = omega (arith, starts_at s, left_within library user used verdicts free)
+
 -- ---- the goals
 
 pub overflow_sub-last : goal.overflow_sub-last
 unfolding flat_lines
 overflow_sub-last c = omega (arith, counted c.args.library.now c.args.user.now c.args.used.now c.args.verdicts.now c.removable-checked.ensures c.in-Fine.is)
 
-pub clear-requires : goal.clear-requires
+pub slice_bounds-fill-count : goal.slice_bounds-fill-count
 unfolding flat_lines
-clear-requires c =
+slice_bounds-fill-count c =
+    let a = c.args in
+    omega (arith, begins_within a.library.now a.user.now a.used.now a.verdicts.now c.removable-checked.ensures c.in-Fine.is c.wide-start.ensures.0)
+
+pub slice_bounds-fill-start : goal.slice_bounds-fill-start
+unfolding flat_lines
+slice_bounds-fill-start c =
     let a = c.args in
     let e = c.removable-checked.ensures in
     let f = c.in-Fine.is in
-    let o = free a.library.now a.user.now a.used.now a.verdicts.now e f in
-    let h = used_within a.library.now a.user.now a.used.now a.verdicts.now o in
-    let s = starts_at a.library.now a.user.now a.used.now a.verdicts.now e f c.wide-start.ensures.0 in
-    (omega (arith, s, left_within a.library.now a.user.now a.used.now a.verdicts.now o, h), h)
+    omega (arith, begins_within a.library.now a.user.now a.used.now a.verdicts.now e f c.wide-start.ensures.0, used_there a.library.now a.user.now a.used.now a.verdicts.now e f)
+
+pub slice_bounds-fill-end : goal.slice_bounds-fill-end
+unfolding flat_lines
+slice_bounds-fill-end c =
+    let a = c.args in
+    let e = c.removable-checked.ensures in
+    let f = c.in-Fine.is in
+    omega (arith, begins_within a.library.now a.user.now a.used.now a.verdicts.now e f c.wide-start.ensures.0, used_there a.library.now a.user.now a.used.now a.verdicts.now e f)
 
 pub overflow_sub-line : goal.overflow_sub-line
 unfolding flat_lines
 overflow_sub-line c = omega (arith, counted c.args.library.now c.args.user.now c.args.used.now c.args.verdicts.now c.removable-checked.ensures c.in-Fine.is)
 
-pub clear-requires-in-Fine : goal.clear-requires-in-Fine
+pub slice_bounds-fill-end-in-Fine : goal.slice_bounds-fill-end-in-Fine
 unfolding flat_lines
-clear-requires-in-Fine c =
-    let r = room c.args.library.now c.args.user.now c.args.used.now c.args.verdicts.now c.removable-checked.ensures c.in-Fine.is in
-    (omega (arith, r), r)
+slice_bounds-fill-end-in-Fine c =
+    omega (arith, room c.args.library.now c.args.user.now c.args.used.now c.args.verdicts.now c.removable-checked.ensures c.in-Fine.is)
 
 pub returns-in-Refused : goal.returns-in-Refused
 unfolding flat_lines
@@ -75,5 +91,6 @@ returns-in-Fine c =
     let e = c.removable-checked.ensures in
     let f = c.in-Fine.is in
     withdrawn a.library.now a.user.now a.used.now a.verdicts.now (free a.library.now a.user.now a.used.now a.verdicts.now e f)
-    (ap (λ (n : ℕ). n - 1) (told e f).1.1) (starts_at a.library.now a.user.now a.used.now a.verdicts.now e f c.wide-start.ensures.0) c.clear.ensures
-    (ap (λ (n : ℕ). verdict_bytes * n) (line_is a.library.now a.user.now a.used.now a.verdicts.now e f)) c.clear-in-Fine.ensures
+    (ap (λ (n : ℕ). n - 1) (told e f).1.1) (starts_at a.library.now a.user.now a.used.now a.verdicts.now e f c.wide-start.ensures.0) (c.fill.ensures.after (λ y q. q))
+    (ap (λ (n : ℕ). verdict_bytes * n) (line_is a.library.now a.user.now a.used.now a.verdicts.now e f)) (room a.library.now a.user.now a.used.now a.verdicts.now e f)
+    (c.fill-in-Fine.ensures.after (λ y q. q))
