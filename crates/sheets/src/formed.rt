@@ -6,6 +6,7 @@ ghost use Rattle.sheets.specs.Sheets.{count};
 use crate::Sheets;
 
 /// Two sheets that passed both passes: what each record names is there and of the right sort.
+#[derive(Drop)]
 pub struct Formed<'a> {
     pub sheets: Sheets<'a>,
     pub ghost few: { count sheets ≤ 256 },

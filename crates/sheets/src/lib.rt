@@ -24,6 +24,7 @@ pub struct Index {
 }
 
 /// The two sheets.
+#[derive(Drop)]
 pub struct Sheets<'a> {
     library: &'a [u8],
     user: &'a [u8],

@@ -1,0 +1,100 @@
+// Acceptance: all of 1 to 11 and 16 of a library sheet and a user sheet that need not be written yet.
+#![tactic(auto)]
+
+pub mod accepted;
+mod passes;
+
+ghost use Rattle.std.specs.Prelude.{◌≡◌, ◌≤◌, length, take, replicate, None};
+ghost use Rattle.spec.specs.Refusals.{deemed_refusal, size_refusal, sheet_refusal, present_refusal};
+ghost use Rattle.sheets.specs.Sheets.{groups, library_count};
+ghost use Rattle.view.specs.View.{Fits, spliced};
+ghost use Rattle.refusals.specs.Refusals.{Answers};
+ghost use Rattle.typed_overlay.specs.Memo.{memo_of};
+ghost use Rattle.typed_form.specs.Form.{deemed_breaks};
+
+use accepted::Accepted;
+use markers::clash;
+use passes::both_passes;
+use records::{CLASS_LIMIT, SHEET_LIMIT};
+use refusals::{Reason, Refusal, Side};
+use sheets::formed::Formed;
+use typed_overlay::overlay;
+use typed_second::second_pass;
+use view::Cut;
+
+// Whether the deemed markers of class c are refused: they clash, or class 0 has any.
+fn deemed_breaks(c: usize, markers: u8) -> bool
+    ensures { result ≡ deemed_breaks c markers }
+{
+    clash(markers) || c == 0 && markers != 0
+}
+
+// The deemed markers of the library's classes: 11. The memo is left with what was asked.
+fn deemed(formed: &Formed, memo: &mut [Option<u8>]) -> Result<(), Refusal>
+    requires memo { memo.old ≡ replicate 256 None }
+    ensures answer { Answers (deemed_refusal formed.now.sheets.library formed.now.sheets.user) result (λ _. memo.new ≡ memo_of (groups formed.now.sheets) (library_count formed.now.sheets)) }
+{
+    let _passed = formed.sheets.count();
+    for c in 0..formed.sheets.library_count() {
+        if deemed_breaks(c, overlay(formed, c, memo)) {
+            return Err(Refusal {
+                reason: Reason::Deemed,
+                sheet: Side::Library,
+                byte: formed.sheets.start(c),
+            });
+        }
+    }
+    Ok(())
+}
+
+/// All of 2 to 11 and 16 of a library sheet, and a user sheet that a buffer, a cut in it and a group stand for.
+pub fn check<'a>(
+    library: &'a [u8],
+    user: &'a [u8],
+    group: &'a [u8],
+    cut: Cut,
+) -> Result<Accepted<'a>, Refusal>
+    requires fits { Fits cut user.now group.now }
+    requires short { (length library.now ≤ 32768) × (length (spliced user.now group.now cut) ≤ 32768) }
+    ensures { Answers (sheet_refusal library.now (spliced user.now group.now cut)) result
+        (λ a. a.formed.sheets ≡ record { library = library.now; user = spliced user.now group.now cut }) }
+{
+    let sheets = both_passes(library, user, group, cut)?;
+    second_pass(&sheets)?;
+    let formed = Formed { sheets };
+    let mut memo = [None; CLASS_LIMIT];
+    deemed(&formed, &mut memo)?;
+    Ok(Accepted { formed, memo })
+}
+
+// The sheets' lengths: 1.
+fn lengths(library: &[u8], user: &[u8], used: usize) -> Result<(), Refusal>
+    ensures { Answers (size_refusal library.now user.now used) result (λ _. Unit {0}) }
+{
+    let sheet = if SHEET_LIMIT < library.len() {
+        Side::Library
+    } else if user.len().min(SHEET_LIMIT) < used {
+        Side::User
+    } else {
+        return Ok(());
+    };
+    Err(Refusal {
+        reason: Reason::TooLong,
+        sheet,
+        byte: 0,
+    })
+}
+
+/// All of 1 to 11 and 16 of the library sheet, the user buffer and its used length.
+pub fn present<'a>(library: &'a [u8], user: &'a [u8], used: usize) -> Result<Accepted<'a>, Refusal>
+    ensures { Answers (present_refusal library.now user.now used) result
+        (λ a. a.formed.sheets ≡ record { library = library.now; user = take used user.now }) }
+{
+    lengths(library, user, used)?;
+    let cut = Cut {
+        from: used,
+        to: used,
+        used,
+    };
+    check(library, user, &library[0..0], cut)
+}
