@@ -1,15 +1,15 @@
 -- The records of a list of bytes, walked by positions: those from a byte on, and whether they end where the bytes end and no CLASS is among them.
 -- Assumes nothing.
 use mathlib.Core.Path.{◌≡◌, refl, sym, ap, ◌∙◌}
-use mathlib.Core.Bool.{Bool, true, false, not, ◌&&◌, and-false}
+use mathlib.Core.Bool.{Bool, true, false, not, beq, ◌&&◌, and-false}
+use mathlib.Core.Logic.{◌⊎◌, inl, inr, ⊎_elim}
 use mathlib.Core.List.{List}
 use Prim.Native.Nat.{ℕ, ◌+◌, ◌≤◌, ◌<◌}
-use native.Mathlib.Nat.{zero-add}
 use native.Mathlib.Decide.{ℕ_discrete}
 use native.Mathlib.Omega.{arith}
 use lib.Dec.{eqb}
 use lib.ListN.{length, take, drop, length-append, length-drop}
-use borrow.Author.Tests.{eq-eqb, ne_eqb}
+use Rattle.std.proofs.lemmas.Bool.{true≢false, false≢true, eq-eqb, ne_eqb, cases_eq}
 use Rattle.spec.specs.Lists.{any, concat}
 use Rattle.spec.specs.Record.{u16, is_class}
 use Rattle.spec.specs.Sheet.{whole_first, records_of, whole_end}
@@ -75,36 +75,63 @@ none_at_all : (s : List ℕ) → whole_first s ≡ false → whole_group s ≡ f
 unfolding whole_group one_class
 none_at_all s e = rw (records_stop s e) (and-false (eqb (whole_end s) (length s)))
 
--- ---- the code's steps: n is the length that it read, k the kind
+-- ---- the code's steps
 
-module _ (s : List ℕ) {n : ℕ} (e : n ≡ whole_length s 0) where
-  pub start_torn : n ≡ 0 → false ≡ whole_group s
-  start_torn z = sym (none_at_all s (length_zero s 0 e z))
+-- what is asked of the bytes from a place on: at the group's start that they are whole records with a CLASS first, later that no CLASS is among them
+unfoldable pub asked : List ℕ → ℕ → Bool
+asked s at = elim (eqb at 0) [ true ↦ whole_group (drop at s) | false ↦ others_only (drop at s) ]
 
-  pub start_other : (n ≡ 0 → ⊥) → {k : ℕ} → k ≡ u16 s 2 → (k ≡ 1 → ⊥) → false ≡ whole_group s
-  start_other z f h = sym (other_first (length_some s 0 e z) f h)
+module _ (s : List ℕ) (at : ℕ) where
+  asked_first : at ≡ 0 → asked s at ≡ whole_group (drop at s)
+  unfolding asked
+  asked_first q = rw (eq-eqb at 0 q, asked)
 
--- the loop's invariant: what is asked of the group is asked of what is left of it
+  asked_later : (at ≡ 0 → ⊥) → asked s at ≡ others_only (drop at s)
+  unfolding asked
+  asked_later q = rw (ne_eqb at 0 q, asked)
+
+-- the loop's invariant
 pub record Going (s : List ℕ) (at : ℕ) : Type 0 where
   pub within : at ≤ length s
-  pub same : whole_group s ≡ others_only (drop at s)
+  pub same : whole_group s ≡ asked s at
 
-pub start_class : {s : List ℕ} {n : ℕ} → n ≡ whole_length s 0 → (n ≡ 0 → ⊥) → {k : ℕ} → k ≡ u16 s 2 → k ≡ 1 → Going s n
-start_class {s} {n} e z f h =
-    let w = length_some s 0 e z in
-    record { within = omega (arith, w.ends); same = class_first w f h ∙ ap (λ (i : ℕ). others_only (drop i s)) (zero-add n) }
+pub go_start : (s : List ℕ) → Going s 0
+go_start s = record { within = omega arith; same = sym (asked_first s 0 refl) }
 
 module _ {s : List ℕ} {at : ℕ} (g : Going s at) where
-  pub go_end : length s ≤ at → true ≡ whole_group s
-  go_end h = sym (g.same ∙ end_stop s at h)
+  -- an empty group has no CLASS
+  pub go_end : length s ≤ at → {b : Bool} → b ≡ eqb (length s) 0 → not b ≡ whole_group s
+  go_end h {b} e = rw e (go (cases_eq (length s) 0))
+    where
+      go : (length s ≡ 0) ⊎ (length s ≡ 0 → ⊥) → not (eqb (length s) 0) ≡ whole_group s
+      go (inl q) = rw (eq-eqb (length s) 0 q) (sym (none_at_all s (short_stop s (omega arith))))
+      go (inr q) = rw (ne_eqb (length s) 0 q) (sym (g.same ∙ asked_later s at (λ z. q (omega (arith, g.within))) ∙ end_stop s at h))
 
   module _ {n : ℕ} (e : n ≡ whole_length s at) where
     pub go_torn : at < length s → n ≡ 0 → false ≡ whole_group s
-    go_torn h z = sym (g.same ∙ none_stop s at (length_zero s at e z) h)
+    go_torn h z =
+        let none = length_zero s at e z in
+        sym (g.same ∙ ⊎_elim (λ q. asked_first s at q ∙ none_at_all (drop at s) none) (λ q. asked_later s at q ∙ none_stop s at none h) (cases_eq at 0))
 
+    -- k is the kind of the record at hand; it is a CLASS just at the start
     module _ (z : n ≡ 0 → ⊥) {k : ℕ} (f : k ≡ u16 s (at + 2)) where
-      pub go_class : k ≡ 1 → false ≡ whole_group s
-      go_class h = sym (g.same ∙ class_stop (length_some s at e z) f h)
+      stands : Stands s at n
+      stands = length_some s at e z
 
-      pub go_other : (k ≡ 1 → ⊥) → Going s (at + n)
-      go_other h = let w = length_some s at e z in record { within = w.ends; same = g.same ∙ other_step w f h }
+      pub go_wrong : not (beq (eqb k 1) (eqb at 0)) ≡ true → false ≡ whole_group s
+      go_wrong h = sym (g.same ∙ go (cases_eq at 0) (cases_eq k 1))
+        where
+          go : (at ≡ 0) ⊎ (at ≡ 0 → ⊥) → (k ≡ 1) ⊎ (k ≡ 1 → ⊥) → asked s at ≡ false
+          go (inl q) (inl p) = absurd (false≢true (rw (eq-eqb at 0 q, eq-eqb k 1 p) at h))
+          go (inl q) (inr p) = asked_first s at q ∙ other_first stands f p
+          go (inr q) (inl p) = asked_later s at q ∙ class_stop stands f p
+          go (inr q) (inr p) = absurd (false≢true (rw (ne_eqb at 0 q, ne_eqb k 1 p) at h))
+
+      pub go_right : not (beq (eqb k 1) (eqb at 0)) ≡ false → Going s (at + n)
+      go_right h = record { within = stands.ends; same = g.same ∙ go (cases_eq at 0) (cases_eq k 1) ∙ sym (asked_later s (at + n) (λ y. z (omega arith))) }
+        where
+          go : (at ≡ 0) ⊎ (at ≡ 0 → ⊥) → (k ≡ 1) ⊎ (k ≡ 1 → ⊥) → asked s at ≡ others_only (drop (at + n) s)
+          go (inl q) (inl p) = asked_first s at q ∙ class_first stands f p
+          go (inl q) (inr p) = absurd (true≢false (rw (eq-eqb at 0 q, ne_eqb k 1 p) at h))
+          go (inr q) (inl p) = absurd (true≢false (rw (ne_eqb at 0 q, eq-eqb k 1 p) at h))
+          go (inr q) (inr p) = asked_later s at q ∙ other_step stands f p

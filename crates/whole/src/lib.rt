@@ -9,22 +9,19 @@ use records::{CLASS, KIND_AT, whole_length, word_in};
 pub fn whole_group(group: &[u8]) -> bool
     ensures { result ≡ whole_group group.now }
 {
-    let mut at = whole_length(group, 0);
-    if at == 0 {
-        return false;
-    }
-    if word_in(group, KIND_AT) != CLASS {
-        return false;
-    }
+    let mut at = 0;
     while at < group.len() {
         let len = whole_length(group, at);
         if len == 0 {
             return false;
         }
-        if word_in(group, at + KIND_AT) == CLASS {
+        let kind = word_in(group, at + KIND_AT);
+        let is_class = kind == CLASS;
+        let is_first = at == 0;
+        if is_class != is_first {
             return false;
         }
         at += len;
     }
-    true
+    !group.is_empty()
 }
