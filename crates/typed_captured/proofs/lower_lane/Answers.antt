@@ -8,5 +8,7 @@ returns-then-has c = lane_has c.has.ensures c.set.ensures.0 _ c.if-has.true
 
 pub returns : goal.returns
 returns c =
-    let l : c.place.result * 256 + c.args.m < length c.args.row.now = omega (arith, place_low c.args.lane, c.place.ensures) in
-    lane_lowered c.has.ensures c.set.ensures.0 _ c.if-has.false (omega (arith, c.place.ensures)) (omega (arith, c.min.ensures, get_or_default c.args.row.now (c.place.result * 256 + c.args.m) 0 255 l)) l
+    let at = c.place.result * 256 + c.args.m in
+    let l : at < length c.args.row.now = omega (arith, place_low c.args.lane, c.place.ensures) in
+    lane_lowered c.has.ensures c.set.ensures.0 _ c.if-has.false (omega (arith, c.place.ensures))
+    (omega (arith, c.min.ensures, get_or_default c.args.row.now at 0 255 l)) l
