@@ -1,0 +1,53 @@
+use mathlib.Core.Path.{sym, ◌∙◌, subst}
+use Prim.Native.Nat.{◌<◌}
+use native.Mathlib.Omega.{arith}
+use Rattle.laws.proofs.All.{All}
+use Rattle.theory.proofs.Accept.{RecordFits, form_fits}
+use Rattle.sheets.specs.Sheets.{count, groups, library_count}
+use Rattle.lanes.proofs.Marking.{marks_enclosers}
+use Rattle.typed_captured.proofs.Lowering.{left_all, left_next, left_none}
+use Rattle.typed_captured.proofs.Seeding.{record_other, variable_markers, owner_there, variable_there, record_uses}
+use Rattle.typed_captured.proofs.seed_records.Goals as goal
+
+pub loop-record-init : goal.loop-record-init
+loop-record-init c =
+    let e = c.into_iter-record-iterator.ensures.into_iter_gives ∙ c.records-record-items.ensures.records ∙ c.requires.group in
+    let p = c.args.formed.now.sheets in
+    (tt, tt, subst (All (RecordFits (library_count p) (count p) (groups p) c.args.m)) (sym e) (form_fits p.library p.user c.args.formed.now.formed c.args.m), left_all e)
+
+pub group-requires : goal.group-requires
+group-requires c =
+    let fits = rw c.in-Some.ensures.steps at c.loop-record.invariant.2 in
+    owner_there c.args.formed.now.sheets fits.0 (rw c.in-Uses.is at c.body.ensures)
+
+pub variable_type-ty-requires : goal.variable_type-ty-requires
+variable_type-ty-requires c =
+    let fits = rw c.in-Some.ensures.steps at c.loop-record.invariant.2 in
+    rw c.group.ensures (variable_there c.args.formed.now.sheets fits.0 (rw c.in-Uses.is at c.body.ensures))
+
+pub offer-requires : goal.offer-requires
+offer-requires c =
+    let fits = rw c.in-Some.ensures.steps at c.loop-record.invariant.2 in
+    let owner : c.in-Uses.class < count c.args.formed.now.sheets = owner_there c.args.formed.now.sheets fits.0 (rw c.in-Uses.is at c.body.ensures) in
+    omega (arith, c.args.formed.now.few, c.requires.there, c.enclosers.auto.marks, c.loop-record.auto.row)
+
+pub loop-record-preserved-in-Uses : goal.loop-record-preserved-in-Uses
+loop-record-preserved-in-Uses c =
+    let p = c.args.formed.now.sheets in
+    let fits = rw c.in-Some.ensures.steps at c.loop-record.invariant.2 in
+    let w = rw c.in-Uses.is at c.body.ensures in
+    let right = marks_enclosers 256 (omega (arith, c.requires.there, c.args.formed.now.few)) c.enclosers.ensures in (
+      tt,
+      tt,
+      fits.1,
+      left_next c.loop-record.invariant.3 c.in-Some.ensures.steps
+          (record_uses p fits.0 w (variable_markers c.requires.known c.type_markers.ensures (rw c.group.ensures at c.variable_type-ty.ensures)) right c.offer.ensures),
+    )
+
+pub loop-record-preserved : goal.loop-record-preserved
+loop-record-preserved c =
+    let fits = rw c.in-Some.ensures.steps at c.loop-record.invariant.2 in
+    (tt, tt, fits.1, left_next c.loop-record.invariant.3 c.in-Some.ensures.steps (record_other c.body.result c.body.ensures c.in_default.not-Uses _))
+
+pub returns : goal.returns
+returns c = left_none c.loop-record.invariant.3 c.in-None.ensures.steps.0

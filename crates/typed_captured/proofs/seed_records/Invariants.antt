@@ -1,0 +1,14 @@
+-- The records that are left make all, and each fits.
+use Rattle.laws.proofs.All.{All}
+use Rattle.theory.proofs.Accept.{RecordFits}
+use Rattle.sheets.specs.Sheets.{count, groups, library_count}
+use Rattle.typed_captured.specs.Seeds.{ByRecord}
+use Rattle.typed_captured.proofs.Lowering.{Left}
+use Rattle.typed_captured.proofs.seed_records.Given as goal
+
+abbrev pub invariant-loop-record : goal.invariant-loop-record
+invariant-loop-record l =
+    (goal.iterator-loop-record).can_next l.record-iterator
+    × (goal.iterator-loop-record).is_finite l.record-iterator
+    × All (RecordFits (library_count l.fn.formed.sheets) (count l.fn.formed.sheets) (groups l.fn.formed.sheets) l.fn.m) l.record-iterator
+    × Left (ByRecord (groups l.fn.formed.sheets) l.fn.m) (groups l.fn.formed.sheets l.fn.m) l.fn.row l.row l.record-iterator

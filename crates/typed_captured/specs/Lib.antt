@@ -1,0 +1,2 @@
+pub mod Captured
+pub mod Seeds

@@ -1,0 +1,162 @@
+// Captured variables: for each class and marker, whether it captures a variable whose type lacks the marker.
+#![tactic(auto)]
+
+ghost use Rattle.std.specs.Prelude.{◌≡◌, [], ◌+◌, ◌*◌, ◌^◌, ◌≤◌, ◌<◌, ltb, length, get_or};
+ghost use Rattle.spec.specs.Record.{LOCAL, local_ty};
+ghost use Rattle.spec.specs.Sheet.{of_kind};
+ghost use Rattle.records.specs.Kinds.{spec_ty};
+ghost use Rattle.sheets.specs.Sheets.{count, groups};
+ghost use Rattle.lanes.specs.Lanes.{entry_at};
+ghost use Rattle.typed_overlay.specs.Types.{Known};
+ghost use Rattle.typed_captured.specs.Captured.{lane_marker, lane_place, Captured};
+ghost use Rattle.typed_captured.specs.Seeds.{OneOf, Lowering, InLane, Offered, ByRecord, ByClasses};
+
+use lanes::{EMPTY, LANE, entry};
+use markers::{DEEP_SELFLESS, IMMUTABLE, POWERLESS, has};
+use records::CLASS_LIMIT;
+use records::group::Group;
+use records::kind::Kind;
+use records::record::{Body, Ty};
+use sheets::formed::Formed;
+use typed_named::Along;
+use typed_overlay::type_markers;
+use typed_reach::{close, enclosers};
+
+/// The markers whose captured variables are asked, a lane of owners each.
+#[derive(Clone, Copy, PartialEq, Eq, Debug)]
+pub enum Lane {
+    Immutable,
+    Powerless,
+    DeepSelfless,
+}
+
+/// All of them, as they lie in a row.
+pub const LANES: [Lane; 3] = [Lane::Immutable, Lane::Powerless, Lane::DeepSelfless];
+
+const OWNERS: usize = LANES.len() * LANE;
+
+impl Lane {
+    /// The lane's marker, as a set of its own.
+    pub fn set(self) -> u8
+        ensures { (result ≡ 2 ^ lane_marker self) × (0 < result) }
+    {
+        match self {
+            Lane::Immutable => IMMUTABLE,
+            Lane::Powerless => POWERLESS,
+            Lane::DeepSelfless => DEEP_SELFLESS,
+        }
+    }
+
+    /// Its place among the lanes of a row.
+    pub fn place(self) -> usize
+        ensures { result ≡ lane_place self }
+    {
+        match self {
+            Lane::Immutable => 0,
+            Lane::Powerless => 1,
+            Lane::DeepSelfless => 2,
+        }
+    }
+}
+
+// The type of variable i of a class.
+fn variable_type(group: &Group, i: usize) -> Ty
+    requires { i < length (of_kind LOCAL group.now) }
+    ensures { spec_ty result ≡ local_ty (get_or (of_kind LOCAL group.now) i []) }
+{
+    let mut left = i;
+    for record in group.records() {
+        if let Body::Local(ty) = record.body() {
+            if left == 0 {
+                return ty;
+            }
+            left -= 1;
+        }
+    }
+    unreachable!()
+}
+
+// A lane of class m is lowered to the owner d if its marker is lacking.
+fn lower_lane(set: u8, lane: Lane, m: usize, d: usize, row: &mut [u8])
+    requires { (m < 256) × (d < 256) × (768 ≤ length row.old) }
+    ensures { Lowering (InLane set m d lane) row.old row.new }
+{
+    if has(set, lane.set()) {
+        return;
+    }
+    let at = lane.place() * LANE + m;
+    row[at] = row[at].min(d as u8);
+}
+
+// So are all lanes, if d encloses m.
+fn offer(marks: &[u8], set: u8, m: usize, d: usize, row: &mut [u8])
+    requires { (m < 256) × (d < 256) × (256 ≤ length marks.now) × (768 ≤ length row.old) }
+    ensures { Lowering (Offered marks.now set m d) row.old row.new }
+{
+    if marks[d] != 1 {
+        return;
+    }
+    for lane in LANES {
+        lower_lane(set, lane, m, d, row);
+    }
+}
+
+// What the records of class m use.
+fn seed_records(formed: &Formed, markers: &[u8], group: &Group, m: usize, row: &mut [u8])
+    requires known { Known (groups formed.now.sheets) markers.now }
+    requires group { group.now ≡ groups formed.now.sheets m }
+    requires there { (m < count formed.now.sheets) × (768 ≤ length row.old) }
+    ensures { Lowering (OneOf (ByRecord (groups formed.now.sheets) m) (groups formed.now.sheets m)) row.old row.new }
+{
+    let mut marks = [0u8; CLASS_LIMIT];
+    enclosers(&formed.sheets, m, &mut marks);
+    for record in group.records() {
+        if let Body::Uses { class, index } = record.body() {
+            let ty = variable_type(&formed.sheets.group(class), index);
+            offer(&marks, type_markers(ty, markers), m, class, row);
+        }
+    }
+}
+
+// What class m itself uses. Most classes use nothing.
+fn seed_class(formed: &Formed, markers: &[u8], m: usize, row: &mut [u8])
+    requires known { Known (groups formed.now.sheets) markers.now }
+    requires there { (m < count formed.now.sheets) × (768 ≤ length row.old) }
+    ensures { Lowering (OneOf (ByRecord (groups formed.now.sheets) m) (groups formed.now.sheets m)) row.old row.new }
+{
+    let group = formed.sheets.group(m);
+    if group.has(Kind::Uses) {
+        seed_records(formed, markers, &group, m, row);
+    }
+}
+
+// What each class itself uses. No library class uses a variable.
+fn seed(formed: &Formed, markers: &[u8], row: &mut [u8])
+    requires known { Known (groups formed.now.sheets) markers.now }
+    requires long { 768 ≤ length row.old }
+    ensures { Lowering (ByClasses (groups formed.now.sheets) (count formed.now.sheets)) row.old row.new }
+{
+    for m in formed.sheets.library_count()..formed.sheets.count() {
+        seed_class(formed, markers, m, row);
+    }
+}
+
+/// Fills three lanes; the variables are found along BUILDS.
+pub fn captures(formed: &Formed, markers: &[u8], row: &mut [u8])
+    requires known { Known (groups formed.now.sheets) markers.now }
+    requires long { 768 ≤ length row.old }
+    ensures { Captured (groups formed.now.sheets) (count formed.now.sheets) row.old row.new }
+{
+    let _passed = formed.sheets.count();
+    row[..OWNERS].fill(EMPTY);
+    seed(formed, markers, row);
+    close(&formed.sheets, Along::Builds, LANES.len(), row);
+}
+
+/// Whether class l has an owner in a lane.
+pub fn lacking(row: &[u8], lane: Lane, l: usize) -> bool
+    requires { l < 256 }
+    ensures { result ≡ ltb (entry_at row.now (lane_place lane) l) 255 }
+{
+    entry(row, lane.place() * LANE + l) < EMPTY
+}
