@@ -1,0 +1,52 @@
+-- Test after test: the group, the sheet that it makes, the lines and the scratch.
+use mathlib.Core.Path.{sym, ap, ◌∙◌}
+use mathlib.Core.Option.{some}
+use native.Mathlib.Omega.{arith}
+use Rattle.std.proofs.lemmas.Result.{err_from_is_err_and}
+use Rattle.refusals.specs.declared.Refusal.{Refusal}
+use Rattle.refusals.specs.Refusals.{refusal_of}
+use Rattle.typed_overlay.proofs.Memos.{library_low}
+use Rattle.typed_admit.proofs.Turning.{group_fits, own_is, not_whole, no_room, sheet_refused, too_short, admitted}
+use Rattle.typed_admit.proofs.admit.Goals as goal
+
+pub returns-then-not-whole_group : goal.returns-then-not-whole_group
+returns-then-not-whole_group c = not_whole _ _ _ _ _ _ c.whole_group.ensures c.if-not-whole_group.true ∙ ap (λ (r : Refusal). some (refusal_of r)) (sym c.from.ensures)
+
+pub view_len-requires : goal.view_len-requires
+view_len-requires c = group_fits c.requires.sits c.whole_group.ensures c.if-not-whole_group.false
+
+pub returns-then-min-view_len : goal.returns-then-min-view_len
+returns-then-min-view_len c =
+    no_room _ _ _ _ _ _ c.whole_group.ensures c.if-not-whole_group.false c.view_len.ensures (omega (arith, c.if-min-view_len.true, c.min.ensures))
+    ∙ ap (λ (r : Refusal). some (refusal_of r)) (sym c.from-then-min-view_len.ensures)
+
+pub check-requires-clause-fits : goal.check-requires-clause-fits
+check-requires-clause-fits c = group_fits c.requires.sits c.whole_group.ensures c.if-not-whole_group.false
+
+pub check-requires-clause-short : goal.check-requires-clause-short
+check-requires-clause-short c = (c.requires.short, omega (arith, c.if-min-view_len.false, c.min.ensures, c.view_len.ensures))
+
+pub returns-in_err-accepted : goal.returns-in_err-accepted
+returns-in_err-accepted c =
+    let p = err_from_is_err_and c.from_residual.result c.from_residual.ensures.1 in
+    rw (p.1, p.2)
+    (sheet_refused _ _ _ _ _ _ c.whole_group.ensures c.if-not-whole_group.false c.view_len.ensures (omega (arith, c.if-min-view_len.false, c.min.ensures)) c.requires.plain
+    c.in_err-accepted.ensures)
+
+pub overflow_sub-count : goal.overflow_sub-count
+overflow_sub-count c = omega (arith, c.count.ensures.count, c.library_count.ensures, library_low c.in_ok-accepted.accepted.formed.sheets)
+
+pub returns-then-lacks : goal.returns-then-lacks
+returns-then-lacks c =
+    let a = c.in_ok-accepted.ensures in
+    too_short _ _ _ _ _ _ c.whole_group.ensures c.if-not-whole_group.false c.view_len.ensures (omega (arith, c.if-min-view_len.false, c.min.ensures)) c.requires.plain
+    a.0 (own_is a.1 c.count.ensures.count c.library_count.ensures) c.lacks.ensures c.if-lacks.true
+    ∙ ap (λ (r : Refusal). some (refusal_of r)) (sym c.from-then-lacks.ensures)
+
+pub returns : goal.returns
+returns c =
+    let a = c.in_ok-accepted.ensures in (
+      admitted _ _ _ _ _ _ c.whole_group.ensures c.if-not-whole_group.false c.view_len.ensures (omega (arith, c.if-min-view_len.false, c.min.ensures)) c.requires.plain
+          a.0 (own_is a.1 c.count.ensures.count c.library_count.ensures) c.lacks.ensures c.if-lacks.false,
+      a.1,
+    )

@@ -1,0 +1,59 @@
+// Whether a group may be put into the user sheet: 14, 15, then 3 to 11 and 16 of the sheet that it makes, read through the view, then 12.
+#![tactic(auto)]
+
+ghost use Rattle.std.specs.Prelude.{◌≡◌, ◌||◌, ◌≤◌, ltb, length};
+ghost use Rattle.spec.specs.Refusals.{scratch_length};
+ghost use Rattle.view.specs.View.{Sits, spliced};
+ghost use Rattle.refusals.specs.Refusals.{Answers};
+ghost use Rattle.typed_admit.specs.Admitting.{admit_refusal, Plain};
+
+use records::{SCRATCH_BYTES, SHEET_LIMIT};
+use refusals::{Reason, Refusal};
+use typed_form::accepted::Accepted;
+use typed_form::check;
+use view::{Cut, view_len};
+use whole::whole_group;
+
+/// How many verdicts the row takes, and the scratch's length: the two are handed over by their sizes, since nothing is written here.
+#[derive(Clone, Copy)]
+pub struct Room {
+    pub lines: usize,
+    pub scratch: usize,
+}
+
+impl Room {
+    /// 12: the row has fewer lines than there are user classes, or the scratch is too short.
+    pub fn lacks(self, own: usize) -> bool
+        ensures { result ≡ (ltb self.lines own || ltb self.scratch scratch_length) }
+    {
+        self.lines < own || self.scratch < SCRATCH_BYTES
+    }
+}
+
+/// The sheets as they would be, or why the group is turned away.
+pub fn admit<'a>(
+    library: &'a [u8],
+    user: &'a [u8],
+    group: &'a [u8],
+    cut: Cut,
+    room: Room,
+) -> Result<Accepted<'a>, Refusal>
+    requires sits { Sits cut user.now }
+    requires short { length library.now ≤ 32768 }
+    requires plain { Plain library.now group.now (spliced user.now group.now cut) }
+    ensures { Answers (admit_refusal library.now user.now group.now (spliced user.now group.now cut) room.lines room.scratch) result
+        (λ a. a.formed.sheets ≡ record { library = library.now; user = spliced user.now group.now cut }) }
+{
+    if !whole_group(group) {
+        return Err(Refusal::from(Reason::NoGroup));
+    }
+    if user.len().min(SHEET_LIMIT) < view_len(user, group, cut) {
+        return Err(Refusal::from(Reason::NoRoom));
+    }
+    let accepted = check(library, user, group, cut)?;
+    let sheets = &accepted.formed.sheets;
+    if room.lacks(sheets.count() - sheets.library_count()) {
+        return Err(Refusal::from(Reason::TooShort));
+    }
+    Ok(accepted)
+}
