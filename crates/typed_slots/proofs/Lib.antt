@@ -1,0 +1,4 @@
+pub mod Sets
+pub mod Fields
+pub mod Base
+pub mod Heads

@@ -1,0 +1,159 @@
+-- Sets of markers bit by bit: those that a slot, a root, an encloser and captured variables pass.
+-- Assumes nothing.
+use mathlib.Core.Path.{◌≡◌, refl, sym, ap, ap₂, ◌∙◌}
+use mathlib.Core.Bool.{Bool, true, false, not, ◌&&◌, ◌||◌, and-true, and-false, or-true, or-false}
+use mathlib.Core.List.{List}
+use Prim.Native.Nat.{ℕ, ◌-◌, ◌%◌, ◌^◌}
+use native.Mathlib.Nat.{div-one}
+use native.Mathlib.Omega.{arith}
+use lib.Dec.{eqb}
+use lib.ListN.{get_or}
+use borrow.Author.Tests.{eq-eqb, ne_eqb}
+use Rattle.std.specs.Prelude.{None, Some}
+use Rattle.spec.specs.Record.{bit}
+use Rattle.spec.specs.Sheet.{Group}
+use Rattle.spec.specs.Markers.{union}
+use Rattle.spec.specs.Classes.{overlay, has_marker}
+use Rattle.spec.specs.Rules.{root_fits}
+use Rattle.theory.proofs.Closure.{bit_union}
+use Rattle.records.specs.declared.record.Head.{Head}
+use Rattle.typed_overlay.specs.Types.{Known}
+use Rattle.typed_captured.specs.declared.Lane.{Lane}
+use Rattle.typed_captured.specs.declared.Lane.TheVariants as lane
+use Rattle.typed_captured.specs.Captured.{lane_marker}
+use Rattle.typed_slots.specs.declared.Late.{Late}
+use Rattle.typed_slots.specs.declared.Late.TheVariants.{Immutable, Powerless, Selfless, DeepSelfless}
+use Rattle.typed_slots.specs.Slots.{rule_marker, root_breaks, Passes, slot_by, RootSet, encloser_has, encloser_by, lane_shows, captured_by, lane_by}
+
+pub twice : (b : Bool) → not (not b) ≡ b
+twice true = refl
+twice false = refl
+
+-- ---- the four rules
+
+pub late_cases : (P : Late → Type 0) → P Immutable → P Powerless → P Selfless → P DeepSelfless → (rule : Late) → P rule
+late_cases P a b c d Immutable = a
+late_cases P a b c d Powerless = b
+late_cases P a b c d Selfless = c
+late_cases P a b c d DeepSelfless = d
+
+module _ {P : Late → Bool} where
+  pub passes_of : {set : ℕ} → bit 0 set ≡ P Immutable → bit 1 set ≡ P Powerless → bit 2 set ≡ P Selfless → bit 7 set ≡ P DeepSelfless → Passes P set
+  passes_of {set} a b c d = record { is = late_cases (λ rule. bit (rule_marker rule) set ≡ P rule) a b c d }
+
+  pub passes_all : ((rule : Late) → P rule ≡ true) → Passes P 255
+  unfolding bit
+  passes_all h = passes_of (sym (h Immutable)) (sym (h Powerless)) (sym (h Selfless)) (sym (h DeepSelfless))
+
+  pub passes_as : {Q : Late → Bool} {set : ℕ} → Passes P set → ((rule : Late) → P rule ≡ Q rule) → Passes Q set
+  passes_as p e = record { is = λ rule. p.is rule ∙ e rule }
+
+  pub passes_both : {Q : Late → Bool} {a b : ℕ} → Passes P a → Passes Q b → {r : ℕ} → ((k : ℕ) → bit k r ≡ (bit k a && bit k b)) → Passes (λ rule. P rule && Q rule) r
+  passes_both p q e = record { is = λ rule. e (rule_marker rule) ∙ ap₂ (λ (x y : Bool). x && y) (p.is rule) (q.is rule) }
+
+-- Selfless joined to a set: its rule asks no type
+module _ (m : ℕ) {r : ℕ} (e : r ≡ union m 4) where
+  pub joined : (k : ℕ) → bit k 4 ≡ false → bit k r ≡ bit k m
+  joined k z = ap (bit k) e ∙ bit_union k m 4 ∙ ap (λ (b : Bool). bit k m || b) z ∙ or-false (bit k m)
+
+  pub joined_selfless : bit 2 r ≡ true
+  unfolding bit
+  joined_selfless = ap (bit 2) e ∙ bit_union 2 m 4 ∙ or-true (bit 2 m)
+
+-- ---- a slot
+
+pub even : (f : ℕ) → f % 2 ≡ 0 → bit 0 f ≡ false
+unfolding bit
+even f h = ap (λ (x : ℕ). eqb (x % 2) 1) (div-one f) ∙ ne_eqb (f % 2) 1 (λ e. omega arith)
+
+pub odd : (f : ℕ) → (f % 2 ≡ 0 → ⊥) → bit 0 f ≡ true
+unfolding bit
+odd f h = ap (λ (x : ℕ). eqb (x % 2) 1) (div-one f) ∙ eq-eqb (f % 2) 1 (omega arith)
+
+module _ (f m r : ℕ) where
+  pub slot_changing : ((k : ℕ) → bit k r ≡ (bit k m && bit k 130)) → bit 0 f ≡ false → Passes (slot_by f m) r
+  unfolding bit
+  slot_changing e h = passes_of {P = slot_by f m} (e 0 ∙ and-false (bit 0 m) ∙ rw h) (e 1 ∙ and-true (bit 1 m)) (e 2 ∙ and-false (bit 2 m) ∙ rw h) (e 7 ∙ and-true (bit 7 m))
+
+  module _ (h : bit 0 f ≡ true) where
+    pub slot_transient : ((k : ℕ) → bit k r ≡ (bit k m && bit k 251)) → bit 1 f ≡ true → Passes (slot_by f m) r
+    unfolding bit
+    slot_transient e o =
+        passes_of {P = slot_by f m} (e 0 ∙ and-true (bit 0 m) ∙ rw h) (e 1 ∙ and-true (bit 1 m)) (e 2 ∙ and-false (bit 2 m) ∙ rw (h, o)) (e 7 ∙ and-true (bit 7 m))
+
+    pub slot_final : r ≡ union m 4 → bit 1 f ≡ false → Passes (slot_by f m) r
+    unfolding bit
+    slot_final e o = passes_of {P = slot_by f m} (joined m e 0 refl ∙ rw h) (joined m e 1 refl) (joined_selfless m e ∙ rw (h, o)) (joined m e 7 refl)
+
+-- ---- a root
+
+pub root_zero : {row : List ℕ} {d : ℕ} → d ≡ 0 → RootSet row d 255
+unfolding root_fits
+root_zero {row} {d} e = record { is = λ g k. passes_all (late_cases (λ rule. not (root_breaks g rule d) ≡ true) (rw (eq-eqb d 0 e)) (rw (eq-eqb d 0 e)) refl (rw (eq-eqb d 0 e))) }
+
+pub root_other : {row : List ℕ} {d m r : ℕ} → (d ≡ 0 → ⊥) → m ≡ get_or row d 0 → r ≡ union m 4 → RootSet row d r
+unfolding bit root_fits has_marker
+root_other {row} {d} {m} {r} n em e =
+    record { is = λ g w. passes_of {P = λ rule. not (root_breaks g rule d)} (joined m e 0 refl ∙ fits g w 0) (joined m e 1 refl ∙ fits g w 1) (joined_selfless m e) (joined m e 7 refl ∙ fits g w 7) }
+  where
+    fits : (g : ℕ → Group) → Known g row → (k : ℕ) → bit k m ≡ not (not (root_fits g k d))
+    fits g w k = ap (bit k) (em ∙ w.is d) ∙ sym (twice (bit k (overlay g d))) ∙ rw (ne_eqb d 0 n)
+
+-- ---- an encloser
+
+module _ (head : Head) (row : List ℕ) where
+  encloser_all : ((k : ℕ) → encloser_has head row k ≡ true) → Passes (encloser_by head row) 255
+  encloser_all h = passes_all (late_cases (λ rule. encloser_by head row rule ≡ true) (h 0) (h 1) refl (h 7))
+
+  pub encloser_outer : bit 1 head.flags ≡ false → Passes (encloser_by head row) 255
+  encloser_outer h = encloser_all (λ k. rw h)
+
+  pub encloser_none : head.encloser ≡ None → Passes (encloser_by head row) 255
+  encloser_none h = encloser_all (λ k. rw h (or-true (not (bit 1 head.flags))))
+
+  pub encloser_some : {e : ℕ} → head.encloser ≡ Some e → bit 1 head.flags ≡ true → {m r : ℕ} → m ≡ get_or row e 0 → r ≡ union m 4 → Passes (encloser_by head row) r
+  unfolding bit
+  encloser_some {e} h o {m} {r} em q = passes_of {P = encloser_by head row} (joined m q 0 refl ∙ has 0) (joined m q 1 refl ∙ has 1) (joined_selfless m q) (joined m q 7 refl ∙ has 7)
+    where
+      has : (k : ℕ) → bit k m ≡ encloser_has head row k
+      has k = rw (h, o) (ap (bit k) em)
+
+-- ---- captured variables
+
+-- the set of one lane
+masked : (k : ℕ) → bit k 255 ≡ true → (x : Bool) (mask : ℕ) → bit k (elim x as (λ (_ : Bool). ℕ) [ true ↦ mask | false ↦ 255 ]) ≡ (not x || bit k mask)
+masked k e true mask = refl
+masked k e false mask = e
+
+module _ (row : List ℕ) (t : ℕ) where
+  pub lanes_pass : (s : ℕ) {a b c r : ℕ} → a ≡ lane_by row t lane.Immutable → b ≡ lane_by row t lane.Powerless → c ≡ lane_by row t lane.DeepSelfless → ((k : ℕ) → bit k s ≡ (bit k a && bit k b))
+      → ((k : ℕ) → bit k r ≡ (bit k s && bit k c)) → Passes (captured_by row t) r
+  unfolding bit lane_by
+  lanes_pass s {a} {b} {c} {r} ea eb ec es er =
+      passes_of {P = captured_by row t}
+      (three 0 refl ∙ one (lane_shows row t lane.Immutable) (lane_shows row t lane.Powerless) (lane_shows row t lane.DeepSelfless))
+      (three 1 refl ∙ two (lane_shows row t lane.Immutable) (lane_shows row t lane.Powerless) (lane_shows row t lane.DeepSelfless))
+      (three 2 refl ∙ none (lane_shows row t lane.Immutable) (lane_shows row t lane.Powerless) (lane_shows row t lane.DeepSelfless))
+      (three 7 refl ∙ last (lane_shows row t lane.Immutable) (lane_shows row t lane.Powerless) (lane_shows row t lane.DeepSelfless))
+    where
+      of : (k : ℕ) → bit k 255 ≡ true → (lane : Lane) → bit k (lane_by row t lane) ≡ (not (lane_shows row t lane) || bit k (255 - 2 ^ lane_marker lane))
+      of k e lane = masked k e (lane_shows row t lane) (255 - 2 ^ lane_marker lane)
+
+      three : (k : ℕ) → bit k 255 ≡ true → bit k r
+          ≡ (((not (lane_shows row t lane.Immutable) || bit k 254) && (not (lane_shows row t lane.Powerless) || bit k 253)) && (not (lane_shows row t lane.DeepSelfless) || bit k 127))
+      three k e =
+          er k
+          ∙ ap₂ (λ (p q : Bool). p && q)
+          (es k ∙ ap₂ (λ (p q : Bool). p && q) (ap (bit k) ea ∙ of k e lane.Immutable) (ap (bit k) eb ∙ of k e lane.Powerless)) (ap (bit k) ec ∙ of k e lane.DeepSelfless)
+
+      one : (x y z : Bool) → (((not x || false) && (not y || true)) && (not z || true)) ≡ not x
+      one x y z = rw (or-false (not x), or-true (not y), or-true (not z), and-true (not x), and-true (not x))
+
+      two : (x y z : Bool) → (((not x || true) && (not y || false)) && (not z || true)) ≡ not y
+      two x y z = rw (or-true (not x), or-false (not y), or-true (not z), and-true (not y))
+
+      none : (x y z : Bool) → (((not x || true) && (not y || true)) && (not z || true)) ≡ true
+      none x y z = rw (or-true (not x), or-true (not y), or-true (not z))
+
+      last : (x y z : Bool) → (((not x || true) && (not y || true)) && (not z || false)) ≡ not z
+      last x y z = rw (or-true (not x), or-true (not y), or-false (not z))

@@ -1,0 +1,159 @@
+// Slots against rules 7 to 10: for a slot the set of the markers whose rules it passes, 1 Immutable, 2 Powerless, 4 Selfless, 128 DeepSelfless.
+// Markers and captured variables stand in their rows.
+#![tactic(auto)]
+
+ghost use Rattle.std.specs.Prelude.{◌≡◌, ◌^◌, ◌<◌};
+ghost use Rattle.typed_slots.specs.Slots.{rule_number, rule_marker, Passes, slot_by, FieldSet, FieldsSet, RootSet, encloser_by, lane_by, captured_by, HeadSet, base_by};
+
+use markers::{ALL, DEEP_SELFLESS, IMMUTABLE, POWERLESS, SELFLESS, common, has, union};
+use records::group::Group;
+use records::record::{Body, Head, Ty};
+use records::{INNER, STATIC, TRANSIENT};
+use typed_captured::{Lane, lacking};
+use typed_overlay::{known, type_markers};
+
+/// The rules that ask slots, each of the classes that have its marker.
+#[derive(Clone, Copy, PartialEq, Eq, Debug)]
+pub enum Late {
+    Immutable,
+    Powerless,
+    Selfless,
+    DeepSelfless,
+}
+
+impl Late {
+    /// The rule's number.
+    pub fn number(self) -> u8
+        ensures { result ≡ rule_number self }
+    {
+        match self {
+            Late::Immutable => 7,
+            Late::Powerless => 8,
+            Late::Selfless => 9,
+            Late::DeepSelfless => 10,
+        }
+    }
+}
+
+// What a field that changes can pass, and a transient one.
+const CHANGING: u8 = POWERLESS + DEEP_SELFLESS;
+
+const LASTING: u8 = ALL - SELFLESS;
+
+/// The marker of a rule, as a set of its own.
+pub fn rule_set(rule: Late) -> u8
+    ensures { (result ≡ 2 ^ rule_marker rule) × (0 < result) }
+{
+    match rule {
+        Late::Immutable => IMMUTABLE,
+        Late::Powerless => POWERLESS,
+        Late::Selfless => SELFLESS,
+        Late::DeepSelfless => DEEP_SELFLESS,
+    }
+}
+
+// By the flags of a field and the markers of its type. One that is not final passes neither rule 7 nor rule 9, a transient one not rule 9.
+fn slot_set(flags: u16, m: u8) -> u8
+    ensures { Passes (slot_by flags m) result }
+{
+    if flags % 2 == 0 {
+        return common(m, CHANGING);
+    }
+    if flags / TRANSIENT % 2 == 1 {
+        return common(m, LASTING);
+    }
+    union(m, SELFLESS)
+}
+
+/// Those that a field passes; a static field has no slot.
+pub fn field_set(flags: u16, ty: Ty, markers: &[u8]) -> u8
+    ensures { FieldSet markers.now flags ty result }
+{
+    if flags / STATIC % 2 == 1 {
+        return ALL;
+    }
+    slot_set(flags, type_markers(ty, markers))
+}
+
+/// Those that all fields of a class pass.
+pub fn fields_set(group: &Group, markers: &[u8]) -> u8
+    ensures { FieldsSet markers.now group.now result }
+{
+    let mut set = ALL;
+    for record in group.records() {
+        if let Body::Field { flags, ty } = record.body() {
+            set = common(set, field_set(flags, ty, markers));
+        }
+    }
+    set
+}
+
+// Those that a library class passes as a root; class 0 passes all.
+fn root_set(markers: &[u8], d: usize) -> u8
+    ensures { RootSet markers.now d result }
+{
+    if d == 0 {
+        return ALL;
+    }
+    union(known(markers, d), SELFLESS)
+}
+
+// Those that the encloser of an inner class passes.
+fn encloser_set(head: &Head, markers: &[u8]) -> u8
+    ensures { Passes (encloser_by head.now markers.now) result }
+{
+    if head.flags / INNER % 2 == 0 {
+        return ALL;
+    }
+    match head.encloser {
+        Some(e) => union(known(markers, e), SELFLESS),
+        None => ALL,
+    }
+}
+
+// Those that the captured variables of class t pass by one lane: all, or all but the lane's marker.
+fn lane_set(row: &[u8], lane: Lane, t: usize) -> u8
+    requires { t < 256 }
+    ensures { result ≡ lane_by row.now t lane }
+{
+    if lacking(row, lane, t) {
+        ALL - lane.set()
+    } else {
+        ALL
+    }
+}
+
+// Those that the captured variables of class t pass.
+fn captured_set(row: &[u8], t: usize) -> u8
+    requires { t < 256 }
+    ensures { Passes (captured_by row.now t) result }
+{
+    let a = lane_set(row, Lane::Immutable, t);
+    let b = lane_set(row, Lane::Powerless, t);
+    let c = lane_set(row, Lane::DeepSelfless, t);
+    common(common(a, b), c)
+}
+
+/// Those that record 0 of class t passes, whose head this is: as a root, or by its encloser and its captured variables.
+pub fn head_set(head: &Head, markers: &[u8], lanes: &[u8], nlib: usize, t: usize) -> u8
+    requires { t < 256 }
+    ensures { HeadSet markers.now lanes.now head.now nlib t result }
+{
+    if t < nlib {
+        return root_set(markers, t);
+    }
+    common(encloser_set(head, markers), captured_set(lanes, t))
+}
+
+/// Rule 9's second part: the superclass is not Selfless, nor class 0 with two flags.
+pub fn base_breaks(head: &Head, markers: &[u8]) -> bool
+    ensures { result ≡ base_by head.now markers.now }
+{
+    let Some(s) = head.superclass else {
+        return false;
+    };
+    if has(known(markers, s), SELFLESS) {
+        return false;
+    }
+    s != 0 || head.flags / 4 % 8 != 3
+}
