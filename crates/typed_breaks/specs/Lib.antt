@@ -1,1 +1,2 @@
 pub mod Bans
+pub mod Breaking

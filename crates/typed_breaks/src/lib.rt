@@ -3,3 +3,5 @@
 
 pub mod bans;
 pub mod early;
+pub mod judging;
+pub mod rule;
