@@ -187,7 +187,7 @@ impl Place {
     {
         let group = OpenGroup {
             records: 1,
-            last: Kind::Class,
+            last: candidate.kind,
         };
         Place {
             side: self.side,
@@ -205,9 +205,10 @@ impl Place {
         ensures { Follows self candidate.now.bytes.now result }
     {
         let open = self.group.unwrap();
+        let last = candidate.kind;
         let group = OpenGroup {
             records: open.records + 1,
-            last: candidate.kind,
+            last,
         };
         Place {
             side: self.side,
