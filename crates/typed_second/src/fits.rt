@@ -5,7 +5,7 @@ ghost use Rattle.spec.specs.Sheet.{class_record, of_kind};
 ghost use Rattle.spec.specs.Refusals.{name_met};
 ghost use Rattle.records.specs.Kinds.{kind_number};
 ghost use Rattle.refusals.specs.Refusals.{reason_number};
-ghost use Rattle.sheets.specs.Sheets.{count, groups, library_count};
+ghost use Rattle.sheets.specs.Sheets.{count, groups};
 ghost use Rattle.typed_second.specs.Second.{Enclosing, indexed_kind, first_met, number_of, form_number};
 ghost use Rattle.typed_second.specs.Second.{absent, superclass_ok, encloser_ok, class_tests, target_tests, type_tests};
 ghost use Rattle.typed_second.specs.Second.{implements_tests, field_tests, index_tests, uses_tests};
