@@ -11,7 +11,7 @@ returns-in_err-last c =
 
 pub slice_bounds-fill-count : goal.slice_bounds-fill-count
 unfolding flat_lines
-slice_bounds-fill-count c = (within _ _ _ _ c.in_ok-last.ensures.0 c.in_ok-last.ensures.1).0
+slice_bounds-fill-count c = omega (arith, within _ _ _ _ c.in_ok-last.ensures.0 c.in_ok-last.ensures.1)
 
 pub slice_bounds-fill-start : goal.slice_bounds-fill-start
 unfolding flat_lines
