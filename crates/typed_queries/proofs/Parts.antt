@@ -13,16 +13,15 @@ use Rattle.std.proofs.Common.{rules}
 use Rattle.spec.specs.Sheet.{class_count, total, group, class_record}
 use Rattle.spec.specs.Refusals.{Refusal, unused_refusal, query_refusal}
 use Rattle.spec.specs.Promises.{refused, accepted, Part, name_part, bytes_at, afterwards, Places, Names}
-use Rattle.laws.proofs.Bools.{positive, t_false}
+use Rattle.laws.proofs.Bools.{t_false}
 use Rattle.theory.specs.Claims.{sheet_of}
-use Rattle.theory.proofs.Accept.{sound}
 use Rattle.theory.proofs.Answers.{first_none, plain_none}
 use Rattle.theory.proofs.Promised.{told_fine, told_refused}
-use Rattle.theory.proofs.Unrefused.{present_facts}
 use Rattle.groups.specs.Groups.{sheet_number, start_of}
 use Rattle.groups.proofs.Held.{sheet_low, class_room, class_long, group_tiled}
 use Rattle.sheets.specs.Sheets.{Pair, Passed, count}
 use Rattle.sheets.proofs.Indexes.{indexed}
+use Rattle.sheets.proofs.Present.{present_passed}
 
 -- the part by the class's sheet and start
 part_is : (library user : List ℕ) (c : ℕ)
@@ -46,18 +45,7 @@ module _ (library user : List ℕ) (used c : ℕ) where
   unfolding query_refusal unused_refusal
   passed e =
       let q = first_none _ e in
-      let f = present_facts library user used q.0 in
-      let s = sound library (take used user) f.sheets in (
-        record {
-          library_clear = s.library_sheet;
-          user_clear = s.user_sheet;
-          library_size = f.library_size;
-          user_size = omega (arith, length-take used user, f.user_size);
-          some = positive (class_count library) s.some;
-          few = s.few;
-        },
-        leb-false (total library (take used user)) c (t_false _ (plain_none (leb (total library (take used user)) c) 13 q.1.0)),
-      )
+      (present_passed library user used q.0, leb-false (total library (take used user)) c (t_false _ (plain_none (leb (total library (take used user)) c) 13 q.1.0)))
 
   -- refused, there is no part
   pub no_name : {r : Refusal} → Places library user used c (refused r) → Names library user used c []

@@ -20,16 +20,14 @@ use Rattle.theory.proofs.Answers.{first_none, skip_none, first_some, first_appen
 use Rattle.laws.proofs.Bools.{not_or_l, not_or_r}
 use Rattle.theory.proofs.Cut.{IsGroup}
 use Rattle.theory.proofs.New.{new_sheets, replaced_count}
-use Rattle.theory.proofs.Accept.{sound}
-use Rattle.theory.proofs.Unrefused.{Present, present_facts}
-use Rattle.laws.proofs.Bools.{positive}
+use Rattle.theory.proofs.Unrefused.{present_facts}
 use Rattle.view.specs.declared.Cut.{Cut}
 use Rattle.view.specs.View.{Sits, spliced}
 use Rattle.groups.specs.Groups.{Indexed, end_of}
 use Rattle.groups.proofs.Held.{Held, in_user, group_tiled, class_there}
 use Rattle.typed_admit.specs.Admitting.{admit_refusal}
-use Rattle.sheets.specs.Sheets.{Passed}
 use Rattle.sheets.proofs.Indexes.{row_of, indexed}
+use Rattle.sheets.proofs.Present.{present_passed}
 use Rattle.typed_verifier.specs.Changing.{touches, putting, Puts, cut_at}
 use Rattle.typed_verifier.proofs.Editing.{edit_refused, makes_as}
 use Rattle.typed_verifier.proofs.Exchange.{earlier_is, later_is, earlier_whole, later_whole, replaced_parts}
@@ -62,24 +60,8 @@ module _ (library user : List ℕ) (used c : ℕ) (verdicts scratch g : List ℕ
     there : no_user_refusal library (take used user) c ≡ none
     there = (first_none _ o).1.0
 
-    facts : Present library user used
-    facts = present_facts library user used fine
-
-    passed : Passed (record { library = library; user = take used user })
-    unfolding present_refusal
-    passed =
-        let s = sound library (take used user) facts.sheets in
-        record {
-          library_clear = s.library_sheet;
-          user_clear = s.user_sheet;
-          library_size = facts.library_size;
-          user_size = omega (arith, length-take used user, facts.user_size);
-          some = positive (class_count library) s.some;
-          few = s.few;
-        }
-
     x : Indexed library (take used user) (class_count library) (total library (take used user)) (row_of (record { library = library; user = take used user }))
-    x = indexed passed
+    x = indexed (present_passed library user used fine)
 
     own : class_count library ≤ c
     unfolding no_user_refusal refuse_plain refuse_if
@@ -117,7 +99,7 @@ module _ (library user : List ℕ) (used c : ℕ) (verdicts scratch g : List ℕ
     replaced_sits = record {
       ordered = omega arith;
       within = end_within;
-      there = facts.in_buffer;
+      there = (present_facts library user used fine).in_buffer;
       around = record {
         earlier = map concat (take i (groups_of s));
         later = map concat (drop (suc i) (groups_of s));
