@@ -26,7 +26,7 @@ unfolding bit
 marker_in rule set es eb = rw (eb, es)
 
 -- where a field stands in its class does not count
-anywhere : (g : ℕ → Group) (rule : Late) (t k : ℕ) (r : List ℕ) → field_breaks g rule 0 0 r ≡ field_breaks g rule t k r
+pub anywhere : (g : ℕ → Group) (rule : Late) (t k : ℕ) (r : List ℕ) → field_breaks g rule 0 0 r ≡ field_breaks g rule t k r
 unfolding field_breaks field_slot
 anywhere g Immutable t k r = refl
 anywhere g Powerless t k r = refl
