@@ -1,11 +1,84 @@
 // The flat verdict row, a few bytes a user class: verdicts written where they change, faulted ones counted.
 #![tactic(auto)]
 
-ghost use Rattle.std.specs.Prelude.{◌≡◌, ◌≤◌, min, length};
-ghost use Rattle.spec.specs.Verdicts.{flat_lines};
-ghost use Rattle.typed_flat.specs.Row.{faulted_in, marked_in};
+ghost use Rattle.std.specs.Prelude.{◌≡◌, ◌-◌, ◌≤◌, ◌<◌, min, length};
+ghost use Rattle.spec.specs.Refusals.{scratch_length};
+ghost use Rattle.spec.specs.Promises.{cleared};
+ghost use Rattle.spec.specs.Verdicts.{user_verdict, flat_lines, flat_rewritten};
+ghost use Rattle.sheets.specs.Sheets.{count, library_count};
+ghost use Rattle.typed_rules.specs.Line.{line_of};
+ghost use Rattle.typed_flat.specs.Row.{put_at, chosen, faulted_in, marked_in};
 
-use records::VERDICT_BYTES;
+use records::{CLASS_LIMIT, SCRATCH_BYTES, VERDICT_BYTES};
+use typed_breaks::bans::bans;
+use typed_breaks::judging::Judging;
+use typed_captured::captures;
+use typed_form::accepted::Accepted;
+use typed_overlay::overlays;
+use typed_rules::{Verdict, Walk};
+use typed_survey::Survey;
+
+// ---- writing
+
+// Writes line i of the row.
+fn put(verdicts: &mut [u8], i: usize, verdict: Verdict)
+    requires { i < flat_lines verdicts.old }
+    ensures { verdicts.new ≡ put_at i (line_of verdict) verdicts.old }
+{
+    let at = VERDICT_BYTES * i;
+    verdicts[at] = verdict.rule;
+    verdicts[at + 1] = verdict.record;
+}
+
+// Writes the verdict of each user class whose mark is 0. A clean class needs no walk over the rules.
+fn rewrite(survey: &Survey, marks: &[u8], verdicts: &mut [u8])
+    requires marks { 256 ≤ length marks.now }
+    requires lines { count survey.now.judging.formed.now.sheets - library_count survey.now.judging.formed.now.sheets ≤ flat_lines verdicts.old }
+    ensures { verdicts.new ≡ flat_rewritten (chosen (library_count survey.now.judging.formed.now.sheets) (count survey.now.judging.formed.now.sheets) marks.now)
+        (user_verdict survey.now.judging.formed.now.sheets.library survey.now.judging.formed.now.sheets.user) verdicts.old }
+{
+    let sheets = &survey.judging.formed.sheets;
+    let first = sheets.library_count();
+    let mut walk = Walk::new(&survey.judging);
+    for c in first..sheets.count() {
+        if marks[c] == 0 {
+            let verdict = if survey.clean(c) {
+                Verdict { rule: 0, record: 0 }
+            } else {
+                walk.verdict_of(c)
+            };
+            put(verdicts, c - first, verdict);
+        }
+    }
+}
+
+/// Judges each user class whose mark is 0, from nothing but the sheets; the scratch is left clean.
+pub fn rejudge(accepted: &Accepted, marks: &[u8], verdicts: &mut [u8], scratch: &mut [u8])
+    requires marks { 256 ≤ length marks.now }
+    requires lines { count accepted.now.formed.sheets - library_count accepted.now.formed.sheets ≤ flat_lines verdicts.old }
+    requires scratch { scratch_length ≤ length scratch.old }
+    ensures verdicts { verdicts.new ≡ flat_rewritten (chosen (library_count accepted.now.formed.sheets) (count accepted.now.formed.sheets) marks.now)
+        (user_verdict accepted.now.formed.sheets.library accepted.now.formed.sheets.user) verdicts.old }
+    ensures scratch { scratch.new ≡ cleared scratch.old }
+{
+    let formed = &accepted.formed;
+    let mut memo = accepted.memo;
+    let mut markers = [0; CLASS_LIMIT];
+    overlays(formed, &mut memo, &mut markers);
+    let mut banned = [0; CLASS_LIMIT];
+    bans(&formed.sheets, &mut banned);
+    captures(formed, &markers, scratch);
+    let survey = Survey::new(Judging {
+        formed,
+        markers,
+        bans: banned,
+        lanes: scratch,
+    });
+    rewrite(&survey, marks, verdicts);
+    scratch[..SCRATCH_BYTES].fill(0);
+}
+
+// ---- counting
 
 /// How many of the first n verdicts of the row are faulted; of all, if there are fewer.
 pub fn faulted(verdicts: &[u8], n: usize) -> usize

@@ -1,0 +1,38 @@
+-- A clean class, or what the walk finds, class by class.
+use Rattle.std.proofs.Common.{◌<◌, sym, ap, ◌∙◌, arith}
+use Rattle.sheets.specs.Sheets.{Pair, count}
+use Rattle.typed_overlay.proofs.Memos.{library_low}
+use Rattle.typed_survey.proofs.Verdicts.{clean_both}
+use Rattle.typed_rules.specs.Line.{line_of}
+use Rattle.typed_flat.proofs.Rewriting.{rewrite_start, rewrite_passed, rewrite_put, lines_same, own_verdict}
+use Rattle.typed_flat.proofs.rewrite.Goals as goal
+use Rattle.typed_flat.proofs.rewrite.Goals.{then-marks-c-eq0, then-clean, else-clean, else-marks-c-eq0}
+
+pub loop-c-init : goal.loop-c-init
+loop-c-init c = (rw c.library_count-first.ensures (rewrite_start _ _ _ _ _ (library_low c.args.survey.now.judging.formed.now.sheets)), ap (λ b. b.now) c.new-walk.ensures)
+
+pub put-requires : goal.put-requires
+put-requires c =
+    omega (arith, lines_same c.loop-c.invariant.0 c.requires.lines, c.loop-c.invariant.0.low, c.loop-c-test.true, c.loop-c.auto.c-end, c.count-c-end.ensures.count, c.library_count-first.ensures)
+
+pub loop-c-preserved : goal.loop-c-preserved
+loop-c-preserved c =
+    let inv = c.loop-c.invariant in
+    let p : Pair = c.args.survey.now.judging.formed.now.sheets in
+    let low : c.loop-c.c < count p = omega (arith, c.loop-c-test.true, c.loop-c.auto.c-end, c.count-c-end.ensures.count) in
+    elim c.if-marks-c-eq0.branch [
+      | then-marks-c-eq0 w ↦ (
+        rewrite_put inv.0 low w.if-marks-c-eq0.true c.requires.lines
+            (elim w.if-clean.branch [
+              | then-clean v ↦ ap line_of v.verdict-is ∙ sym (clean_both _ (sym w.clean.ensures ∙ v.if-clean.true)) ∙ own_verdict p inv.0.low
+              | else-clean v ↦ ap line_of v.verdict-is ∙ (rw inv.1 at v.verdict_of-verdict.ensures.verdict) ∙ own_verdict p inv.0.low
+            ])
+            (rw c.library_count-first.ensures at (w.verdicts-is ∙ w.put.ensures)),
+        ap (λ b. b.judging.now) w.walk-is
+            ∙ elim w.if-clean.branch [
+              | then-clean v ↦ ap (λ b. b.judging.now) v.walk-is ∙ inv.1
+              | else-clean v ↦ ap (λ b. b.judging.now) v.walk-is ∙ ap (λ b. b.now) v.verdict_of-verdict.ensures.judging ∙ inv.1
+            ],
+      )
+      | else-marks-c-eq0 w ↦ (rewrite_passed inv.0 low w.if-marks-c-eq0.false w.verdicts-is, ap (λ b. b.judging.now) w.walk-is ∙ inv.1)
+    ]
