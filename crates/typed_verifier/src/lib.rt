@@ -1,18 +1,61 @@
 // The operations over flat rows of numbers: the public interface.
 #![tactic(auto)]
 
-ghost use Rattle.std.specs.Prelude.{◌≡◌, ◌<◌, [], ◌∷◌, replicate, take};
+ghost use Rattle.std.specs.Prelude.{◌≡◌, ◌<◌, [], ◌∷◌, length, replicate, take};
 ghost use Rattle.spec.specs.Lists.{first_of};
+ghost use Rattle.spec.specs.Promises.{Judges, Adds, Replaces, Makes};
+ghost use Rattle.spec.specs.Verdicts.{flat};
 ghost use Rattle.spec.specs.Refusals.{present_refusal, no_user_refusal};
-ghost use Rattle.refusals.specs.Refusals.{Answers};
+ghost use Rattle.refusals.specs.Refusals.{Answers, answer_in};
 ghost use Rattle.sheets.specs.Sheets.{count};
-ghost use Rattle.typed_verifier.specs.Changing.{Touched, cut_at};
+ghost use Rattle.typed_verifier.specs.Answers.{counts_in};
+ghost use Rattle.typed_verifier.specs.Changing.{Puts, Touched, cut_at, putting};
 
+use edit::write;
+use lanes::EMPTY;
+use records::{CLASS_LIMIT, VERDICT_BYTES};
 use refusals::{Reason, Refusal};
 use sheets::formed::Formed;
+use typed_admit::{Room, admit};
+use typed_flat::{faulted, marked, rejudge};
+use typed_form::accepted::Accepted;
 use typed_form::present;
 use typed_reach::dependents;
-use view::Cut;
+use view::{Cut, view_len};
+
+/// How many user classes there are, and how many are faulted.
+#[derive(Clone, Copy, PartialEq, Eq, Debug)]
+pub struct Counts {
+    pub classes: usize,
+    pub faulted: usize,
+}
+
+/// A verdict for each user class in the row: rule and record, 0 and 0 where it is clean.
+pub fn judge<'a>(
+    library: &'a [u8],
+    user: &'a [u8],
+    used: usize,
+    verdicts: &mut [u8],
+    scratch: &mut [u8],
+) -> Result<Counts, Refusal>
+    ensures { Judges flat library.now user.now used verdicts.old scratch.old (answer_in counts_in result) verdicts.new scratch.new }
+{
+    let accepted = present(library, user, used)?;
+    let sheets = &accepted.formed.sheets;
+    let classes = sheets.count() - sheets.library_count();
+    let room = Room {
+        lines: verdicts.len() / VERDICT_BYTES,
+        scratch: scratch.len(),
+    };
+    if room.lacks(classes) {
+        return Err(Refusal::from(Reason::TooShort));
+    }
+    rejudge(&accepted, &[0; CLASS_LIMIT], verdicts, scratch);
+    Ok(Counts {
+        classes,
+        faulted: faulted(verdicts, classes),
+    })
+}
 
 // ---- operations that change the user sheet
 
@@ -26,6 +69,63 @@ fn touch(formed: &Formed, cut: Cut, class: usize, marks: &mut [u8])
     } else {
         dependents(formed, class, marks);
     }
+}
+
+// The frame of an operation that puts a group in: nothing is written until it is admitted; then the sheet is, and the classes that this touches are
+// judged in the buffer. The answer is how many those are.
+fn change<'a>(
+    library: &'a [u8],
+    user: &mut [u8],
+    used: &mut usize,
+    group: &'a [u8],
+    cut: Cut,
+    class: usize,
+    verdicts: &mut [u8],
+    scratch: &mut [u8],
+) -> Result<usize, Refusal>
+    requires { Puts library.now user.old used.old group.now cut class }
+    ensures { Makes flat
+        (putting library.now (record { user = user.old; used = used.old; verdicts = verdicts.old }) group.now cut class (length scratch.old))
+        (record { user = user.old; used = used.old; verdicts = verdicts.old }) scratch.old (answer_in (λ n. n) result)
+        (record { user = user.new; used = used.new; verdicts = verdicts.new }) scratch.new }
+{
+    let room = Room {
+        lines: verdicts.len() / VERDICT_BYTES,
+        scratch: scratch.len(),
+    };
+    let found = admit(library, user, group, cut, room)?.found();
+    let size = view_len(user, group, cut);
+    write(user, group, cut);
+    *used = size;
+    let accepted = Accepted::written(library, &user[..size], found);
+    let mut marks = [EMPTY; CLASS_LIMIT];
+    touch(&accepted.formed, cut, class, &mut marks);
+    rejudge(&accepted, &marks, verdicts, scratch);
+    Ok(marked(&marks, accepted.formed.sheets.count()))
+}
+
+/// Puts a group after the user sheet's used bytes; the new class's verdict is written, and its number answered.
+pub fn add<'a>(
+    library: &'a [u8],
+    user: &mut [u8],
+    used: &mut usize,
+    group: &'a [u8],
+    verdicts: &mut [u8],
+    scratch: &mut [u8],
+) -> Result<usize, Refusal>
+    ensures { Adds flat library.now group.now
+        (record { user = user.old; used = used.old; verdicts = verdicts.old }) scratch.old (answer_in (λ n. n) result)
+        (record { user = user.new; used = used.new; verdicts = verdicts.new }) scratch.new }
+{
+    let size = *used;
+    let class = present(library, user, size)?.formed.sheets.count();
+    let cut = Cut {
+        from: size,
+        to: size,
+        used: size,
+    };
+    change(library, user, used, group, cut, class, verdicts, scratch)?;
+    Ok(class)
 }
 
 // Where the group of a user class stands in the present sheets, as the cut that takes it out; or the refusal.
@@ -45,4 +145,22 @@ fn cut_of<'a>(library: &'a [u8], user: &'a [u8], used: usize, class: usize) -> R
         to: sheets.end(class),
         used,
     })
+}
+
+/// Puts a group in the place of a user class's; the verdicts of the classes that depend on it are rewritten, and how many those are is answered.
+pub fn replace<'a>(
+    library: &'a [u8],
+    user: &mut [u8],
+    used: &mut usize,
+    class: usize,
+    group: &'a [u8],
+    verdicts: &mut [u8],
+    scratch: &mut [u8],
+) -> Result<usize, Refusal>
+    ensures { Replaces flat library.now class group.now
+        (record { user = user.old; used = used.old; verdicts = verdicts.old }) scratch.old (answer_in (λ n. n) result)
+        (record { user = user.new; used = used.new; verdicts = verdicts.new }) scratch.new }
+{
+    let cut = cut_of(library, user, *used, class)?;
+    change(library, user, used, group, cut, class, verdicts, scratch)
 }
