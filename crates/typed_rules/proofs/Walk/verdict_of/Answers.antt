@@ -22,18 +22,18 @@ use Rattle.typed_rules.proofs.Walk.verdict_of.Goals.{After-next_class, After-cli
 pub loop-rule-init : goal.loop-rule-init
 loop-rule-init c = (refl, rule_start)
 
-pub climb-next-requires : goal.climb-next-requires
-climb-next-requires c =
-    let j = c.args.self.now.judging.now in
-    let w = ground c.count-passed.ensures.passed j.formed.now.formed in
-    rw c.loop-rule.invariant.0 (below w c.requires.user_class c.requires.there _ (class_start w c.requires.user_class c.requires.there _ c.first_class-first.ensures).spot)
-
 pub loop-next-init : goal.loop-next-init
 loop-next-init c =
     let j = c.args.self.now.judging.now in
     let w = ground c.count-passed.ensures.passed j.formed.now.formed in
     let begins = class_start w c.requires.user_class c.requires.there _ c.first_class-first.ensures in
     (climb_at j.formed.now.sheets w c.requires.user_class c.requires.there (rw c.loop-rule.invariant.0 at c.loop-rule.self.is_kept) _ _ begins c.climb-next.ensures).0
+
+pub climb-next-requires : goal.climb-next-requires
+climb-next-requires c =
+    let j = c.args.self.now.judging.now in
+    let w = ground c.count-passed.ensures.passed j.formed.now.formed in
+    rw c.loop-rule.invariant.0 (below w c.requires.user_class c.requires.there _ (class_start w c.requires.user_class c.requires.there _ c.first_class-first.ensures).spot)
 
 pub group-group-requires : goal.group-group-requires
 group-group-requires c =
