@@ -140,11 +140,11 @@ module _ (nlib : ℕ) (g : ℕ → Group) (c : ℕ) where
 
   -- ---- all ten
 
-  records_are : any (record_breaks nlib g) (g c) ≡ (some (rule1 nlib g c) || (some (rule2 nlib g c) || some (rule5 nlib g c)))
+  records_are : any (record_breaks nlib g) (g c) ≡ (some (rule5 nlib g c) || (some (rule2 nlib g c) || some (rule1 nlib g c)))
   unfolding record_breaks rule1 rule2 rule5
   records_are =
-      any_either one (λ r. two r || static_breaks g r) (g c)
-      ∙ ap₂ (λ (a b : Bool). a || b) (sym (some_at g c one)) (any_either two (static_breaks g) (g c) ∙ ap₂ (λ (a b : Bool). a || b) (sym (some_at g c two)) (sym (some_at g c (static_breaks g))))
+      any_either (static_breaks g) (λ r. two r || one r) (g c)
+      ∙ ap₂ (λ (a b : Bool). a || b) (sym (some_at g c (static_breaks g))) (any_either two one (g c) ∙ ap₂ (λ (a b : Bool). a || b) (sym (some_at g c two)) (sym (some_at g c one)))
     where
       one : List ℕ → Bool
       one r = any (forbidden nlib g) (references r)
@@ -185,9 +185,13 @@ module _ (nlib : ℕ) (g : ℕ → Group) (c : ℕ) where
       ap₂ (λ (a b : Bool). a || b) records_are (ap₂ (λ (a b : Bool). a || b) head_is late_is)
       ∙ order (some (rule1 nlib g c)) (some (rule2 nlib g c)) (some (rule5 nlib g c)) (some (rule3 nlib g c)) (some (rule4 nlib g c)) (some (rule6 nlib g c)) _
     where
-      order : (a b e c d f l : Bool) → ((a || (b || e)) || ((c || (d || f)) || l)) ≡ (a || (b || (c || (d || (e || (f || l))))))
-      order true b e c d f l = refl
-      order false true e c d f l = refl
+      order : (a b e c d f l : Bool) → ((e || (b || a)) || ((c || (d || f)) || l)) ≡ (a || (b || (c || (d || (e || (f || l))))))
+      order true true true c d f l = refl
+      order true true false c d f l = refl
+      order true false true c d f l = refl
+      order true false false c d f l = refl
+      order false true true c d f l = refl
+      order false true false c d f l = refl
       order false false true true d f l = refl
       order false false true false true f l = refl
       order false false true false false f l = refl

@@ -35,8 +35,8 @@ module _ (nlib : ℕ) (g : ℕ → Group) where
   -- a record breaks rule 1, 2 or 5
   unfoldable pub record_breaks : List ℕ → Bool
   record_breaks r =
-      any (forbidden nlib g) (references r)
-      || ((is_kind REFERS r && not (member_allowed g (target r) (index r))) || static_breaks g r)
+      static_breaks g r
+      || ((is_kind REFERS r && not (member_allowed g (target r) (index r))) || any (forbidden nlib g) (references r))
 
   unfoldable pub late_breaks : ℕ → Bool
   late_breaks c = (bit marker.Selfless (overlay g c) && base_breaks g c) || any_late (overlay g c) (λ rule. line_breaks nlib g rule c)

@@ -103,14 +103,14 @@ fn late_fine(m: u8, set: u8, head: &Head, markers: &[u8]) -> bool
 
 // ---- rules 1 to 6
 
-// The record breaks rule 1, 2 or 5.
+// The record breaks rule 1, 2 or 5. The two tests that ask one kind of record alone come first.
 fn breaks(judging: &Judging, record: &Record) -> bool
     requires { Refers (count judging.now.formed.now.sheets) (groups judging.now.formed.now.sheets) record.now }
     ensures { result ≡ record_breaks (library_count judging.now.formed.now.sheets) (groups judging.now.formed.now.sheets) record.now }
 {
-    names_forbidden(record, &judging.bans)
+    static_breaks(record, &judging.markers)
         || refers_forbidden(&judging.formed.sheets, &judging.bans, record)
-        || static_breaks(record, &judging.markers)
+        || names_forbidden(record, &judging.bans)
 }
 
 // No record of the class breaks one of them.
