@@ -115,6 +115,13 @@ impl<'a> Record<'a> {
         self.bytes.len()
     }
 
+    /// The bytes that the record is.
+    pub fn bytes(&self) -> &'a [u8]
+        ensures { result.now ≡ self.now }
+    {
+        self.bytes
+    }
+
     /// The record's kind.
     pub fn kind(&self) -> Kind
         ensures { kind_number result ≡ kind self.now }

@@ -3,3 +3,6 @@ pub mod Banning
 pub mod Naming
 pub mod Statics
 pub mod Members
+pub mod Places
+pub mod Heads
+pub mod Lines

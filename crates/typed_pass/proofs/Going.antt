@@ -23,7 +23,8 @@ use Rattle.refusals.specs.declared.Side.{Side}
 use Rattle.refusals.specs.declared.Refusal.{Refusal as Refused}
 use Rattle.refusals.specs.Refusals.{sheet_number, reason_number, refusal_of}
 use Rattle.typed_pass.specs.declared.place.Place.{Place}
-use Rattle.typed_pass.specs.Pass.{group_records, group_kind, classes_after, records_after, place, located, Follows, first_record, refused_at, Passes, Blames, pass_refusal, shifted, fill, filled, Filled}
+use Rattle.typed_pass.specs.Pass.{group_records, group_kind, classes_after, records_after, place, located, Follows, first_record, refused_at, Passes, Blames}
+use Rattle.typed_pass.specs.Pass.{pass_refusal, shifted, fill, filled, Filled}
 use Rattle.typed_pass.proofs.Places.{answer, blamed, met_refuses, carried, locate_cons}
 use Rattle.typed_pass.proofs.Starts.{row_after, fill_cons}
 use Rattle.typed_pass.proofs.Tests.{refused_is}

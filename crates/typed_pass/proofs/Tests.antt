@@ -1,24 +1,25 @@
 -- The tests of a record at its place, of which the first that is met refuses it.
 -- Assumes nothing.
-use mathlib.Core.Path.{◌≡◌, refl, sym, ◌∙◌}
+use mathlib.Core.Path.{◌≡◌, refl, ◌∙◌}
 use mathlib.Core.Bool.{Bool, true, false}
 use mathlib.Core.List.{List, [], ◌∷◌}
 use mathlib.Core.Logic.{◌⊎◌, inl, inr}
 use mathlib.Core.Option.{none, some}
-use Prim.Native.Nat.{ℕ, ◌+◌, ◌-◌, ◌≤◌, ◌<◌}
+use Prim.Native.Nat.{ℕ, ◌-◌, ◌<◌}
 use native.Mathlib.Omega.{arith}
 use lib.Dec.{leb, ltb, nleb→lt, ltb→lt}
 use lib.ListN.{get_or-eq_default}
+use Rattle.std.specs.Prelude.{Option as StdOption, Some, None, IsSome}
 use Rattle.spec.specs.Record.{u16, kind, is_class, by_kind, kind_fits}
 use Rattle.spec.specs.Sheet.{whole_first}
 use Rattle.spec.specs.Refusals.{record_tests}
 use Rattle.laws.proofs.All.{All}
 use Rattle.laws.proofs.Parts.{u16_take}
 use Rattle.theory.proofs.Cut.{first_is}
-use mir.Val.{bool_byte}
 use Rattle.laws.proofs.Bools.{true_t, un_not, not_or_l, not_or_r}
 use Rattle.theory.proofs.Answers.{some≢none, Fails}
 use Rattle.refusals.specs.Refusals.{sheet_number}
+use Rattle.typed_pass.specs.declared.place.OpenGroup.{OpenGroup}
 use Rattle.typed_pass.specs.declared.place.Place.{Place}
 use Rattle.typed_pass.specs.Pass.{group_records, place, located, first_met, first_record, refused_at}
 
@@ -43,19 +44,19 @@ module _ (p : Place) (r : List ℕ) (e : first_met (record_tests (located p r)) 
   unfolding record_tests place located
   class_room q = nleb→lt 256 p.classes (not_or_l (leb 256 p.classes) (leb 255 0) (rw (q, place) at fails.1.1.1.1.0))
 
-  pub class_few : {b : Bool} {n : ℕ} → b ≡ is_class r → n ≡ bool_byte b → p.classes ≤ 256 → p.classes + n ≤ 256
-  class_few {b} {n} q v l = go b q v
-    where
-      go : (c : Bool) → c ≡ is_class r → n ≡ bool_byte c → p.classes + n ≤ 256
-      go true q v = let k = class_room (sym q) in omega arith
-      go false q v = omega arith
-
   pub group_room : is_class r ≡ false → (0 < group_records p.group) × (group_records p.group < 255)
   unfolding record_tests place located
   group_room q = (
     ltb→lt 0 (group_records p.group) (un_not (ltb 0 (group_records p.group)) (rw (q, place) at fails.1.1.0)),
     nleb→lt 255 (group_records p.group) (not_or_r (leb 256 (p.classes - 1)) (leb 255 (group_records p.group)) (rw (q, place) at fails.1.1.1.1.0)),
   )
+
+  pub group_open : is_class r ≡ false → IsSome p.group
+  group_open q = go p.group (group_room q).0
+    where
+      go : (o : StdOption OpenGroup) → 0 < group_records o → IsSome o
+      go None h = absurd (omega arith)
+      go (Some g) h = refl
 
 -- what refuses the record that bytes begin with
 pub refused_is : (p : Place) (s : List ℕ) {r : List ℕ} → whole_first s ≡ true → r ≡ first_record s → refused_at p s ≡ first_met (record_tests (located p r))

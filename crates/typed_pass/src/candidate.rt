@@ -56,8 +56,15 @@ fn type_fits(bytes: &[u8], at: usize) -> bool
     }
 }
 
+#[tactic(auto, unfolding(
+// what is asked of a record by its kind
+spec::specs::Record::by_kind, spec::specs::Record::kind_fits, spec::specs::Record::with_name, spec::specs::Record::length_fits, spec::specs::Record::body_fits,
+// what stands in it
+spec::specs::Record::u8, spec::specs::Record::flags, spec::specs::Record::zero_byte, spec::specs::Record::class_name, spec::specs::Record::field_ty, spec::specs::Record::local_ty,
+// the first one
+spec::specs::Sheet::whole_first, crate::specs::Pass::first_record, crate::specs::Pass::refused_at))]
 impl<'a> Candidate<'a> {
-    ghost use Rattle.std.specs.Prelude.{MatchResult};
+    ghost use Rattle.std.specs.Prelude.{IfOk, IfErr};
     ghost use Rattle.std.proofs.Math.Option.{some};
     ghost use Rattle.spec.specs.Sheet.{whole_first};
     ghost use Rattle.refusals.specs.Refusals.{reason_number};
@@ -65,9 +72,9 @@ impl<'a> Candidate<'a> {
     ghost use Rattle.typed_pass.specs.Pass.{first_record, refused_at};
 
     /// The record that some bytes begin with.
-    #[tactic(auto, unfolding(spec::specs::Sheet::whole_first, spec::specs::Record::by_kind, spec::specs::Record::kind_fits, spec::specs::Refusals::record_tests, crate::specs::Pass::first_record, crate::specs::Pass::place, crate::specs::Pass::located, crate::specs::Pass::first_met, crate::specs::Pass::refused_at))]
     pub(crate) fn first(bytes: &'a [u8]) -> Result<Candidate<'a>, Reason>
-        ensures { MatchResult result (λ r. (whole_first bytes.now ≡ true) × (r.bytes.now ≡ first_record bytes.now)) (λ e. (p : Place) → refused_at p bytes.now ≡ some (reason_number e)) }
+        ensures first { IfOk result (λ r. (whole_first bytes.now ≡ true) × (r.bytes.now ≡ first_record bytes.now)) }
+        ensures refused { IfErr result (λ e. (p : Place) → refused_at p bytes.now ≡ some (reason_number e)) }
     {
         if bytes.len() < HEAD_BYTES {
             return Err(Reason::Torn);
@@ -93,7 +100,6 @@ impl<'a> Candidate<'a> {
     }
 
     /// Whether a sheet may have records of its kind.
-    #[tactic(auto, unfolding(spec::specs::Record::by_kind, spec::specs::Record::kind_fits))]
     pub(crate) fn has_home(&self, side: Side) -> bool
         ensures { result ≡ kind_fits (sheet_number side) self.now.bytes.now }
     {
@@ -107,7 +113,6 @@ impl<'a> Candidate<'a> {
     }
 
     /// Whether a record of its kind may have its length.
-    #[tactic(auto, unfolding(spec::specs::Record::by_kind, spec::specs::Record::with_name, spec::specs::Record::length_fits))]
     pub(crate) fn has_length(&self) -> bool
         ensures { result ≡ length_fits self.now.bytes.now }
     {
@@ -123,7 +128,7 @@ impl<'a> Candidate<'a> {
     }
 
     /// Whether its flags, its type and its name are defined.
-    #[tactic(auto, unfolding(spec::specs::Record::by_kind, spec::specs::Record::with_name, spec::specs::Record::length_fits, spec::specs::Record::body_fits, spec::specs::Record::u8, spec::specs::Record::flags, spec::specs::Record::zero_byte, spec::specs::Record::class_name, spec::specs::Record::field_ty, spec::specs::Record::local_ty))]
+    #[inline(always)]
     pub(crate) fn has_body(&self, side: Side) -> bool
         requires { length_fits self.now.bytes.now ≡ true }
         ensures { result ≡ body_fits (sheet_number side) self.now.bytes.now }

@@ -33,8 +33,10 @@ pub fn first_pass(
         let record = place.next(rest)?;
         if record.is_class() {
             starts[place.classes] = place.byte as u16;
+            place = place.opened(&record);
+        } else {
+            place = place.joined(&record);
         }
-        place = place.after(&record);
         rest = &rest[record.bytes.len()..];
     }
     Ok(place.classes)

@@ -26,10 +26,11 @@ pub(crate) struct Place {
     ghost few: { classes ≤ 256 },
 }
 
+#[tactic(auto, unfolding(spec::specs::Refusals::record_tests, crate::specs::Pass::place, crate::specs::Pass::located, crate::specs::Pass::first_met))]
 impl Place {
-    ghost use Rattle.std.specs.Prelude.{◌≡◌, not, ◌||◌, ◌+◌, ◌<◌, ◌^◌, leb, ltb, length, MatchResult};
+    ghost use Rattle.std.specs.Prelude.{◌≡◌, true, false, not, ◌||◌, ◌+◌, ◌<◌, ◌^◌, leb, ltb, length, IfOk, IfErr};
     ghost use Rattle.std.proofs.Math.Option.{none, some};
-    ghost use Rattle.spec.specs.Record.{kind as kind_of};
+    ghost use Rattle.spec.specs.Record.{kind as kind_of, is_class};
     ghost use Rattle.spec.specs.Refusals.{record_tests};
     ghost use Rattle.refusals.specs.Refusals.{reason_number};
     ghost use Rattle.typed_pass.specs.Pass.{located, first_met, refused_at, Meets, Passes, Blames, Follows};
@@ -49,7 +50,6 @@ impl Place {
     }
 
     /// Whether the record has a group here, or opens one.
-    #[tactic(auto, unfolding(crate::specs::Pass::place, crate::specs::Pass::located))]
     fn has_group(self, candidate: &Candidate) -> bool
         ensures { result ≡ (located self candidate.now.bytes.now).grouped }
     {
@@ -57,7 +57,6 @@ impl Place {
     }
 
     /// Whether the record is neither a class nor a record of a group too many.
-    #[tactic(auto, unfolding(crate::specs::Pass::place, crate::specs::Pass::located))]
     fn has_room(self, candidate: &Candidate) -> bool
         ensures { let l = located self candidate.now.bytes.now in result ≡ not (leb 256 l.class || leb 255 l.record_number) }
     {
@@ -71,7 +70,6 @@ impl Place {
     }
 
     /// Whether the record is of no lower kind than the one before it in its group.
-    #[tactic(auto, unfolding(crate::specs::Pass::place, crate::specs::Pass::located))]
     fn keeps_order(self, candidate: &Candidate) -> bool
         ensures { result ≡ not (ltb (kind_of candidate.now.bytes.now) (located self candidate.now.bytes.now).before) }
     {
@@ -86,7 +84,6 @@ impl Place {
 
     /// What is wrong with the record here.
     #[inline(always)]
-    #[tactic(auto, unfolding(spec::specs::Refusals::record_tests, crate::specs::Pass::place, crate::specs::Pass::located, crate::specs::Pass::first_met))]
     fn test(self, candidate: &Candidate) -> Result<(), Reason>
         ensures { Meets (record_tests (located self candidate.now.bytes.now)) result }
     {
@@ -165,7 +162,8 @@ impl Place {
 
     /// The first record of the bytes from here on, or what is wrong with it.
     fn tested(self, rest: &[u8]) -> Result<Candidate<'_>, Reason>
-        ensures { MatchResult result (λ r. Passes self rest.now r.bytes.now) (λ e. refused_at self rest.now ≡ some (reason_number e)) }
+        ensures passes { IfOk result (λ r. Passes self rest.now r.bytes.now) }
+        ensures refused { IfErr result (λ e. refused_at self rest.now ≡ some (reason_number e)) }
     {
         let candidate = Candidate::first(rest)?;
         self.test_by_kind(&candidate)?;
@@ -174,30 +172,48 @@ impl Place {
 
     /// The same, or the refusal that blames it.
     pub(crate) fn next(self, rest: &[u8]) -> Result<Candidate<'_>, Refusal>
-        ensures { MatchResult result (λ r. Passes self rest.now r.bytes.now) (λ e. Blames self rest.now e) }
+        ensures passes { IfOk result (λ r. Passes self rest.now r.bytes.now) }
+        ensures blames { IfErr result (λ e. Blames self rest.now e) }
     {
         self.tested(rest).map_err(|reason| self.blame(reason))
     }
 
-    /// The place after a record with which nothing is wrong.
-    pub(crate) fn after(self, candidate: &Candidate) -> Place
+    /// The place after a CLASS record with which nothing is wrong: it opens a group.
+    pub(crate) fn opened(self, candidate: &Candidate) -> Place
         requires passes { first_met (record_tests (located self candidate.now.bytes.now)) ≡ none }
+        requires class { is_class candidate.now.bytes.now ≡ true }
         requires fits { self.byte + length candidate.now.bytes.now < 2 ^ 64 }
         ensures { Follows self candidate.now.bytes.now result }
     {
-        let opens = candidate.is_class();
-        let records = match self.group {
-            Some(group) if !opens => group.records + 1,
-            _ => 1,
-        };
         let group = OpenGroup {
-            records,
+            records: 1,
             last: candidate.kind,
         };
         Place {
             side: self.side,
             byte: self.byte + candidate.bytes.len(),
-            classes: self.classes + usize::from(opens),
+            classes: self.classes + 1,
+            group: Some(group),
+        }
+    }
+
+    /// The place after another record with which nothing is wrong: it joins the open group.
+    pub(crate) fn joined(self, candidate: &Candidate) -> Place
+        requires passes { first_met (record_tests (located self candidate.now.bytes.now)) ≡ none }
+        requires other { is_class candidate.now.bytes.now ≡ false }
+        requires fits { self.byte + length candidate.now.bytes.now < 2 ^ 64 }
+        ensures { Follows self candidate.now.bytes.now result }
+    {
+        let open = self.group.unwrap();
+        let last = candidate.kind;
+        let group = OpenGroup {
+            records: open.records + 1,
+            last,
+        };
+        Place {
+            side: self.side,
+            byte: self.byte + candidate.bytes.len(),
+            classes: self.classes,
             group: Some(group),
         }
     }

@@ -64,9 +64,9 @@ module _ {nlib c : ℕ} where
       go (inl t) = absurd (omega (arith, library_number nlib c (ltb→lt c nlib t)))
       go (inr t) = nltb→le c nlib t
 
-pub kind_is : (nlib c : ℕ) (s : Side) → side_number s ≡ sheet_number nlib c → kind_number (indexed_kind s) ≡ indexed_number nlib c
+pub kind_is : (p : Pair) (c : ℕ) (s : Side) → side_number s ≡ sheet_number (library_count p) c → kind_number (indexed_kind s) ≡ indexed_number p c
 unfolding sheet_number
-kind_is nlib c s e = go (ltb c nlib) s e
+kind_is p c s e = go (ltb c (library_count p)) s e
   where
     go : (b : Bool) (s : Side) → side_number s ≡ (elim b as (λ (_ : Bool). ℕ) [ true ↦ 0 | false ↦ 1 ]) → kind_number (indexed_kind s) ≡ (elim b as (λ (_ : Bool). ℕ) [ true ↦ MEMBER | false ↦ LOCAL ])
     go true s e = ap (λ (x : Side). kind_number (indexed_kind x)) (library_side s e)
@@ -74,17 +74,17 @@ kind_is nlib c s e = go (ltb c nlib) s e
 
 -- ---- the row
 
-module _ {g : ℕ → Group} {nlib n : ℕ} {row : List Asked} (w : Heads g nlib n row) (t : ℕ) (h : t < n) where
+module _ {p : Pair} {row : List Asked} (w : Heads p row) (t : ℕ) (h : t < count p) where
   -- in a class of the sheet, and of the other one
-  pub indexed_here : (s : Side) → side_number s ≡ sheet_number nlib t → (e : Asked) → (get_or row t e).indexed ≡ length (of_kind (kind_number (indexed_kind s)) (g t))
-  indexed_here s q e = ap (λ (a : Asked). a.indexed) (w.heads t e h) ∙ ap (λ (k : ℕ). length (of_kind k (g t))) (sym (kind_is nlib t s q))
+  pub indexed_here : (s : Side) → side_number s ≡ sheet_number (library_count p) t → (e : Asked) → (get_or row t e).indexed ≡ length (of_kind (kind_number (indexed_kind s)) (groups p t))
+  indexed_here s q e = ap (λ (a : Asked). a.indexed) (w.heads t e h) ∙ ap (λ (k : ℕ). length (of_kind k (groups p t))) (sym (kind_is p t s q))
 
-  pub indexed_none : (s x : Side) → side_number x ≡ sheet_number nlib t → (x ≡ s → ⊥) → 0 ≡ length (of_kind (kind_number (indexed_kind s)) (g t))
+  pub indexed_none : (s x : Side) → side_number x ≡ sheet_number (library_count p) t → (x ≡ s → ⊥) → 0 ≡ length (of_kind (kind_number (indexed_kind s)) (groups p t))
   indexed_none Library Library q n = absurd (n refl)
   indexed_none Library User q n = sym (w.members t (user_of q) h)
   indexed_none User Library q n = sym (w.locals t (library_of q))
   indexed_none User User q n = absurd (n refl)
 
-pub heads_are : {p : Pair} → Passed p → {row : List Asked} → length row ≡ 256 → ((d : ℕ) (e : Asked) → d < count p → get_or row d e ≡ asked_of (library_count p) (groups p) d)
-    → Heads (groups p) (library_count p) (count p) row
+pub heads_are : {p : Pair} → Passed p → {row : List Asked} → length row ≡ 256 → ((d : ℕ) (e : Asked) → d < count p → get_or row d e ≡ asked_of p d)
+    → Heads p row
 heads_are w l f = record { long = omega (arith, l, w.few); heads = f; locals = λ d h. library_locals (indexed w) h; members = λ d h k. user_members (indexed w) h k }

@@ -90,11 +90,11 @@ module _ {marks : List ℕ} (z : marks ≡ replicate 256 0) where
 
 module _ {p : Pair} {c e left : ℕ} {marks : List ℕ} (few : count p ≤ 256) (r : Rising p c e left marks) where
   -- none is left
-  over : ((t : ℕ) → t < count p → met marks t [] ≡ elem t (c ∷ enclosers (groups p) c)) → Enclosing (groups p) (count p) c marks
+  over : ((t : ℕ) → t < count p → met marks t [] ≡ elem t (c ∷ enclosers (groups p) c)) → Enclosing p c marks
   unfolding met elem any
   over f = record { long = omega (arith, r.long); marks = λ t l. sym (or-false (eqb (get_or marks t 0) 1)) ∙ f t l }
 
-  pub rising_end : left ≤ 0 → Enclosing (groups p) (count p) c marks
+  pub rising_end : left ≤ 0 → Enclosing p c marks
   unfolding enclosers_in
   rising_end h = let z : left ≡ 0 = omega arith in over (λ t l. rw z at (r.same t l))
 
@@ -106,7 +106,7 @@ module _ {p : Pair} {c e left : ℕ} {marks : List ℕ} (few : count p ≤ 256) 
         ap (λ (x : Maybe ℕ). met marks t (named x (enclosers_in (groups p) m))) eo
         ∙ ap (met marks t) (sym (level p e m r.there)) ∙ ap (λ (k : ℕ). met marks t (enclosers_in (groups p) k e)) z ∙ r.same t h
 
-    pub rising_none : o ≡ Maybe.None → Enclosing (groups p) (count p) c marks
+    pub rising_none : o ≡ Maybe.None → Enclosing p c marks
     unfolding named
     rising_none q = over (λ t h. rw q at (from t h))
 
@@ -122,6 +122,6 @@ module _ {p : Pair} {c e left : ℕ} {marks : List ℕ} (few : count p ≤ 256) 
         same = λ t l. mark_one marks up t _ (omega (arith, r.long)) ∙ here t l;
       }
 
-      pub rising_stop : count p ≤ up → Enclosing (groups p) (count p) c marks
+      pub rising_stop : count p ≤ up → Enclosing p c marks
       unfolding met elem any
       rising_stop h = over (λ t k. rw (ne_eqb t up (λ z. omega arith), past_none p up m h) at (here t k))

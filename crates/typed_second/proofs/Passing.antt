@@ -3,14 +3,14 @@
 use mathlib.Core.Path.{◌≡◌, refl, sym, subst}
 use mathlib.Core.Bool.{Bool, false, not}
 use mathlib.Core.List.{List, [], ◌∷◌}
-use mathlib.Core.Option.{Option, none, some}
+use mathlib.Core.Option.{none, some}
 use Prim.Native.Nat.{ℕ, ◌+◌, ◌≤◌, ◌<◌}
 use native.Mathlib.Omega.{arith}
 use lib.Dec.{T}
 use lib.ListN.{length, length-append}
 use Rattle.spec.specs.Lists.{any, concat}
 use Rattle.spec.specs.Record.{is_class}
-use Rattle.spec.specs.Sheet.{Group, group, class_count, total, class_record, Located}
+use Rattle.spec.specs.Sheet.{Group, class_record, Located}
 use Rattle.spec.specs.Refusals.{Refusal, form_tests, form_refusal, one_class}
 use Rattle.laws.proofs.All.{All, weaken}
 use Rattle.laws.proofs.Bools.{and_r}
@@ -24,26 +24,23 @@ use Rattle.typed_second.proofs.Classes.{others, first_class, no_class}
 
 -- ---- class by class
 
-module _ (library user : List ℕ) where
+module _ (p : Pair) where
   abbrev tests : Located → List (ℕ × Bool)
-  tests l = form_tests (group library user) (class_count library) (total library user) l
+  tests l = form_tests (groups p) (library_count p) (count p) l
 
-  abbrev number : ℕ → List ℕ → Option ℕ
-  number c r = form_number (group library user) (class_count library) (total library user) c r
-
-  same : (l : Located) → first_met (tests l) ≡ number l.class l.bytes
+  same : (l : Located) → first_met (tests l) ≡ form_number p l.class l.bytes
   unfolding form_number form_tests
   same l = refl
 
 module _ {p : Pair} (w : Passed p) where
-  pub class_refused : (c : ℕ) → c < count p → ((d : ℕ) → d < c → class_refusal p.library p.user d ≡ none) → {a : Refusal} → class_refusal p.library p.user c ≡ some a
+  pub class_refused : (c : ℕ) → c < count p → ((d : ℕ) → d < c → class_refusal p d ≡ none) → {a : Refusal} → class_refusal p c ≡ some a
       → form_refusal p.library p.user ≡ some a
   unfolding form_refusal class_refusal
-  class_refused c h f e = first_class (tests p.library p.user) (number p.library p.user) (same p.library p.user) (indexed w) c h f e
+  class_refused c h f e = first_class (tests p) (form_number p) (same p) (indexed w) c h f e
 
-  pub none_refused : ((d : ℕ) → d < count p → class_refusal p.library p.user d ≡ none) → form_refusal p.library p.user ≡ none
+  pub none_refused : ((d : ℕ) → d < count p → class_refusal p d ≡ none) → form_refusal p.library p.user ≡ none
   unfolding form_refusal class_refusal
-  none_refused f = no_class (tests p.library p.user) (number p.library p.user) (same p.library p.user) (indexed w) f
+  none_refused f = no_class (tests p) (form_number p) (same p) (indexed w) f
 
 -- ---- the records of one class
 
@@ -60,7 +57,7 @@ one_first (r ∷ rs) w = (
 pub record Going (p : Pair) (c at : ℕ) (left : Group) : Type 0 where
   pub first : All (λ r. T (is_class r) → r ≡ class_record (groups p c)) left
   pub small : at + length (concat left) ≤ 32768
-  pub rest : form_of (form_number (groups p) (library_count p) (count p) c) (sheet_number (library_count p) c) at left ≡ class_refusal p.library p.user c
+  pub rest : form_of (form_number p c) (sheet_number (library_count p) c) at left ≡ class_refusal p c
 
 pub going_start : {p : Pair} → Passed p → {c : ℕ} → c < count p → {at : ℕ} → at ≡ start_of p.library p.user c → {left : Group} → left ≡ groups p c → Going p c at left
 unfolding class_refusal end_of
@@ -71,7 +68,7 @@ going_start {p} w {c} h ea el = rw (ea, el) (record {
 })
 
 module _ {p : Pair} {c at : ℕ} {left : Group} (w : Going p c at left) where
-  pub going_end : left ≡ [] → class_refusal p.library p.user c ≡ none
+  pub going_end : left ≡ [] → class_refusal p c ≡ none
   unfolding form_of
   going_end e = sym (rw e at w.rest)
 
@@ -86,11 +83,11 @@ module _ {p : Pair} {c at : ℕ} {left : Group} (w : Going p c at left) where
     unfolding concat
     going_low = omega (arith, here.small, length-append r (concat rs))
 
-    pub going_on : none ≡ form_number (groups p) (library_count p) (count p) c r → Going p c (at + length r) rs
+    pub going_on : none ≡ form_number p c r → Going p c (at + length r) rs
     unfolding concat form_of
     going_on q = record { first = here.first.1; small = omega (arith, here.small, length-append r (concat rs)); rest = rw (sym q, form_of) at here.rest }
 
-    pub going_stop : {k : ℕ} → some k ≡ form_number (groups p) (library_count p) (count p) c r
-        → class_refusal p.library p.user c ≡ some (record { number = k; sheet = sheet_number (library_count p) c; byte = at })
+    pub going_stop : {k : ℕ} → some k ≡ form_number p c r
+        → class_refusal p c ≡ some (record { number = k; sheet = sheet_number (library_count p) c; byte = at })
     unfolding form_of
     going_stop q = sym (rw (sym q, form_of) at here.rest)

@@ -4,9 +4,9 @@ use Rattle.std.specs.Prelude.{◌≡◌, Bool, true, false, not, ◌&&◌, ◌||
 use Rattle.std.proofs.Math.Option as spec
 use Rattle.spec.specs.Lists.{elem}
 use Rattle.spec.specs.Record.{bit, LOCAL, MEMBER}
-use Rattle.spec.specs.Sheet.{Group, class_count, total, group, of_kind, is_interface}
+use Rattle.spec.specs.Sheet.{Group, of_kind, is_interface}
 use Rattle.spec.specs.Classes.{enclosers}
-use Rattle.spec.specs.Refusals.{Refusal, form_tests}
+use Rattle.spec.specs.Refusals.{Refusal, form_tests, name_met}
 use Rattle.groups.specs.Groups.{sheet_number, start_of}
 use Rattle.refusals.specs.declared.Reason.{Reason}
 use Rattle.refusals.specs.declared.Side.{Side}
@@ -16,6 +16,7 @@ use Rattle.records.specs.declared.record.Ty.{Ty}
 use Rattle.records.specs.declared.record.Head.{Head}
 use Rattle.records.specs.declared.kind.Kind.{Kind}
 use Rattle.records.specs.declared.kind.Kind.TheVariants.{Local, Member}
+use Rattle.sheets.specs.Sheets.{Pair, count, groups, library_count}
 use Rattle.typed_second.specs.declared.lookup.Asked.{Asked}
 
 -- ---- numbered tests
@@ -31,58 +32,60 @@ number_of (Ok a) = spec.none
 number_of (Err reason) = spec.some (reason_number reason)
 
 -- the number that refuses record r of class c in the second pass, if one does
-unfoldable pub form_number : (ℕ → Group) → ℕ → ℕ → ℕ → List ℕ → spec.Option ℕ
-form_number g nlib n c r =
-    first_met (form_tests g nlib n (record { sheet = 0; byte = 0; class = c; record_number = 0; before = 0; grouped = true; bytes = r }))
+unfoldable pub form_number : Pair → ℕ → List ℕ → spec.Option ℕ
+form_number p c r =
+    first_met
+    (form_tests (groups p) (library_count p) (count p) (record { sheet = 0; byte = 0; class = c; record_number = 0; before = 0; grouped = true; bytes = r }))
 
 -- ---- the tests of each kind: 9 before 8 before 10
 
 -- a superclass or an encloser that is not there
-abbrev pub absent : ℕ → Option ℕ → Bool
-absent n None = false
-absent n (Some d) = leb n d
+abbrev pub absent : Pair → Option ℕ → Bool
+absent p None = false
+absent p (Some d) = leb (count p) d
 
 -- a class without a superclass: class 0, and an interface
 abbrev pub bare : ℕ → ℕ → Bool
 bare c f = eqb c 0 || bit 0 f
 
 -- the superclass and the encloser of class c with those flags
-abbrev pub superclass_ok : (ℕ → Group) → ℕ → ℕ → Option ℕ → Bool
-superclass_ok g c f None = bare c f
-superclass_ok g c f (Some up) = not (bare c f) && ltb up c && not (is_interface (g up))
+abbrev pub superclass_ok : Pair → ℕ → ℕ → Option ℕ → Bool
+superclass_ok p c f None = bare c f
+superclass_ok p c f (Some up) = not (bare c f) && ltb up c && not (is_interface (groups p up))
 
-abbrev pub encloser_ok : ℕ → ℕ → ℕ → Option ℕ → Bool
-encloser_ok nlib c f None = not (bit 1 f)
-encloser_ok nlib c f (Some outer) = leb nlib c && leb nlib outer && ltb outer c
+abbrev pub encloser_ok : Pair → ℕ → ℕ → Option ℕ → Bool
+encloser_ok p c f None = not (bit 1 f)
+encloser_ok p c f (Some outer) = leb (library_count p) c && leb (library_count p) outer && ltb outer c
 
-abbrev pub class_tests : (ℕ → Group) → ℕ → ℕ → ℕ → Head → Bool → List (ℕ × Bool)
-class_tests g nlib n c h met =
-    (9, absent n h.superclass || absent n h.encloser)
+-- the CLASS record r of class c, which begins so
+abbrev pub class_tests : Pair → ℕ → Head → List ℕ → List (ℕ × Bool)
+class_tests p c h r =
+    (9, absent p h.superclass || absent p h.encloser)
     ∷ (8, eqb c 0 && bit 0 h.flags)
-    ∷ (8, not (superclass_ok g c h.flags h.superclass))
-    ∷ (8, not (encloser_ok nlib c h.flags h.encloser))
-    ∷ (10, met)
+    ∷ (8, not (superclass_ok p c h.flags h.superclass))
+    ∷ (8, not (encloser_ok p c h.flags h.encloser))
+    ∷ (10, name_met (groups p) c r)
     ∷ []
 
-abbrev pub target_tests : ℕ → ℕ → List (ℕ × Bool)
-target_tests n t = (9, leb n t) ∷ []
+abbrev pub target_tests : Pair → ℕ → List (ℕ × Bool)
+target_tests p t = (9, leb (count p) t) ∷ []
 
-abbrev pub type_tests : ℕ → Ty → List (ℕ × Bool)
-type_tests n t = (9, eqb t.code 0 && leb n t.class) ∷ []
+abbrev pub type_tests : Pair → Ty → List (ℕ × Bool)
+type_tests p t = (9, eqb t.code 0 && leb (count p) t.class) ∷ []
 
-abbrev pub implements_tests : (ℕ → Group) → ℕ → ℕ → ℕ → List (ℕ × Bool)
-implements_tests g n c t = (9, leb n t) ∷ (8, not (ltb t c && is_interface (g t))) ∷ []
+abbrev pub implements_tests : Pair → ℕ → ℕ → List (ℕ × Bool)
+implements_tests p c t = (9, leb (count p) t) ∷ (8, not (ltb t c && is_interface (groups p t))) ∷ []
 
 -- a FIELD with those flags
-abbrev pub field_tests : (ℕ → Group) → ℕ → ℕ → ℕ → Ty → List (ℕ × Bool)
-field_tests g n c f t = (9, eqb t.code 0 && leb n t.class) ∷ (8, not (bit 2 f) && is_interface (g c)) ∷ []
+abbrev pub field_tests : Pair → ℕ → ℕ → Ty → List (ℕ × Bool)
+field_tests p c f t = (9, eqb t.code 0 && leb (count p) t.class) ∷ (8, not (bit 2 f) && is_interface (groups p c)) ∷ []
 
 -- record number i of kind k in class t
-abbrev pub index_tests : (ℕ → Group) → ℕ → ℕ → ℕ → ℕ → List (ℕ × Bool)
-index_tests g n k t i = (9, leb n t) ∷ (9, leb (length (of_kind k (g t))) i) ∷ []
+abbrev pub index_tests : Pair → ℕ → ℕ → ℕ → List (ℕ × Bool)
+index_tests p k t i = (9, leb (count p) t) ∷ (9, leb (length (of_kind k (groups p t))) i) ∷ []
 
-abbrev pub uses_tests : (ℕ → Group) → ℕ → ℕ → ℕ → ℕ → List (ℕ × Bool)
-uses_tests g n c t i = (9, leb n t) ∷ (9, leb (length (of_kind LOCAL (g t))) i) ∷ (8, not (elem t (c ∷ enclosers g c))) ∷ []
+abbrev pub uses_tests : Pair → ℕ → ℕ → ℕ → List (ℕ × Bool)
+uses_tests p c t i = (9, leb (count p) t) ∷ (9, leb (length (of_kind LOCAL (groups p t))) i) ∷ (8, not (elem t (c ∷ enclosers (groups p) c))) ∷ []
 
 -- ---- what others ask of a class by its number
 
@@ -91,24 +94,24 @@ abbrev pub indexed_kind : Side → Kind
 indexed_kind Library = Member
 indexed_kind User = Local
 
-abbrev pub indexed_number : ℕ → ℕ → ℕ
-indexed_number nlib c = elim (ltb c nlib) [ true ↦ MEMBER | false ↦ LOCAL ]
+abbrev pub indexed_number : Pair → ℕ → ℕ
+indexed_number p c = elim (ltb c (library_count p)) [ true ↦ MEMBER | false ↦ LOCAL ]
 
 -- how many of those class c has, and whether it is an interface
-abbrev pub asked_of : ℕ → (ℕ → Group) → ℕ → Asked
-asked_of nlib g c = record { interface = is_interface (g c); indexed = length (of_kind (indexed_number nlib c) (g c)) }
+abbrev pub asked_of : Pair → ℕ → Asked
+asked_of p c = record { interface = is_interface (groups p c); indexed = length (of_kind (indexed_number p c) (groups p c)) }
 
 -- the row holds what is asked of each class; of the other kind a class has no records
-pub record Heads (g : ℕ → Group) (nlib n : ℕ) (row : List Asked) : Type 0 where
-  pub long : n ≤ length row
-  pub heads : (d : ℕ) (e : Asked) → d < n → get_or row d e ≡ asked_of nlib g d
-  pub locals : (d : ℕ) → d < nlib → length (of_kind LOCAL (g d)) ≡ 0
-  pub members : (d : ℕ) → nlib ≤ d → d < n → length (of_kind MEMBER (g d)) ≡ 0
+pub record Heads (p : Pair) (row : List Asked) : Type 0 where
+  pub long : count p ≤ length row
+  pub heads : (d : ℕ) (e : Asked) → d < count p → get_or row d e ≡ asked_of p d
+  pub locals : (d : ℕ) → d < library_count p → length (of_kind LOCAL (groups p d)) ≡ 0
+  pub members : (d : ℕ) → library_count p ≤ d → d < count p → length (of_kind MEMBER (groups p d)) ≡ 0
 
--- the row has 1 at class c and its enclosers, and at none else of n classes
-pub record Enclosing (g : ℕ → Group) (n c : ℕ) (row : List ℕ) : Type 0 where
-  pub long : n ≤ length row
-  pub marks : (t : ℕ) → t < n → eqb (get_or row t 0) 1 ≡ elem t (c ∷ enclosers g c)
+-- the row has 1 at class c and its enclosers, and at none else of the classes
+pub record Enclosing (p : Pair) (c : ℕ) (row : List ℕ) : Type 0 where
+  pub long : count p ≤ length row
+  pub marks : (t : ℕ) → t < count p → eqb (get_or row t 0) 1 ≡ elem t (c ∷ enclosers (groups p) c)
 
 -- ---- the whole
 
@@ -121,6 +124,5 @@ form_of number sheet at (r ∷ rs) = elim (number r) [
 ]
 
 -- 9, 8, 10 along the records of class c
-unfoldable pub class_refusal : List ℕ → List ℕ → ℕ → spec.Option Refusal
-class_refusal library user c =
-    form_of (form_number (group library user) (class_count library) (total library user) c) (sheet_number (class_count library) c) (start_of library user c) (group library user c)
+unfoldable pub class_refusal : Pair → ℕ → spec.Option Refusal
+class_refusal p c = form_of (form_number p c) (sheet_number (library_count p) c) (start_of p.library p.user c) (groups p c)

@@ -1,17 +1,18 @@
 // The tests of a record, in their order: what it names is there, and of the right sort.
-ghost use Rattle.std.specs.Prelude.{◌≡◌, not, ℕ, ◌∷◌, [], ◌<◌, ◌≤◌, T, length};
-ghost use Rattle.spec.specs.Record.{bit, is_class};
+ghost use Rattle.std.specs.Prelude.{◌≡◌, not, ℕ, ◌∷◌, [], ◌<◌, T, length};
+ghost use Rattle.spec.specs.Record.{is_class};
 ghost use Rattle.spec.specs.Sheet.{class_record, of_kind};
 ghost use Rattle.spec.specs.Refusals.{name_met};
-ghost use Rattle.records.specs.Kinds.{kind_number, head_of};
+ghost use Rattle.records.specs.Kinds.{kind_number};
 ghost use Rattle.refusals.specs.Refusals.{reason_number};
-ghost use Rattle.sheets.specs.Sheets.{count, groups, library_count};
+ghost use Rattle.sheets.specs.Sheets.{count, groups};
 ghost use Rattle.typed_second.specs.Second.{Enclosing, indexed_kind, first_met, number_of, form_number};
 ghost use Rattle.typed_second.specs.Second.{absent, superclass_ok, encloser_ok, class_tests, target_tests, type_tests};
 ghost use Rattle.typed_second.specs.Second.{implements_tests, field_tests, index_tests, uses_tests};
 
 use crate::lookup::{INNER, INTERFACE, Lookup, STATIC, has_flag};
 use records::CLASS_LIMIT;
+use records::kind::Kind;
 use records::record::{Body, Head, Record, Ty};
 use refusals::{Reason, Side};
 use typed_fingerprints::met;
@@ -45,7 +46,7 @@ impl<'a> Lookup<'a> {
 
     // Whether a class is named that isn't there.
     fn absent(&self, class: Option<usize>) -> bool
-        ensures { result ≡ absent (count self.now.sheets.now) class }
+        ensures { result ≡ absent self.now.sheets.now class }
     {
         match class {
             Some(d) => self.sheets.count() <= d,
@@ -56,7 +57,7 @@ impl<'a> Lookup<'a> {
     // Whether class c, which begins so, has such a superclass as it must.
     fn superclass_fits(&self, c: usize, head: Head) -> bool
         requires { c < count self.now.sheets.now }
-        ensures { result ≡ superclass_ok (groups self.now.sheets.now) c head.flags head.superclass }
+        ensures { result ≡ superclass_ok self.now.sheets.now c head.flags head.superclass }
     {
         let bare = c == 0 || has_flag(head.flags, INTERFACE);
         match head.superclass {
@@ -67,7 +68,7 @@ impl<'a> Lookup<'a> {
 
     // Whether class c, which begins so, has such an encloser as it may.
     fn encloser_fits(&self, c: usize, head: Head) -> bool
-        ensures { result ≡ encloser_ok (library_count self.now.sheets.now) c head.flags head.encloser }
+        ensures { result ≡ encloser_ok self.now.sheets.now c head.flags head.encloser }
     {
         let first = self.sheets.library_count();
         match head.encloser {
@@ -80,8 +81,7 @@ impl<'a> Lookup<'a> {
     fn class_fits(&self, c: usize, head: Head) -> Result<(), Reason>
         requires { c < count self.now.sheets.now }
         ensures { number_of result
-            ≡ first_met (class_tests (groups self.now.sheets.now) (library_count self.now.sheets.now) (count self.now.sheets.now) c head
-            (name_met (groups self.now.sheets.now) c (class_record (groups self.now.sheets.now c)))) }
+            ≡ first_met (class_tests self.now.sheets.now c head (class_record (groups self.now.sheets.now c))) }
     {
         let missing = self.absent(head.superclass) || self.absent(head.encloser);
         require(!missing, Reason::NotThere)?;
@@ -96,14 +96,14 @@ impl<'a> Lookup<'a> {
 
     // A class that must be there.
     fn there(&self, class: usize) -> Result<(), Reason>
-        ensures { number_of result ≡ first_met (target_tests (count self.now.sheets.now) class) }
+        ensures { number_of result ≡ first_met (target_tests self.now.sheets.now class) }
     {
         require(class < self.sheets.count(), Reason::NotThere)
     }
 
     // The class of a type, if it is of a class.
     fn type_there(&self, ty: Ty) -> Result<(), Reason>
-        ensures { number_of result ≡ first_met (type_tests (count self.now.sheets.now) ty) }
+        ensures { number_of result ≡ first_met (type_tests self.now.sheets.now ty) }
     {
         if ty.code == 0 {
             self.there(ty.class)
@@ -115,7 +115,7 @@ impl<'a> Lookup<'a> {
     // An IMPLEMENTS of class c.
     fn implements_fits(&self, c: usize, class: usize) -> Result<(), Reason>
         requires { c < count self.now.sheets.now }
-        ensures { number_of result ≡ first_met (implements_tests (groups self.now.sheets.now) (count self.now.sheets.now) c class) }
+        ensures { number_of result ≡ first_met (implements_tests self.now.sheets.now c class) }
     {
         self.there(class)?;
         require(class < c && self.asked[class].interface, Reason::WrongSort)
@@ -124,7 +124,7 @@ impl<'a> Lookup<'a> {
     // A FIELD of class c.
     fn field_fits(&self, c: usize, flags: u16, ty: Ty) -> Result<(), Reason>
         requires { c < count self.now.sheets.now }
-        ensures { number_of result ≡ first_met (field_tests (groups self.now.sheets.now) (count self.now.sheets.now) c flags ty) }
+        ensures { number_of result ≡ first_met (field_tests self.now.sheets.now c flags ty) }
     {
         self.type_there(ty)?;
         require(
@@ -148,7 +148,7 @@ impl<'a> Lookup<'a> {
     // A record that is named by its index, in a class of that sheet.
     fn index_there(&self, side: Side, class: usize, index: usize) -> Result<(), Reason>
         ensures { number_of result
-            ≡ first_met (index_tests (groups self.now.sheets.now) (count self.now.sheets.now) (kind_number (indexed_kind side)) class index) }
+            ≡ first_met (index_tests self.now.sheets.now (kind_number (indexed_kind side)) class index) }
     {
         self.there(class)?;
         require(index < self.indexed(side, class), Reason::NotThere)
@@ -156,8 +156,8 @@ impl<'a> Lookup<'a> {
 
     // A USES of class c; the marks are those of the class and its enclosers.
     fn uses_fits(&self, marks: &[u8; CLASS_LIMIT], class: usize, index: usize) -> Result<(), Reason>
-        ensures { (c : ℕ) → Enclosing (groups self.now.sheets.now) (count self.now.sheets.now) c marks.now
-            → number_of result ≡ first_met (uses_tests (groups self.now.sheets.now) (count self.now.sheets.now) c class index) }
+        ensures { (c : ℕ) → Enclosing self.now.sheets.now c marks.now
+            → number_of result ≡ first_met (uses_tests self.now.sheets.now c class index) }
     {
         self.index_there(Side::User, class, index)?;
         require(marks[class] == 1, Reason::WrongSort)
@@ -171,11 +171,15 @@ impl<'a> Lookup<'a> {
         record: &Record,
     ) -> Result<(), Reason>
         requires there { c < count self.now.sheets.now }
-        requires marked { Enclosing (groups self.now.sheets.now) (count self.now.sheets.now) c marks.now }
+        requires marked { Enclosing self.now.sheets.now c marks.now }
         requires first { T (is_class «record».now) → «record».now ≡ class_record (groups self.now.sheets.now c) }
         ensures { number_of result
-            ≡ form_number (groups self.now.sheets.now) (library_count self.now.sheets.now) (count self.now.sheets.now) c «record».now }
+            ≡ form_number self.now.sheets.now c «record».now }
     {
+        // A MEMBER names no class; most records of a library are such.
+        if record.is(Kind::Member) {
+            return Ok(());
+        }
         match record.body() {
             Body::Class(head) => self.class_fits(c, head),
             Body::Implements(class) => self.implements_fits(c, class),

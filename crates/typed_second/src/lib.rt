@@ -1,7 +1,7 @@
 // The second pass over both sheets, class by class: each record by what it names. Refusals 9, 8 and 10.
 #![tactic(auto)]
 
-ghost use Rattle.std.specs.Prelude.{◌≡◌, ◌<◌};
+ghost use Rattle.std.specs.Prelude.{◌<◌};
 ghost use Rattle.spec.specs.Refusals.{form_refusal};
 ghost use Rattle.refusals.specs.Refusals.{Answers};
 ghost use Rattle.sheets.specs.Sheets.{Passed, count};
@@ -11,6 +11,7 @@ mod fits;
 mod lookup;
 
 use lookup::Lookup;
+use records::CLASS_LIMIT;
 use refusals::Refusal;
 use sheets::Sheets;
 
@@ -18,10 +19,11 @@ use sheets::Sheets;
 fn class_pass(lookup: &Lookup, c: usize) -> Result<(), Refusal>
     requires passed { Passed lookup.now.sheets.now }
     requires there { c < count lookup.now.sheets.now }
-    ensures { Answers (class_refusal lookup.now.sheets.now.library lookup.now.sheets.now.user c) result (λ _. Unit {0}) }
+    ensures { Answers (class_refusal lookup.now.sheets.now c) result (λ _. Unit {0}) }
 {
     let sheets = lookup.sheets;
-    let marks = lookup.enclosing(c);
+    let mut marks = [0; CLASS_LIMIT];
+    lookup.mark_enclosers(c, &mut marks);
     let mut byte = sheets.start(c);
     for record in sheets.group(c).records() {
         if let Err(reason) = lookup.record_fits(c, &marks, &record) {

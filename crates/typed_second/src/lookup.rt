@@ -1,7 +1,7 @@
 // What records ask of the classes that they name: it stands in rows, so that no sheet is read for it again.
-ghost use Rattle.std.specs.Prelude.{◌≡◌, ◌<◌, ◌≤◌, length};
+ghost use Rattle.std.specs.Prelude.{◌≡◌, ◌<◌, replicate};
 ghost use Rattle.spec.specs.Record.{bit};
-ghost use Rattle.sheets.specs.Sheets.{Passed, count, groups, library_count};
+ghost use Rattle.sheets.specs.Sheets.{Passed, count, groups};
 ghost use Rattle.typed_fingerprints.specs.Fingerprints.{Printed};
 ghost use Rattle.typed_second.specs.Second.{Heads, Enclosing, indexed_kind, asked_of};
 
@@ -32,7 +32,7 @@ pub struct Lookup<'a> {
     pub prints: [u16; CLASS_LIMIT],
     pub asked: [Asked; CLASS_LIMIT],
     pub ghost printed: { Printed (groups sheets.now) (count sheets.now) prints },
-    pub ghost heads: { Heads (groups sheets.now) (library_count sheets.now) (count sheets.now) asked },
+    pub ghost heads: { Heads sheets.now asked },
 }
 
 /// Whether flag number k is set.
@@ -57,7 +57,7 @@ fn indexed_kind(side: Side) -> Kind
 fn asked_of(sheets: &Sheets, c: usize) -> Asked
     requires passed { Passed sheets.now }
     requires there { c < count sheets.now }
-    ensures { result ≡ asked_of (library_count sheets.now) (groups sheets.now) c }
+    ensures { result ≡ asked_of sheets.now c }
 {
     let group = sheets.group(c);
     Asked {
@@ -88,14 +88,14 @@ impl<'a> Lookup<'a> {
         }
     }
 
-    /// A row with 1 at class c and its enclosers, so that a USES asks by one comparison.
-    pub fn enclosing(&self, c: usize) -> [u8; CLASS_LIMIT]
-        requires { c < count self.now.sheets.now }
-        ensures { Enclosing (groups self.now.sheets.now) (count self.now.sheets.now) c result }
+    /// Marks class c and its enclosers by 1 in a row of zeros, so that a USES asks by one comparison.
+    pub fn mark_enclosers(&self, c: usize, marks: &mut [u8; CLASS_LIMIT])
+        requires there { c < count self.now.sheets.now }
+        requires unmarked { marks.old ≡ replicate 256 0 }
+        ensures { Enclosing self.now.sheets.now c marks.new }
     {
         let sheets = self.sheets;
         let n = sheets.count();
-        let mut marks = [0; CLASS_LIMIT];
         marks[c] = 1;
         let mut at = c;
         for _ in 0..c + 1 {
@@ -104,9 +104,8 @@ impl<'a> Lookup<'a> {
                     marks[up] = 1;
                     at = up;
                 }
-                _ => return marks,
+                _ => return,
             }
         }
-        marks
     }
 }

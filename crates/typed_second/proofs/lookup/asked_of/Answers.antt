@@ -1,7 +1,6 @@
 use Rattle.std.proofs.Common.{rules}
 use Rattle.spec.specs.Sheet.{is_interface}
 use Rattle.records.specs.Kinds.{kind_number}
-use Rattle.sheets.specs.Sheets.{library_count}
 use Rattle.typed_second.proofs.Asking.{indexed_low, kind_is}
 use Rattle.typed_second.proofs.lookup.asked_of.Goals as goal
 
@@ -10,4 +9,4 @@ overflow_cast-result c = let l = indexed_low c.requires.passed (kind_number c.in
 
 pub returns : goal.returns
 unfolding is_interface
-returns c = let k = kind_is (library_count c.args.sheets.now) c.args.c c.side.result c.side.ensures in search rules
+returns c = let k = kind_is c.args.sheets.now c.args.c c.side.result c.side.ensures in search rules

@@ -13,6 +13,6 @@ invariant_of-result c =
     let l : 4 ≤ c.from-len.result = search (rules, tests) in
     record { known = u16_take c.from-len.result c.args.bytes.now 2 (omega arith) ∙ sym c.word_in-2.ensures ∙ sym c.in-Ok.ensures }
 
-pub returns-in-Err : goal.returns-in-Err
+pub returns-in-Err-clause-refused : goal.returns-in-Err-clause-refused
 unfolding whole_first
-returns-in-Err c = λ p. refused_kind p c.args.bytes.now (search (rules, tests)) (rw c.word_in-2.ensures at c.in-Err.ensures.1)
+returns-in-Err-clause-refused c = λ p. refused_kind p c.args.bytes.now (search (rules, tests)) (rw c.word_in-2.ensures at c.in-Err.ensures.1)

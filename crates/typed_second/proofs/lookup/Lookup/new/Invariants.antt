@@ -1,6 +1,5 @@
 -- The entries below c are there.
 use Rattle.std.proofs.Common.{◌≡◌, ℕ, ◌<◌, length, get_or}
-use Rattle.sheets.specs.Sheets.{groups, library_count}
 use Rattle.typed_second.specs.declared.lookup.Asked.{Asked}
 use Rattle.typed_second.specs.Second.{asked_of}
 use Rattle.typed_second.proofs.lookup.Lookup.new.Given as goal
@@ -8,4 +7,4 @@ use Rattle.typed_second.proofs.lookup.Lookup.new.Given as goal
 abbrev pub invariant-loop-c : goal.invariant-loop-c
 invariant-loop-c l =
     (length l.asked ≡ 256)
-    × ((d : ℕ) (e : Asked) → d < l.c → get_or l.asked d e ≡ asked_of (library_count l.sheets) (groups l.sheets) d)
+    × ((d : ℕ) (e : Asked) → d < l.c → get_or l.asked d e ≡ asked_of l.sheets d)

@@ -1,0 +1,20 @@
+use Rattle.std.proofs.Common.{rules}
+use borrow.Author.Tests.{tests}
+use Rattle.std.proofs.lemmas.Result.{err_from_is_err_and}
+use Rattle.spec.specs.Lists.{first_of}
+use Rattle.spec.specs.Refusals.{refuse_if, refuse_plain, unused_refusal, query_refusal}
+use Rattle.theory.proofs.Answers.{first_some}
+use Rattle.typed_queries.proofs.asked.Goals as goal
+
+pub returns-in_err-accepted : goal.returns-in_err-accepted
+unfolding query_refusal
+returns-in_err-accepted c =
+    let p = err_from_is_err_and c.from_residual.result c.from_residual.ensures.1 in rw (p.1, p.2) (first_some _ c.in_err-accepted.ensures)
+
+pub returns-then-count-class : goal.returns-then-count-class
+unfolding query_refusal unused_refusal refuse_plain refuse_if first_of
+returns-then-count-class c = search (rules, tests)
+
+pub returns : goal.returns
+unfolding query_refusal unused_refusal refuse_plain refuse_if first_of
+returns c = search (rules, tests)

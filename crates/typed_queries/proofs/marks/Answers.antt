@@ -1,0 +1,14 @@
+use Rattle.std.proofs.Common.{rules}
+use borrow.Author.Tests.{tests}
+use Rattle.std.proofs.lemmas.Result.{err_from_is_err_and}
+use Rattle.spec.specs.Promises.{answer_of}
+use Rattle.theory.proofs.Promised.{answer_refused}
+use Rattle.typed_queries.proofs.marks.Goals as goal
+
+pub returns-in_err-formed : goal.returns-in_err-formed
+returns-in_err-formed c =
+    let p = err_from_is_err_and c.from_residual.result c.from_residual.ensures.1 in rw (p.1, p.2) (record { answered = answer_refused _ c.in_err-formed.ensures })
+
+pub returns : goal.returns
+unfolding answer_of
+returns c = record { answered = search (rules, tests) }

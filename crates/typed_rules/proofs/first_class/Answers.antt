@@ -1,0 +1,22 @@
+use mathlib.Core.Path.{ap, ◌∙◌}
+use Rattle.spec.specs.Record.{flags, superclass}
+use Rattle.spec.specs.Sheet.{Group, class_record}
+use Rattle.records.specs.Kinds.{optional}
+use Rattle.records.specs.declared.record.Head.{Head}
+use Rattle.typed_rules.proofs.Stepping.{first_unmarked, first_interface, first_up}
+use Rattle.typed_rules.proofs.first_class.Goals as goal
+
+pub returns-then-not-has : goal.returns-then-not-has
+returns-then-not-has c =
+    rw c.in-Late.is (first_unmarked _ _ _ c.args.judging.now.known c.known.ensures c.rule_set.ensures.0 c.has.ensures c.if-not-has.true)
+
+pub returns-then-head-eq1 : goal.returns-then-head-eq1
+returns-then-head-eq1 c =
+    let f = ap (λ (h : Head). h.flags) c.head-head.ensures ∙ ap (λ (g : Group). flags (class_record g)) c.group.ensures in
+    rw c.in-Late.is (first_interface _ _ _ c.args.judging.now.known c.known.ensures c.rule_set.ensures.0 c.has.ensures f c.if-head-eq1.true)
+
+pub returns : goal.returns
+returns c =
+    let f = ap (λ (h : Head). h.flags) c.head-head.ensures ∙ ap (λ (g : Group). flags (class_record g)) c.group.ensures in
+    let s = ap (λ (h : Head). h.superclass) c.head-head.ensures ∙ ap (λ (g : Group). optional (superclass (class_record g))) c.group.ensures in
+    rw c.in-Late.is (s ∙ first_up _ _ _ c.args.judging.now.known c.known.ensures c.rule_set.ensures.0 c.has.ensures f c.if-not-has.false c.if-head-eq1.false)

@@ -1,0 +1,4 @@
+pub mod Verdicts
+pub mod Lines
+pub mod Records
+pub mod Whole

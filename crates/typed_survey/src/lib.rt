@@ -1,0 +1,167 @@
+// Whether a class is clean, in one look at each record: a clean class needs no walk over the rules.
+#![tactic(auto)]
+
+ghost use Rattle.std.specs.Prelude.{◌≡◌, not, ◌&&◌, ◌||◌, ◌≤◌, ◌<◌};
+ghost use Rattle.spec.specs.Lists.{any};
+ghost use Rattle.spec.specs.Record.{bit};
+ghost use Rattle.spec.specs.Rules.{verdict_of};
+ghost use Rattle.laws.proofs.All.{All};
+ghost use Rattle.sheets.specs.Sheets.{Passed, count, groups, library_count};
+ghost use Rattle.typed_slots.specs.Slots.{base_by, rule_marker};
+ghost use Rattle.typed_breaks.specs.Bans.{Refers};
+ghost use Rattle.typed_survey.specs.Survey.{is_clean, head_by, any_late, record_breaks, ClassSet, Passing};
+
+use markers::{SELFLESS, clash, common, has};
+use records::CLASS_LIMIT;
+use records::group::Group;
+use records::record::{Head, Record};
+use typed_breaks::early::{lets_out, names_forbidden, refers_forbidden, reserved, static_breaks};
+use typed_breaks::judging::Judging;
+use typed_slots::{Late, base_breaks, fields_set, head_set, rule_set};
+
+// The rules that ask slots.
+const LATE: [Late; 4] = [
+    Late::Immutable,
+    Late::Powerless,
+    Late::Selfless,
+    Late::DeepSelfless,
+];
+
+/// A judging, and for each class the set of the markers whose rules its slots and its superclasses' pass.
+#[derive(Drop)]
+pub struct Survey<'a> {
+    pub judging: Judging<'a>,
+    sets: [u8; CLASS_LIMIT],
+    ghost passing: { Passing (library_count judging.formed.now.sheets) (count judging.formed.now.sheets) (groups judging.formed.now.sheets) sets },
+}
+
+// ---- rules 7 to 10
+
+// Flag 0 of a CLASS.
+fn is_interface(head: &Head) -> bool
+    ensures { result ≡ bit 0 head.now.flags }
+{
+    head.flags % 2 == 1
+}
+
+// The markers whose rules class t and its superclasses up to the root pass, by the sets of lower classes. An interface has no slots.
+fn class_set(judging: &Judging, sets: &[u8], t: usize) -> u8
+    requires passed { Passed judging.now.formed.now.sheets }
+    requires there { t < count judging.now.formed.now.sheets }
+    requires passing { Passing (library_count judging.now.formed.now.sheets) t (groups judging.now.formed.now.sheets) sets.now }
+    ensures { ClassSet (library_count judging.now.formed.now.sheets) (groups judging.now.formed.now.sheets) t result }
+{
+    let nlib = judging.formed.sheets.library_count();
+    let group = judging.formed.sheets.group(t);
+    let head = group.head();
+    let first = head_set(&head, &judging.markers, judging.lanes, nlib, t);
+    if t < nlib {
+        return first;
+    }
+    if is_interface(&head) {
+        return 0;
+    }
+    let Some(above) = head.superclass else {
+        unreachable!()
+    };
+    let own = common(first, fields_set(&group, &judging.markers));
+    common(own, sets[above])
+}
+
+// The set of each class.
+fn passes(judging: &Judging) -> [u8; CLASS_LIMIT]
+    ensures { Passing (library_count judging.now.formed.now.sheets) (count judging.now.formed.now.sheets) (groups judging.now.formed.now.sheets) result }
+{
+    let mut sets = [0; CLASS_LIMIT];
+    for c in 0..judging.formed.sheets.count() {
+        sets[c] = class_set(judging, &sets, c);
+    }
+    sets
+}
+
+// The set has each of the four markers that a class with the markers m has.
+fn covers(m: u8, set: u8) -> bool
+    ensures { result ≡ not (any_late m (λ rule. not (bit (rule_marker rule) set))) }
+{
+    !LATE.iter().any(|rule| has(m, rule_set(*rule)) && !has(set, rule_set(*rule)))
+}
+
+// Rule 9's second part, for a class with the markers m.
+fn base_lacks(m: u8, head: &Head, markers: &[u8]) -> bool
+    ensures { result ≡ (bit 2 m && base_by head.now markers.now) }
+{
+    has(m, SELFLESS) && base_breaks(head, markers)
+}
+
+// A class with the markers m and this set breaks none of rules 7 to 10, which do not ask an interface.
+fn late_fine(m: u8, set: u8, head: &Head, markers: &[u8]) -> bool
+    ensures { result ≡ (bit 0 head.now.flags
+        || not ((bit 2 m && base_by head.now markers.now) || any_late m (λ rule. not (bit (rule_marker rule) set)))) }
+{
+    is_interface(head) || !base_lacks(m, head, markers) && covers(m, set)
+}
+
+// ---- rules 1 to 6
+
+// The record breaks rule 1, 2 or 5.
+fn breaks(judging: &Judging, record: &Record) -> bool
+    requires { Refers (count judging.now.formed.now.sheets) (groups judging.now.formed.now.sheets) record.now }
+    ensures { result ≡ record_breaks (library_count judging.now.formed.now.sheets) (groups judging.now.formed.now.sheets) record.now }
+{
+    names_forbidden(record, &judging.bans)
+        || refers_forbidden(&judging.formed.sheets, &judging.bans, record)
+        || static_breaks(record, &judging.markers)
+}
+
+// No record of the class breaks one of them.
+fn records_fine(judging: &Judging, group: &Group) -> bool
+    requires { All (Refers (count judging.now.formed.now.sheets) (groups judging.now.formed.now.sheets)) group.now }
+    ensures { result ≡ not (any (record_breaks (library_count judging.now.formed.now.sheets) (groups judging.now.formed.now.sheets)) group.now) }
+{
+    for record in group.records() {
+        if breaks(judging, &record) {
+            return false;
+        }
+    }
+    true
+}
+
+// The CLASS record breaks none of rules 3, 4 and 6, where m are the class's overlay markers.
+fn head_fine(head: &Head, m: u8) -> bool
+    ensures { result ≡ not (head_by head.now.flags head.now.markers m) }
+{
+    !(reserved(head.markers) || clash(m) || lets_out(head.flags))
+}
+
+// The class breaks none of them.
+fn early_fine(judging: &Judging, group: &Group, head: &Head, m: u8) -> bool
+    requires { All (Refers (count judging.now.formed.now.sheets) (groups judging.now.formed.now.sheets)) group.now }
+    ensures { result ≡ not (head_by head.now.flags head.now.markers m
+        || any (record_breaks (library_count judging.now.formed.now.sheets) (groups judging.now.formed.now.sheets)) group.now) }
+{
+    head_fine(head, m) && records_fine(judging, group)
+}
+
+// ---- all ten
+
+impl<'a> Survey<'a> {
+    /// Fills the sets.
+    pub fn new(judging: Judging<'a>) -> Survey<'a>
+        ensures { result.judging ≡ judging.entry }
+    {
+        let sets = passes(&judging);
+        Survey { judging, sets }
+    }
+
+    /// Whether user class c breaks no rule.
+    pub fn clean(&self, c: usize) -> bool
+        requires user_class { (library_count self.now.judging.formed.now.sheets ≤ c) × (c < count self.now.judging.formed.now.sheets) }
+        ensures { result ≡ is_clean (verdict_of (library_count self.now.judging.formed.now.sheets) (groups self.now.judging.formed.now.sheets) c) }
+    {
+        let judging = &self.judging;
+        let group = judging.formed.sheets.group(c);
+        let head = group.head();
+        let m = judging.markers[c];
+        early_fine(judging, &group, &head, m) && late_fine(m, self.sets[c], &head, &judging.markers)
+    }
+}

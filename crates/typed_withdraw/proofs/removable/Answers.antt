@@ -1,0 +1,40 @@
+use Rattle.std.proofs.Common.{rules}
+use borrow.Author.Tests.{tests}
+use native.Mathlib.Omega.{arith}
+use Rattle.std.proofs.lemmas.Result.{err_from_is_err_and}
+use Rattle.spec.specs.Lists.{first_of}
+use Rattle.spec.specs.Sheet.{total}
+use Rattle.spec.specs.Refusals.{refuse_if, refuse_plain, last_class, empty_refusal, named_refusal, few_lines_refusal, withdraw_refusal}
+use Rattle.theory.proofs.Answers.{first_some}
+use Rattle.typed_withdraw.proofs.Withdrawing.{last_is}
+use Rattle.typed_withdraw.proofs.removable.Goals as goal
+
+pub returns-in_err-accepted : goal.returns-in_err-accepted
+unfolding withdraw_refusal
+returns-in_err-accepted c =
+    let p = err_from_is_err_and c.from_residual.result c.from_residual.ensures.1 in rw (p.1, p.2) (first_some _ c.in_err-accepted.ensures)
+
+pub overflow_sub-own : goal.overflow_sub-own
+unfolding total
+overflow_sub-own c = omega (arith, c.count-all.ensures.count, c.library_count.ensures)
+
+pub returns-then-own-eq0 : goal.returns-then-own-eq0
+unfolding withdraw_refusal empty_refusal refuse_plain refuse_if first_of total
+returns-then-own-eq0 c = search (rules, tests)
+
+pub returns-then-last_named : goal.returns-then-last_named
+unfolding withdraw_refusal empty_refusal named_refusal last_class refuse_plain refuse_if first_of total
+returns-then-last_named c = search (rules, tests)
+
+pub returns-then-lines-own : goal.returns-then-lines-own
+unfolding withdraw_refusal empty_refusal named_refusal few_lines_refusal last_class refuse_plain refuse_if first_of total
+returns-then-lines-own c = search (rules, tests)
+
+pub returns : goal.returns
+unfolding withdraw_refusal empty_refusal named_refusal few_lines_refusal last_class refuse_plain refuse_if first_of total
+returns c =
+    let all = c.count-all.ensures.count in
+    let own = c.library_count.ensures in (
+      search (rules, tests),
+      last_is c.count-all.ensures.passed (omega (arith, all, own, c.if-own-eq0.false)) c.in_ok-accepted.ensures.1 (omega (arith, all)) c.start.ensures (omega (arith, all, own)),
+    )
