@@ -10,38 +10,45 @@ use borrow.Author.Tests.{eq-eqb, ne_eqb, le-ltb}
 use Rattle.spec.specs.Record.{bit}
 use Rattle.spec.specs.Sheet.{Group}
 use Rattle.spec.specs.Classes.{field_slot}
-use Rattle.slots.specs.Slots.{rule_marker, slot_fits, root_breaks, base_breaks, field_breaks, head_slots, FieldSet}
+use Rattle.records.specs.declared.record.Ty.{Ty}
+use Rattle.records.specs.declared.record.Body.TheVariants.{Field}
+use Rattle.records.specs.Kinds.{Reads}
+use Rattle.overlay.specs.Types.{Known}
+use Rattle.slots.specs.declared.Late.{Late}
+use Rattle.slots.specs.declared.Late.TheVariants.{Immutable, Powerless, Selfless, DeepSelfless}
+use Rattle.slots.specs.Slots.{rule_marker, root_breaks, base_breaks, field_breaks, head_slots, FieldSet}
 use Rattle.slots.proofs.Sets.{twice}
-use Rattle.breaks.specs.Breaking.{FieldBreaks, head_breaks}
+use Rattle.breaks.specs.Breaking.{has_base, head_breaks}
 
 -- a set has a rule's marker, as the code asks it
-pub marker_in : (rule set : ℕ) {s : ℕ} → s ≡ 2 ^ rule_marker rule → {b : Bool} → b ≡ eqb (set / s % 2) 1 → b ≡ bit (rule_marker rule) set
+pub marker_in : (rule : Late) (set : ℕ) {s : ℕ} → s ≡ 2 ^ rule_marker rule → {b : Bool} → b ≡ eqb (set / s % 2) 1 → b ≡ bit (rule_marker rule) set
 unfolding bit
 marker_in rule set es eb = rw (eb, es)
 
 -- where a field stands in its class does not count
-anywhere : (g : ℕ → Group) (rule t k : ℕ) (r : List ℕ) → field_breaks g rule 0 0 r ≡ field_breaks g rule t k r
-unfolding field_breaks slot_fits field_slot
-anywhere g rule t k r = refl
+pub anywhere : (g : ℕ → Group) (rule : Late) (t k : ℕ) (r : List ℕ) → field_breaks g rule 0 0 r ≡ field_breaks g rule t k r
+unfolding field_breaks field_slot
+anywhere g Immutable t k r = refl
+anywhere g Powerless t k r = refl
+anywhere g Selfless t k r = refl
+anywhere g DeepSelfless t k r = refl
 
-pub field_told : {rule : ℕ} → 7 ≤ rule → rule ≤ 10 → {row r : List ℕ} {set : ℕ} → FieldSet row r set → {s : ℕ} → s ≡ 2 ^ rule_marker rule → {b : Bool} → b ≡ eqb (set / s % 2) 1
-    → FieldBreaks row rule r (not b)
-field_told {rule} l h {r = r} {set} f es eb = record {
-  is = λ g t k w. ap not (marker_in rule set es eb ∙ (f.is g w).is rule (l, h)) ∙ twice (field_breaks g rule 0 0 r) ∙ anywhere g rule t k r;
-}
+pub field_told : (g : ℕ → Group) {row : List ℕ} → Known g row → (rule : Late) (t k : ℕ) (r : List ℕ) {f : ℕ} {ty : Ty} → Reads r (Field f ty) → {set : ℕ} → FieldSet row f ty set
+    → {s : ℕ} → s ≡ 2 ^ rule_marker rule → {b : Bool} → b ≡ eqb (set / s % 2) 1 → not b ≡ field_breaks g rule t k r
+field_told g w rule t k r q {set} f es eb = ap not (marker_in rule set es eb ∙ (f.is r q g w).is rule) ∙ twice (field_breaks g rule 0 0 r) ∙ anywhere g rule t k r
 
 -- ---- record 0
 
-module _ (nlib : ℕ) (g : ℕ → Group) (rule c t : ℕ) where
+module _ (nlib : ℕ) (g : ℕ → Group) (rule : Late) (c t : ℕ) where
   -- rule 9's second part comes to a user class alone
   extra : Bool
-  extra = eqb rule 9 && eqb t c && base_breaks g c
+  extra = has_base rule && eqb t c && base_breaks g c
 
   split : head_breaks nlib g rule c t ≡ (head_slots nlib g rule t || (not (ltb t nlib) && extra))
   unfolding head_breaks head_slots extra
   split = go (ltb t nlib) refl
     where
-      go : (b : Bool) → ltb t nlib ≡ b → head_breaks nlib g rule c t ≡ (head_slots nlib g rule t || (not b && (eqb rule 9 && eqb t c && base_breaks g c)))
+      go : (b : Bool) → ltb t nlib ≡ b → head_breaks nlib g rule c t ≡ (head_slots nlib g rule t || (not b && (has_base rule && eqb t c && base_breaks g c)))
       go true e = rw (e, head_breaks, head_slots) (sym (or-false (root_breaks g rule t)))
       go false e = rw (e, head_breaks, head_slots)
 
@@ -56,14 +63,24 @@ module _ (nlib : ℕ) (g : ℕ → Group) (rule c t : ℕ) where
       rest : head_breaks nlib g rule c t ≡ (not (ltb t nlib) && extra)
       rest = rw (split, slots, h)
 
-      pub head_not_nine : (rule ≡ 9 → ⊥) → false ≡ head_breaks nlib g rule c t
+      -- the other three rules have no second part
+      pub head_slots_alone : (rule ≡ Selfless → ⊥) → false ≡ head_breaks nlib g rule c t
       unfolding extra
-      head_not_nine n = sym (rest ∙ rw (ne_eqb rule 9 n) (and-false (not (ltb t nlib))))
+      head_slots_alone n = sym (rest ∙ ap (λ (x : Bool). not (ltb t nlib) && (x && eqb t c && base_breaks g c)) (go rule n) ∙ and-false (not (ltb t nlib)))
+        where
+          go : (l : Late) → (l ≡ Selfless → ⊥) → has_base l ≡ false
+          go Immutable n = refl
+          go Powerless n = refl
+          go Selfless n = absurd (n refl)
+          go DeepSelfless n = refl
 
-      pub head_above : rule ≡ 9 → (t ≡ c → ⊥) → false ≡ head_breaks nlib g rule c t
-      unfolding extra
-      head_above o n = sym (rest ∙ rw (eq-eqb rule 9 o, ne_eqb t c n) (and-false (not (ltb t nlib))))
+      module _ (o : rule ≡ Selfless) where
+        second : extra ≡ (eqb t c && base_breaks g c)
+        unfolding extra
+        second = ap (λ (l : Late). has_base l && eqb t c && base_breaks g c) o
 
-      pub head_own : nlib ≤ c → rule ≡ 9 → t ≡ c → {x : Bool} → x ≡ base_breaks g c → x ≡ head_breaks nlib g rule c t
-      unfolding extra
-      head_own u o q ex = ex ∙ sym (rest ∙ rw (le-ltb t nlib (omega arith), eq-eqb rule 9 o, eq-eqb t c q))
+        pub head_above : (t ≡ c → ⊥) → false ≡ head_breaks nlib g rule c t
+        head_above n = sym (rest ∙ rw (second, ne_eqb t c n) (and-false (not (ltb t nlib))))
+
+        pub head_own : nlib ≤ c → t ≡ c → {x : Bool} → x ≡ base_breaks g c → x ≡ head_breaks nlib g rule c t
+        head_own u q ex = ex ∙ sym (rest ∙ rw (second, le-ltb t nlib (omega arith), eq-eqb t c q))

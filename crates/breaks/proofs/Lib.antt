@@ -1,5 +1,8 @@
+pub mod Bits
+pub mod Banning
 pub mod Naming
-pub mod Referring
+pub mod Statics
+pub mod Members
 pub mod Places
 pub mod Heads
 pub mod Lines

@@ -11,10 +11,11 @@ use Rattle.spec.specs.Classes.{lineage, root}
 use Rattle.theory.proofs.Falls.{Falls}
 use Rattle.theory.proofs.Lines.{lineage_library, root_library}
 use Rattle.theory.proofs.Form.{Super, lineage_up, root_up}
-use Rattle.breaks.specs.Breaking.{line_breaks}
+use Rattle.slots.specs.declared.Late.{Late}
 use Rattle.slots.specs.Slots.{root_breaks, slots_break}
+use Rattle.breaks.specs.Breaking.{line_breaks}
 
-module _ (nlib : ℕ) (g : ℕ → Group) (f : Falls g) (rule : ℕ) {t : ℕ} where
+module _ (nlib : ℕ) (g : ℕ → Group) (f : Falls g) (rule : Late) {t : ℕ} where
   pub line_library : t < nlib → root_breaks g rule t ≡ line_breaks nlib g rule t
   unfolding line_breaks lineage root any
   line_library h =

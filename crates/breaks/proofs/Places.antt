@@ -1,109 +1,71 @@
--- A record of a class where it stands: what it is, and the rule that is asked of it.
+-- A record of a class where it stands: a CLASS record just where it is the first.
 -- Assumes nothing.
-use mathlib.Core.Path.{◌≡◌, sym, ap, ◌∙◌, subst}
-use mathlib.Core.Bool.{Bool, true, false, not, ◌&&◌, ◌||◌}
+use mathlib.Core.Path.{◌≡◌, refl, subst}
+use mathlib.Core.Bool.{Bool, true, false, not}
 use mathlib.Core.List.{List}
 use mathlib.Core.Option.{none}
-use Prim.Native.Nat.{ℕ, ◌+◌, ◌≤◌, ◌<◌}
+use Prim.Native.Nat.{ℕ, ◌<◌}
 use native.Mathlib.Omega.{arith}
-use lib.Dec.{T, eqb, eqb→eq}
-use lib.ListN.{length, get_or, get_or-eq_default}
+use lib.Dec.{T, eqb→eq}
 use borrow.Author.Tests.{eq-eqb, ne_eqb}
 use Rattle.spec.specs.Lists.{any}
-use Rattle.spec.specs.Record.{u16, bit, kind, is_kind, is_class, CLASS, REFERS, flags, own_markers, target, index, references}
-use Rattle.spec.specs.Sheet.{Group, total, group, class_count}
-use Rattle.spec.specs.Markers.{clash}
-use Rattle.spec.specs.Rules.{static_breaks, member_allowed, forbidden}
+use Rattle.spec.specs.Record.{kind, is_class, CLASS}
+use Rattle.spec.specs.Sheet.{Group, class_record}
 use Rattle.spec.specs.Refusals.{one_class, form_refusal}
 use Rattle.spec.specs.Relations.{At, here, next}
-use Rattle.laws.proofs.Bools.{and_l}
-use Rattle.laws.proofs.All.{All}
+use Rattle.laws.proofs.Bools.{and_l, and_r, eq→eqb}
+use Rattle.laws.proofs.All.{All, not_any}
 use Rattle.theory.proofs.Accept.{RecordFits, form_fits}
-use Rattle.theory.proofs.Form.{group_one_class}
 use Rattle.theory.proofs.References.{references_refers}
-use Rattle.records.specs.Records.{record_at}
-use Rattle.groups.specs.Groups.{Indexed}
-use Rattle.overlay.specs.Types.{Known}
-use Rattle.records.proofs.Positions.{whole, long_enough, flags_at, own_markers_at}
-use Rattle.breaks.specs.Breaking.{Standing, Refers, first_rules, head_breaks, breaks_at}
+use Rattle.sheets.specs.Sheets.{Pair, count, groups, library_count}
+use Rattle.slots.specs.declared.Late.{Late as LateRule}
 use Rattle.slots.specs.Slots.{field_breaks}
-
--- ---- the record
+use Rattle.breaks.specs.declared.rule.Rule.TheVariants.{Late}
+use Rattle.breaks.specs.Bans.{Refers}
+use Rattle.breaks.specs.Breaking.{head_breaks, breaks_at}
 
 all_here : {A : Type 0} (P : A → Type 0) {xs : List A} {k : ℕ} {x : A} → All P xs → At xs k x → P x
 all_here P h here = h.0
 all_here P h (next a) = all_here P h.1 a
 
-class_first : {g : Group} {k : ℕ} {r : List ℕ} → T (one_class g) → At g k r → k ≡ 0 → T (is_class r)
+-- ---- the first record
+
+pub first_is : {h : Group} {k : ℕ} {r : List ℕ} → At h k r → k ≡ 0 → r ≡ class_record h
+unfolding class_record
+first_is here e = refl
+first_is (next a) e = absurd (omega arith)
+
+-- it is a CLASS record, and no other one is
+pub first_class : {h : Group} {k : ℕ} {r : List ℕ} → T (one_class h) → At h k r → k ≡ 0 → kind r ≡ 1
 unfolding one_class
-class_first o (here {x} {xs}) e = and_l (is_class x) (not (any is_class xs)) o
-class_first o (next a) e = absurd (omega arith)
+first_class o (here {x} {xs}) e = eqb→eq (kind x) CLASS (and_l (is_class x) (not (any is_class xs)) o)
+first_class o (next a) e = absurd (omega arith)
 
-module _ {library user : List ℕ} {nlib n : ℕ} {starts : List ℕ} (x : Indexed library user nlib n starts) (t : ℕ) {bytes : List ℕ} {k at : ℕ} (w : Standing bytes (group library user t) k at) where
-  abbrev r : List ℕ
-  r = record_at bytes at
+pub class_first : {h : Group} {k : ℕ} {r : List ℕ} → T (one_class h) → At h k r → kind r ≡ 1 → k ≡ 0
+unfolding one_class
+class_first o here e = refl
+class_first {r = r} o (next {y} {xs} a) e =
+    absurd (later (is_class r) (all_here (λ s. T (not (is_class s))) (not_any is_class xs (and_r (is_class y) (not (any is_class xs)) o)) a) (eq→eqb e))
+  where
+    later : (b : Bool) → T (not b) → T b → ⊥
+    later true n t = n
+    later false n t = t
 
-  pub standing_refers : form_refusal library user ≡ none → Refers n (group library user) (record_at bytes at)
-  standing_refers e =
-      let f : RecordFits (class_count library) (total library user) (group library user) t r = all_here (RecordFits (class_count library) (total library user) (group library user) t)
-      (form_fits library user e t)
-      w.is in
-      record {
-        class = λ u. let a = subst (All (λ d. d < total library user)) (references_refers r u) f.there in omega (arith, a.0, x.n_is);
-        member = f.member;
-      }
+-- ---- the record names what is there
 
-  module _ (l : t < n) (z : k ≡ 0) where
-    is_class_lem : kind r ≡ CLASS
-    is_class_lem = eqb→eq (kind r) CLASS (class_first (group_one_class library user t (omega (arith, x.n_is))) w.is z)
+pub refers_there : (p : Pair) → form_refusal p.library p.user ≡ none → (t : ℕ) {k : ℕ} {r : List ℕ} → At (groups p t) k r → Refers (count p) (groups p) r
+refers_there p e t {r = r} a =
+    let f : RecordFits (library_count p) (count p) (groups p) t r = all_here (RecordFits (library_count p) (count p) (groups p) t) (form_fits p.library p.user e t) a in
+    record {
+      class = λ u. (subst (All (λ d. d < count p)) (references_refers r u) f.there).0;
+      member = f.member;
+    }
 
-    pub head_room : at + 13 ≤ length bytes
-    head_room = omega (arith, long_enough w.sized CLASS is_class_lem, (whole w.sized).ends)
+-- ---- rules 7 to 10
 
-    pub head_markers : {m : ℕ} → m ≡ get_or bytes (at + 6) 0 → m ≡ own_markers (record_at bytes at)
-    head_markers em = em ∙ sym (own_markers_at w.sized is_class_lem)
+module _ (nlib : ℕ) (g : ℕ → Group) (rule : LateRule) (c t : ℕ) {k : ℕ} (r : List ℕ) {b : Bool} where
+  pub rule_head : k ≡ 0 → b ≡ head_breaks nlib g rule c t → b ≡ breaks_at nlib g (Late rule) c t k r
+  rule_head z e = rw (eq-eqb k 0 z, breaks_at) e
 
-    pub head_flags : {f : ℕ} → f ≡ u16 bytes (at + 4) → f ≡ flags (record_at bytes at)
-    head_flags ef = ef ∙ sym (flags_at w.sized CLASS is_class_lem (omega arith))
-
--- ---- the rule
-
-pub seven_or_more : (rule : ℕ) → 1 ≤ rule → (rule ≡ 1 → ⊥) → (rule ≡ 2 → ⊥) → (rule ≡ 3 → ⊥) → (rule ≡ 4 → ⊥) → (rule ≡ 5 → ⊥) → (rule ≡ 6 → ⊥) → 7 ≤ rule
-seven_or_more rule h n1 n2 n3 n4 n5 n6 = omega arith
-
-module _ (nlib : ℕ) (g : ℕ → Group) (rule c t k : ℕ) (r : List ℕ) where
-  past_six : 7 ≤ rule → breaks_at nlib g rule c t k r ≡ elim (eqb k 0) as (λ (x : Bool). Bool) [ true ↦ head_breaks nlib g rule c t | false ↦ field_breaks g rule t k r ]
-  unfolding breaks_at first_rules
-  past_six h = get_or-eq_default (first_rules nlib g t r) _ h
-
-  module _ {b : Bool} where
-    pub rule_one : rule ≡ 1 → b ≡ any (forbidden nlib g) (references r) → b ≡ breaks_at nlib g rule c t k r
-    unfolding breaks_at first_rules
-    rule_one e h = rw e h
-
-    pub rule_two : rule ≡ 2 → b ≡ (is_kind REFERS r && not (member_allowed g (target r) (index r))) → b ≡ breaks_at nlib g rule c t k r
-    unfolding breaks_at first_rules
-    rule_two e h = rw e h
-
-    pub rule_three : rule ≡ 3 → {m : ℕ} → m ≡ own_markers r → b ≡ (bit 4 m || bit 5 m || bit 6 m) → b ≡ breaks_at nlib g rule c t k r
-    unfolding breaks_at first_rules
-    rule_three e em h = rw (e, ← em) h
-
-    pub rule_four : rule ≡ 4 → {row : List ℕ} → Known g row → {m : ℕ} → m ≡ get_or row t 0 → b ≡ clash m → b ≡ breaks_at nlib g rule c t k r
-    unfolding breaks_at first_rules
-    rule_four e w em h = rw (e, ← w.is t, ← em) h
-
-    pub rule_five : rule ≡ 5 → b ≡ static_breaks g r → b ≡ breaks_at nlib g rule c t k r
-    unfolding breaks_at first_rules
-    rule_five e h = rw e h
-
-    pub rule_six : rule ≡ 6 → {f : ℕ} → f ≡ flags r → b ≡ (bit 5 f || bit 6 f || bit 7 f) → b ≡ breaks_at nlib g rule c t k r
-    unfolding breaks_at first_rules
-    rule_six e ef h = rw (e, ← ef) h
-
-    module _ (h : 7 ≤ rule) where
-      pub rule_field : (k ≡ 0 → ⊥) → b ≡ field_breaks g rule t k r → b ≡ breaks_at nlib g rule c t k r
-      rule_field n e = e ∙ sym (past_six h ∙ ap (λ (x : Bool). elim x as (λ (y : Bool). Bool) [ true ↦ head_breaks nlib g rule c t | false ↦ field_breaks g rule t k r ]) (ne_eqb k 0 n))
-
-      pub rule_head : k ≡ 0 → b ≡ head_breaks nlib g rule c t → b ≡ breaks_at nlib g rule c t k r
-      rule_head z e = e ∙ sym (past_six h ∙ ap (λ (x : Bool). elim x as (λ (y : Bool). Bool) [ true ↦ head_breaks nlib g rule c t | false ↦ field_breaks g rule t k r ]) (eq-eqb k 0 z))
+  pub rule_field : (k ≡ 0 → ⊥) → b ≡ field_breaks g rule t k r → b ≡ breaks_at nlib g (Late rule) c t k r
+  rule_field n e = rw (ne_eqb k 0 n, breaks_at) e

@@ -1,1 +1,3 @@
+pub mod Bans
 pub mod Breaking
+pub mod Steps

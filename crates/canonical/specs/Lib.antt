@@ -1,2 +1,2 @@
-pub mod Rows
-pub mod Sheets
+pub mod Numbers
+pub mod Sets

@@ -1,2 +1,3 @@
-pub mod Meaning
+pub mod Lowering
 pub mod Seeding
+pub mod Meaning

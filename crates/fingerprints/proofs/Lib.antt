@@ -1,3 +1,1 @@
-pub mod Printing
-pub mod Rows
 pub mod Telling

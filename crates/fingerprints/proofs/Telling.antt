@@ -1,20 +1,35 @@
--- Names with other fingerprints are other names.
+-- Names with other fingerprints are other names; whether a fingerprint stands in a row.
 -- Assumes nothing.
 use mathlib.Core.Path.{◌≡◌, refl, sym, ap, ap₂, ◌∙◌}
-use mathlib.Core.Bool.{false}
+use mathlib.Core.Bool.{Bool, false, ◌||◌, or-false}
 use mathlib.Core.List.{List, [], ◌∷◌}
-use Prim.Native.Nat.{ℕ, ◌≤◌, ◌<◌}
+use Prim.Native.Nat.{ℕ, suc, ◌+◌, ◌≤◌, ◌<◌}
 use native.Mathlib.Omega.{arith}
 use lib.Dec.{T, eqb, eqb→eq}
 use lib.ListN.{length, get_or, take, length-take}
-use lib.Seq.{get_or-take}
-use Rattle.spec.specs.Lists.{elem, same_list}
+use lib.Seq.{get_or-take, take-suc}
+use Rattle.spec.specs.Lists.{any, elem, same_list}
 use Rattle.spec.specs.Record.{class_name}
 use Rattle.spec.specs.Sheet.{Group, class_record}
 use Rattle.laws.proofs.Bools.{t_true, t_false, true_t, and_l, and_r, not_mono}
 use Rattle.laws.proofs.All.{of_members, all_at}
 use Rattle.laws.proofs.Members.{elem_mem}
+use Rattle.theory.proofs.Somewhere.{any_append}
 use Rattle.fingerprints.specs.Fingerprints.{print_of, Printed}
+
+-- the fingerprint of each class's name
+abbrev pub print_at : (ℕ → Group) → ℕ → ℕ
+print_at g d = print_of (class_name (class_record (g d)))
+
+-- ---- a row that is read whole
+
+pub elem_more : (n : ℕ) (xs : List ℕ) (i : ℕ) → i < length xs → elem n (take (i + 1) xs) ≡ (elem n (take i xs) || eqb n (get_or xs i 0))
+unfolding elem any
+elem_more n xs i h =
+    let e : i + 1 ≡ suc i = omega arith in
+    rw e (ap (any (eqb n)) (take-suc xs i 0 h) ∙ any_append (eqb n) (take i xs) (get_or xs i 0 ∷ []) ∙ ap (λ (b : Bool). any (eqb n) (take i xs) || b) (or-false (eqb n (get_or xs i 0))))
+
+-- ---- other names
 
 pub same_list_lem : (xs ys : List ℕ) → T (same_list xs ys) → xs ≡ ys
 unfolding same_list

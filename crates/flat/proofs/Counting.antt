@@ -3,13 +3,18 @@
 use mathlib.Core.Path.{◌≡◌, sym, ap, ◌∙◌}
 use mathlib.Core.Bool.{Bool, true, false, not}
 use mathlib.Core.List.{List}
-use Prim.Native.Nat.{ℕ, suc, ◌+◌, ◌*◌, ◌/◌, ◌≤◌, ◌<◌, min}
+use Prim.Native.Nat.{ℕ, zero, suc, ◌+◌, ◌*◌, ◌/◌, ◌≤◌, ◌<◌, min}
 use native.Mathlib.Numerals.{add-one}
 use native.Mathlib.Omega.{arith}
 use lib.Dec.{eqb}
 use lib.ListN.{length, get_or}
 use borrow.Author.Tests.{eq-eqb, ne_eqb}
-use Rattle.spec.specs.Lists.{count, span}
+use mathlib.Core.Path.{refl, subst}
+use mathlib.Core.List.{[], ◌∷◌}
+use native.Mathlib.Nat.{zero-add, add-zero, suc-add, add-suc, not-suc-le-zero, le_of_suc-le-suc}
+use lib.ListN.{take}
+use Rattle.std.specs.List.{filter}
+use Rattle.spec.specs.Lists.{count, keep, span}
 use Rattle.spec.specs.Verdicts.{verdict_bytes, flat_lines, flat_at}
 use Rattle.laws.proofs.Count.{step, count_none, count_more}
 use Rattle.flat.specs.Row.{faulted_in, marked_in}
@@ -68,9 +73,30 @@ pub faulted_is : (row : List ℕ) {end k m : ℕ} → m ≡ count (faulted_at ro
 unfolding faulted_in
 faulted_is row e q = e ∙ ap (λ (k : ℕ). count (faulted_at row) (span 0 k)) q
 
-abbrev pub marked_at : List ℕ → ℕ → Bool
-marked_at marks c = eqb (get_or marks c 0) 0
+-- ---- marks
 
-pub marked_is : (marks : List ℕ) (n : ℕ) {m : ℕ} → m ≡ count (marked_at marks) (span 0 n) → m ≡ marked_in marks n
+abbrev pub is_marked : ℕ → Bool
+is_marked m = eqb m 0
+
+-- along a part of the marks whose first is number k
+marks_from : (all xs : List ℕ) (k n : ℕ) → ((i : ℕ) → i < n → get_or all (k + i) 0 ≡ get_or xs i 0) → n ≤ length xs
+    → length (filter is_marked (take n xs)) ≡ count (λ c. is_marked (get_or all c 0)) (span k n)
+unfolding count span keep
+marks_from all xs k zero h l = refl
+marks_from all [] k (suc n) h l = absurd (not-suc-le-zero l)
+marks_from all (x ∷ xs) k (suc n) h l =
+    subst (λ (y : ℕ). length (filter is_marked (y ∷ take n xs)) ≡ length (keep (λ c. is_marked (get_or all c 0)) (k ∷ span (suc k) n))) here
+    (go (is_marked (get_or all k 0)) refl
+    (marks_from all xs (suc k) n (λ i b. ap (λ (j : ℕ). get_or all j 0) (suc-add k i ∙ sym (add-suc k i)) ∙ h (suc i) (omega arith)) (le_of_suc-le-suc l)))
+  where
+    here : get_or all k 0 ≡ x
+    here = ap (λ (j : ℕ). get_or all j 0) (sym (add-zero k)) ∙ h 0 (omega arith)
+
+    go : (b : Bool) → is_marked (get_or all k 0) ≡ b → length (filter is_marked (take n xs)) ≡ length (keep (λ c. is_marked (get_or all c 0)) (span (suc k) n))
+        → length (filter is_marked (get_or all k 0 ∷ take n xs)) ≡ length (keep (λ c. is_marked (get_or all c 0)) (k ∷ span (suc k) n))
+    go true e f = rw (e, keep) (ap suc f)
+    go false e f = rw (e, keep) f
+
+pub marked_is : (marks : List ℕ) (n : ℕ) → n ≤ length marks → length (filter is_marked (take n marks)) ≡ marked_in marks n
 unfolding marked_in
-marked_is marks n e = e
+marked_is marks n h = marks_from marks marks 0 n (λ i l. ap (λ (j : ℕ). get_or marks j 0) (zero-add i)) h

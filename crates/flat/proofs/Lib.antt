@@ -1,4 +1,3 @@
-pub mod Rewriting
 pub mod Counting
-pub mod Learning
+pub mod Rewriting
 pub mod Clearing

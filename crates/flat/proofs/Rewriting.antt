@@ -9,10 +9,11 @@ use native.Mathlib.Omega.{arith}
 use lib.Dec.{eqb, ltb, ltb→lt, nltb→le}
 use lib.ListN.{get_or}
 use borrow.Author.Tests.{ne_eqb, lt-ltb, le-ltb}
-use Rattle.spec.specs.Rules.{Verdict}
-use Rattle.spec.specs.Verdicts.{flat_lines, flat_rewritten}
+use Rattle.spec.specs.Rules.{Verdict, verdict_of}
+use Rattle.spec.specs.Verdicts.{verdict_at, user_verdict, flat_lines, flat_rewritten}
 use Rattle.laws.proofs.Bools.{false_t, true_t}
 use Rattle.theory.proofs.FlatRow.{rewritten_lines, rewritten_none, rewritten_same, rewritten_more}
+use Rattle.sheets.specs.Sheets.{Pair, groups, library_count}
 use Rattle.flat.specs.Row.{put_at, chosen}
 
 pub record Rewriting (nlib n : ℕ) (v : ℕ → Verdict) (marks before row : List ℕ) (c : ℕ) : Type 0 where
@@ -82,3 +83,8 @@ module _ {nlib n : ℕ} {v : ℕ → Verdict} {marks before row : List ℕ} {c :
 
   pub rewrite_end : n ≤ c → row ≡ flat_rewritten (chosen nlib n marks) v before
   rewrite_end h = let e : c ≡ n = omega (arith, f.high) in subst (λ (k : ℕ). row ≡ flat_rewritten (chosen nlib k marks) v before) e f.now
+
+-- the verdict of a user class is that of its place in the row
+pub own_verdict : (p : Pair) {c : ℕ} → library_count p ≤ c → verdict_of (library_count p) (groups p) c ≡ user_verdict p.library p.user (c - library_count p)
+unfolding user_verdict verdict_at
+own_verdict p {c} h = ap (verdict_of (library_count p) (groups p)) (let e : c ≡ library_count p + (c - library_count p) = omega arith in e)

@@ -9,6 +9,7 @@ use native.Mathlib.Omega.{arith}
 use lib.Dec.{eqb}
 use lib.ListN.{set, replicate}
 use borrow.Author.Tests.{eq-eqb, ne_eqb}
+use Rattle.std.specs.Prelude.{Option, None, Some}
 use Rattle.spec.specs.Sheet.{Group}
 use Rattle.spec.specs.Markers.{clash}
 use Rattle.spec.specs.Classes.{overlay}
@@ -34,12 +35,12 @@ module _ (c m : ℕ) {b : Bool} (e : b ≡ clash m) where
 -- ---- the walk
 
 -- the walk stands at class c: none before it is refused, and the memo knows those
-pub record Deeming (g : ℕ → Group) (nlib : ℕ) (memo : List ℕ) (c : ℕ) : Type 0 where
+pub record Deeming (g : ℕ → Group) (nlib : ℕ) (memo : List (Option ℕ)) (c : ℕ) : Type 0 where
   pub inside : c ≤ nlib
   pub rest : deemed_from g c (nlib - c) ≡ first_deemed g nlib
   pub memo_is : memo ≡ memo_of g c
 
-pub deem_begin : {g : ℕ → Group} {nlib : ℕ} {memo : List ℕ} → memo ≡ replicate 256 65535 → Deeming g nlib memo 0
+pub deem_begin : {g : ℕ → Group} {nlib : ℕ} {memo : List (Option ℕ)} → memo ≡ replicate 256 None → Deeming g nlib memo 0
 unfolding first_deemed
 deem_begin {g} {nlib} e =
     let z : nlib - 0 ≡ nlib = omega arith in record { inside = omega arith; rest = ap (deemed_from g 0) z; memo_is = e ∙ sym (memo_none g) }
@@ -52,11 +53,11 @@ pub from_on : (g : ℕ → Group) (c k : ℕ) → deemed_breaks c (overlay g c) 
 unfolding deemed_from
 from_on g c k e = rw (e, deemed_from)
 
-module _ {g : ℕ → Group} {nlib : ℕ} {memo : List ℕ} {c : ℕ} (d : Deeming g nlib memo c) where
+module _ {g : ℕ → Group} {nlib : ℕ} {memo : List (Option ℕ)} {c : ℕ} (d : Deeming g nlib memo c) where
   pub deem_asks : c < 256 → Knows g c memo
   deem_asks h = memo_asks g c c d.memo_is (le_refl c) h (omega arith)
 
-  module _ {m : ℕ} {b : Bool} {memo' : List ℕ} (few : nlib ≤ 256) (l : c < nlib) (em : m ≡ overlay g c) (eb : b ≡ deemed_breaks c m) (a : memo' ≡ set memo c (raw g c)) where
+  module _ {m : ℕ} {b : Bool} {memo' : List (Option ℕ)} (few : nlib ≤ 256) (l : c < nlib) (em : m ≡ overlay g c) (eb : b ≡ deemed_breaks c m) (a : memo' ≡ set memo c (Some (raw g c))) where
     here : deemed_breaks c (overlay g c) ≡ b
     here = sym (eb ∙ ap (deemed_breaks c) em)
 

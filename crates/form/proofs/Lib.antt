@@ -1,7 +1,5 @@
-pub mod Deeming
-pub mod Passes
 pub mod Parts
+pub mod Sheets
 pub mod DeemedRecords
-pub mod Alone
+pub mod Deeming
 pub mod Accepting
-pub mod Unrefused

@@ -1,1 +1,2 @@
 pub mod Form
+pub mod Accepting

@@ -1,97 +1,87 @@
-// The classes that a record names, read where it stands: 65535 is none. Along BUILDS alone, or along every record.
+// The classes that a record names: along BUILDS alone, or along every record.
 #![tactic(auto)]
 
-ghost use Rattle.std.specs.Prelude.{◌≡◌, true, false, ◌+◌, ◌≤◌, ◌<◌, length};
-ghost use Rattle.spec.specs.Lists.{elem};
-ghost use Rattle.spec.specs.Record.{ty_at, references};
-ghost use Rattle.records.specs.Records.{Sized, record_at};
-ghost use Rattle.named.specs.Named.{type_named, first_named, second_named};
+ghost use Rattle.std.specs.Prelude.{◌≡◌, [], ◌∷◌};
+ghost use Rattle.spec.specs.Lists.{elem, only_if};
+ghost use Rattle.spec.specs.Record.{is_kind, BUILDS, target, references, ty_references};
+ghost use Rattle.records.specs.Kinds.{spec_ty};
+ghost use Rattle.named.specs.Named.{listed, option_list, named_by, alone};
 
-use records::{
-    BUILDS, CLASS, CODE_AT, ENCLOSER_AT, FIELD, FIELD_TYPE_AT, KIND_AT, LOCAL, LOCAL_TYPE_AT,
-    MEMBER, NONE, SUPERCLASS_AT, TARGET_AT, TYPE_CLASS_AT, wide, word_in,
-};
+use records::record::{Body, Record, Ty};
 
-// The class of the type at i.
-fn type_named(bytes: &[u8], i: usize) -> usize
-    requires { (i + 3 < length bytes.now) × (length bytes.now ≤ 32768) }
-    ensures { result ≡ type_named (ty_at bytes.now i) }
+/// The classes that a record names, in their order: at most two.
+#[derive(Clone, Copy)]
+pub struct Targets {
+    pub first: Option<usize>,
+    pub second: Option<usize>,
+}
+
+/// The records that a search goes along.
+#[derive(Clone, Copy, PartialEq, Eq, Debug)]
+pub enum Along {
+    Builds,
+    Every,
+}
+
+fn alone(class: Option<usize>) -> Targets
+    ensures { result ≡ alone class }
 {
-    if bytes[i + CODE_AT] == 0 {
-        return wide(word_in(bytes, i + TYPE_CLASS_AT));
+    Targets {
+        first: class,
+        second: None,
     }
-    NONE
+}
+
+// The class of a type.
+fn type_named(ty: Ty) -> Option<usize>
+    ensures { option_list result ≡ ty_references (spec_ty ty) }
+{
+    if ty.code == 0 { Some(ty.class) } else { None }
 }
 
 // The class that a BUILDS record builds.
-fn built(bytes: &[u8], at: usize) -> usize
-    requires sized { Sized bytes.now at }
-    requires short { length bytes.now ≤ 32768 }
-    ensures { result ≡ first_named true (record_at bytes.now at) }
+fn built(record: &Record) -> Option<usize>
+    ensures { option_list result ≡ only_if (is_kind BUILDS record.now) (target record.now ∷ []) }
 {
-    if word_in(bytes, at + KIND_AT) == BUILDS {
-        return wide(word_in(bytes, at + TARGET_AT));
+    match record.body() {
+        Body::Builds(class) => Some(class),
+        _ => None,
     }
-    NONE
 }
 
-// The first class that the record at `at` names, of whatever kind.
-pub fn any_named(bytes: &[u8], at: usize) -> usize
-    requires sized { Sized bytes.now at }
-    requires short { length bytes.now ≤ 32768 }
-    ensures { result ≡ first_named false (record_at bytes.now at) }
+/// The classes that the record names.
+pub fn named(record: &Record) -> Targets
+    ensures { listed result ≡ references record.now }
 {
-    let kind = word_in(bytes, at + KIND_AT);
-    if kind == FIELD {
-        return type_named(bytes, at + FIELD_TYPE_AT);
+    match record.body() {
+        Body::Class(head) => Targets {
+            first: head.superclass,
+            second: head.encloser,
+        },
+        Body::Implements(class) => alone(Some(class)),
+        Body::Field { ty, .. } => alone(type_named(ty)),
+        Body::Local(ty) => alone(type_named(ty)),
+        Body::Uses { class, .. } => alone(Some(class)),
+        Body::Builds(class) => alone(Some(class)),
+        Body::Member { .. } => alone(None),
+        Body::Refers { class, .. } => alone(Some(class)),
     }
-    if kind == CLASS {
-        return wide(word_in(bytes, at + SUPERCLASS_AT));
-    }
-    if kind == LOCAL {
-        return type_named(bytes, at + LOCAL_TYPE_AT);
-    }
-    if kind == MEMBER {
-        return NONE;
-    }
-    wide(word_in(bytes, at + TARGET_AT))
 }
 
-// The first class that the record at `at` names. Small, so that a search along BUILDS reads little.
-pub fn first_named(bytes: &[u8], at: usize, builds: bool) -> usize
-    requires sized { Sized bytes.now at }
-    requires short { length bytes.now ≤ 32768 }
-    ensures { result ≡ first_named builds (record_at bytes.now at) }
+/// The same, of a search: along BUILDS no other record names any.
+pub fn named_along(record: &Record, along: Along) -> Targets
+    ensures { listed result ≡ named_by along record.now }
 {
-    if builds {
-        return built(bytes, at);
+    match along {
+        Along::Every => named(record),
+        Along::Builds => alone(built(record)),
     }
-    any_named(bytes, at)
 }
 
-// The second one.
-pub fn second_named(bytes: &[u8], at: usize, builds: bool) -> usize
-    requires sized { Sized bytes.now at }
-    requires short { length bytes.now ≤ 32768 }
-    ensures { result ≡ second_named builds (record_at bytes.now at) }
+/// Whether the record names class t.
+pub fn names(record: &Record, t: usize) -> bool
+    ensures { result ≡ elem t (references record.now) }
 {
-    if builds {
-        return NONE;
-    }
-    if word_in(bytes, at + KIND_AT) == CLASS {
-        return wide(word_in(bytes, at + ENCLOSER_AT));
-    }
-    NONE
-}
-
-// Whether the record names class t.
-pub fn names(bytes: &[u8], at: usize, t: usize) -> bool
-    requires sized { Sized bytes.now at }
-    requires short { (length bytes.now ≤ 32768) × (t < 65535) }
-    ensures { result ≡ elem t (references (record_at bytes.now at)) }
-{
-    if any_named(bytes, at) == t {
-        return true;
-    }
-    second_named(bytes, at, false) == t
+    let named = named(record);
+    named.first == Some(t) || named.second == Some(t)
 }

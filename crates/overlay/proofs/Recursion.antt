@@ -1,71 +1,116 @@
--- The recursion over supertypes: a class as seen from another, and what a class gathers from its superclass and its interfaces.
+-- What a class asks has lower numbers, and what it gathers from its superclass and its interfaces.
 -- Assumes nothing.
-use mathlib.Core.Path.{◌≡◌, refl, sym, ap, ap₂, ◌∙◌, subst}
+use mathlib.Core.Path.{◌≡◌, refl, sym, ap, ◌∙◌, subst}
 use mathlib.Core.Bool.{Bool, true, false}
-use mathlib.Core.List.{List, [], ◌∷◌, map, append-nil, map-append}
-use Prim.Native.Nat.{ℕ, suc, ◌≤◌, ◌<◌}
+use mathlib.Core.List.{List, [], ◌∷◌, ◌++◌, map, append-nil, map-append}
+use Prim.Native.Nat.{ℕ, suc, ◌<◌}
 use native.Mathlib.Nat.{le_refl}
-use native.Mathlib.Omega.{arith}
-use lib.Dec.{T, eqb, eqb→eq}
-use borrow.Author.Tests.{lt-ltb, le-ltb}
+use lib.Dec.{T, eqb}
+use Rattle.std.specs.Prelude.{Option, None, Some}
+use Rattle.std.proofs.Math.Option.{none}
 use Rattle.spec.specs.Lists.{gather}
-use Rattle.spec.specs.Record.{u16, none16, IMPLEMENTS, own_markers, superclass, unless_none}
-use Rattle.spec.specs.Sheet.{Group, class_record}
+use Rattle.spec.specs.Record.{is_kind, IMPLEMENTS, own_markers, superclass, target, unless_none}
+use Rattle.spec.specs.Sheet.{Group, class_record, of_kind}
 use Rattle.spec.specs.Markers.{union, union_all}
 use Rattle.spec.specs.Classes.{superclasses, targets, supertypes, gathered}
-use Rattle.spec.specs.Refusals.{one_class}
-use Rattle.laws.proofs.All.{map_cong}
-use Rattle.theory.proofs.Falls.{Falls}
+use Rattle.spec.specs.Refusals.{form_refusal, one_class}
+use Rattle.laws.proofs.All.{All, map_cong, all_left, all_right, keep_yes, keep_no}
+use Rattle.records.specs.Kinds.{Reads, optional, head_of}
+use Rattle.records.specs.declared.record.Head.{Head}
+use Rattle.records.specs.declared.record.Body.{Body}
+use Rattle.records.specs.declared.record.Body.TheVariants as B
+use Rattle.records.proofs.Bodies.{is_of, is_not, not_implements}
+use Rattle.sheets.specs.Sheets.{Pair, groups, count, library_count}
+use Rattle.theory.proofs.Accept.{form_fits}
+use Rattle.theory.proofs.Falls.{Falls, falls}
+use Rattle.theory.proofs.Form.{one_record, group_one_class}
 use Rattle.theory.proofs.Overlay.{gathered_enough, supertypes_lower}
-use Rattle.theory.proofs.Form.{one_record}
-use Rattle.overlay.specs.Memo.{raw, lower_raw, with_interfaces}
+use Rattle.overlay.specs.Memo.{raw, with_interfaces}
 use Rattle.overlay.proofs.Unions.{union_assoc, union_zero, union_append}
 
--- ---- a class as seen from another
+-- class numbers fall where both passes passed
+pub formed_falls : (p : Pair) → form_refusal p.library p.user ≡ none → Falls (groups p)
+formed_falls p e = falls (library_count p) (count p) (groups p) (form_fits p.library p.user e)
 
-pub lower_none : (g : ℕ → Group) (c i : ℕ) → c ≤ i → 0 ≡ lower_raw g c i
-unfolding lower_raw
-lower_none g c i h = rw (le-ltb i c h, lower_raw)
+-- no class, or the one
+abbrev listed : Option ℕ → List ℕ
+listed None = []
+listed (Some s) = s ∷ []
 
-pub lower_is : (g : ℕ → Group) (c i : ℕ) → i < c → raw g i ≡ lower_raw g c i
-unfolding lower_raw
-lower_is g c i h = rw (lt-ltb i c h, lower_raw)
-
--- ---- what a class gathers
-
--- 65535 is no class, and no lower one
-none_lower : (g : ℕ → Group) (c x : ℕ) → c < 256 → union_all (map (lower_raw g c) (unless_none x)) ≡ lower_raw g c x
-unfolding unless_none union_all
-none_lower g c x h = go (eqb x none16) refl
+superclasses_are : (h : Group) → T (one_class h) → superclasses h ≡ listed (optional (superclass (class_record h)))
+unfolding superclasses gather unless_none
+superclasses_are h o =
+    ap (gather (λ r. unless_none (superclass r))) (one_record h o) ∙ append-nil (unless_none (superclass (class_record h)))
+    ∙ go (superclass (class_record h)) (eqb (superclass (class_record h)) 65535)
   where
-    go : (b : Bool) → eqb x none16 ≡ b → union_all (map (lower_raw g c) (elim b as (λ (y : Bool). List ℕ) [ true ↦ [] | false ↦ x ∷ [] ])) ≡ lower_raw g c x
-    go true e = let q : x ≡ 65535 = eqb→eq x none16 (subst T (sym e) tt) in lower_none g c x (omega arith)
-    go false e = union_zero (lower_raw g c x)
+    go : (s : ℕ) (b : Bool) → elim b as (λ (x : Bool). List ℕ) [ true ↦ [] | false ↦ s ∷ [] ]
+        ≡ listed (elim b as (λ (x : Bool). Option ℕ) [ true ↦ None | false ↦ Some s ])
+    go s true = refl
+    go s false = refl
 
-supers_one : (h : Group) → T (one_class h) → superclasses h ≡ unless_none (superclass (class_record h))
-unfolding superclasses gather
-supers_one h o = ap (gather (λ r. unless_none (superclass r))) (one_record h o) ∙ append-nil (unless_none (superclass (class_record h)))
+-- ---- the interfaces that records list
 
-module _ (g : ℕ → Group) (f : Falls g) where
-  raw_step : (c : ℕ) → raw g c ≡ union (own_markers (class_record (g c))) (union_all (map (lower_raw g c) (supertypes (g c))))
+module _ {rs rest : List (List ℕ)} {r : List ℕ} (e : rs ≡ r ∷ rest) (b : Body) (says : Reads r b) where
+  pub lists : {i : ℕ} → b ≡ B.Implements i → targets IMPLEMENTS rs ≡ i ∷ targets IMPLEMENTS rest
+  unfolding targets of_kind
+  lists {i} q =
+      let h : Reads r (B.Implements i) = subst (Reads r) q says in
+      ap (targets IMPLEMENTS) e ∙ ap (map target) (keep_yes (is_kind IMPLEMENTS) r rest (is_of r (B.Implements i) h refl)) ∙ ap (λ (x : ℕ). x ∷ targets IMPLEMENTS rest) (sym h.1)
+
+  pub lists_none : ((i : ℕ) → b ≡ B.Implements i → ⊥) → targets IMPLEMENTS rs ≡ targets IMPLEMENTS rest
+  unfolding targets of_kind
+  lists_none n = ap (targets IMPLEMENTS) e ∙ ap (map target) (keep_no (is_kind IMPLEMENTS) r rest (is_not r b says (not_implements b n)))
+
+-- ---- a class of two sheets that passed both passes, by what its CLASS record says
+
+module _ (p : Pair) (formed : form_refusal p.library p.user ≡ none) (c : ℕ) where
+  abbrev g : ℕ → Group
+  g = groups p
+
+  below : All (λ e. e < c) (supertypes (g c))
+  below = supertypes_lower g (formed_falls p formed) c
+
+  pub interfaces_lower : All (λ e. e < c) (targets IMPLEMENTS (g c))
+  unfolding supertypes
+  interfaces_lower = all_right (λ e. e < c) (superclasses (g c)) (targets IMPLEMENTS (g c)) below
+
+  raw_step : raw g c ≡ union (own_markers (class_record (g c))) (union_all (map (raw g) (supertypes (g c))))
   unfolding raw gathered
-  raw_step c =
+  raw_step =
       ap (λ (ms : List ℕ). union (own_markers (class_record (g c))) (union_all ms))
-      (map_cong (λ e. e < c) (gathered g c) (lower_raw g c) (λ e q. gathered_enough g f c (suc e) e q (le_refl (suc e)) ∙ lower_is g c e q) (supertypes (g c)) (supertypes_lower g f c))
+      (map_cong (λ e. e < c) (gathered g c) (raw g) (λ e q. gathered_enough g (formed_falls p formed) c (suc e) e q (le_refl (suc e))) (supertypes (g c)) below)
 
-  pub raw_is : (c : ℕ) → c < 256 → T (one_class (g c)) → {mine x up set m : ℕ} → mine ≡ own_markers (class_record (g c)) → x ≡ u16 (class_record (g c)) 8 → up ≡ lower_raw g c x
-      → set ≡ union mine up → m ≡ with_interfaces g c set → m ≡ raw g c
-  unfolding with_interfaces supertypes superclass union
-  raw_is c h o {mine} {x} {up} em ex eu es e =
-      let own : ℕ = own_markers (class_record (g c)) in
-      let above : ℕ = lower_raw g c (u16 (class_record (g c)) 8) in
-      let rest : ℕ = union_all (map (lower_raw g c) (targets IMPLEMENTS (g c))) in
-      e
-      ∙ ap (λ (a : ℕ). union a rest) es
-      ∙ ap₂ (λ (a b : ℕ). union (union a b) rest) em (eu ∙ ap (lower_raw g c) ex)
-      ∙ union_assoc own above rest
-      ∙ ap (union own)
-      (ap (λ (y : ℕ). union y rest) (sym (none_lower g c (u16 (class_record (g c)) 8) h) ∙ ap (λ (l : List ℕ). union_all (map (lower_raw g c) l)) (sym (supers_one (g c) o)))
-      ∙ sym (union_append (map (lower_raw g c) (superclasses (g c))) (map (lower_raw g c) (targets IMPLEMENTS (g c))))
-      ∙ ap union_all (sym (map-append (lower_raw g c) (superclasses (g c)) (targets IMPLEMENTS (g c)))))
-      ∙ sym (raw_step c)
+  module _ (there : c < count p) {records : Group} (here : records ≡ g c) {head : Head} (says : head ≡ head_of (class_record records)) where
+    is : head ≡ head_of (class_record (g c))
+    is = says ∙ ap (λ (h : Group). head_of (class_record h)) here
+
+    supers : superclasses (g c) ≡ listed head.superclass
+    supers = superclasses_are (g c) (group_one_class p.library p.user c there) ∙ ap (λ (h : Head). listed h.superclass) (sym is)
+
+    raw_is : with_interfaces g c (union head.markers (union_all (map (raw g) (listed head.superclass)))) ≡ raw g c
+    unfolding with_interfaces supertypes
+    raw_is =
+        let above : List ℕ = map (raw g) (listed head.superclass) in
+        let beside : List ℕ = targets IMPLEMENTS (g c) in
+        union_assoc head.markers (union_all above) (union_all (map (raw g) beside))
+        ∙ ap (union head.markers)
+        (sym (union_append above (map (raw g) beside)) ∙ ap union_all (sym (map-append (raw g) (listed head.superclass) beside))
+        ∙ ap (λ (ss : List ℕ). union_all (map (raw g) (ss ++ beside))) (sym supers))
+        ∙ ap (λ (h : Head). union h.markers (union_all (map (raw g) (supertypes (g c))))) is
+        ∙ sym raw_step
+
+    module _ {s : ℕ} (e : head.superclass ≡ Some s) where
+      pub superclass_lower : s < c
+      unfolding supertypes
+      superclass_lower = (subst (All (λ e. e < c)) (supers ∙ ap listed e) (all_left (λ e. e < c) (superclasses (g c)) (targets IMPLEMENTS (g c)) below)).0
+
+      pub raw_above : {up mine m : ℕ} → up ≡ raw g s → mine ≡ union head.markers up → m ≡ with_interfaces g c mine → m ≡ raw g c
+      unfolding union_all
+      raw_above u q w =
+          w ∙ ap (with_interfaces g c) (q ∙ ap (union head.markers) (u ∙ sym (union_zero (raw g s)) ∙ ap (λ (o : Option ℕ). union_all (map (raw g) (listed o))) (sym e)))
+          ∙ raw_is
+
+    pub raw_alone : head.superclass ≡ None → {mine m : ℕ} → mine ≡ head.markers → m ≡ with_interfaces g c mine → m ≡ raw g c
+    unfolding union_all
+    raw_alone e q w =
+        w ∙ ap (with_interfaces g c) (q ∙ sym (union_zero head.markers) ∙ ap (λ (o : Option ℕ). union head.markers (union_all (map (raw g) (listed o)))) (sym e)) ∙ raw_is

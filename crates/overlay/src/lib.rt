@@ -2,245 +2,109 @@
 // Classes are asked in rising order, so that a class finds its supertypes there: each is computed once, and no call is deep.
 #![tactic(auto)]
 
-ghost use Rattle.std.specs.Prelude.{◌≡◌, ℕ, ◌+◌, ◌≤◌, ◌<◌, min, max, length, get_or, set};
-ghost use Rattle.spec.specs.Record.{ty_at};
-ghost use Rattle.spec.specs.Sheet.{Group, group as group_of};
+ghost use Rattle.std.specs.Prelude.{◌≡◌, Some, ◌+◌, ◌<◌, max, length, get_or, set};
 ghost use Rattle.spec.specs.Classes.{overlay as overlay_of};
-ghost use Rattle.theory.proofs.Falls.{Falls};
-ghost use Rattle.records.specs.Records.{Carries};
-ghost use Rattle.groups.specs.Groups.{Indexed};
-ghost use Rattle.overlay.specs.Memo.{raw, lower_raw, with_interfaces, memo_of, Knows};
+ghost use Rattle.records.specs.Kinds.{spec_ty};
+ghost use Rattle.sheets.specs.Sheets.{count, groups, library_count};
+ghost use Rattle.overlay.specs.Memo.{raw, with_interfaces, memo_of, Knows};
 ghost use Rattle.overlay.specs.Types.{Known, row_markers};
 
-use groups::{Classes, class_bytes};
 use markers::{ALL, closure, union};
-use records::{
-    CLASS_LIMIT, CODE_AT, IMPLEMENTS, KIND_AT, MARKERS_AT, SUPERCLASS_AT, TARGET_AT, TYPE_CLASS_AT,
-    wide, word_in,
-};
-
-// What the memo holds of a class that was not asked yet; a smaller number than SETS is a set of markers.
-pub const UNASKED: u16 = 65535;
-
-const SETS: u16 = 256;
-
-// The bytes of class c. The three functions below call each other and so cannot choose the ghost value of `class_bytes`: it is chosen here.
-fn bytes_of<'a>(
-    library: &'a [u8],
-    user: &'a [u8],
-    starts: &[u16],
-    classes: Classes,
-    c: usize,
-) -> &'a [u8]
-    requires indexed { Indexed library.now user.now classes.library classes.all starts.now }
-    requires there { c < classes.all }
-    ensures { Carries result.now (group_of library.now user.now c) }
-{
-    class_bytes(library, user, starts, classes, c)
-}
-
-// Class i as seen from class c: what is gathered for it if it is lower, else nothing.
-#[cycle(supertypes)]
-fn lower<'a>(
-    library: &'a [u8],
-    user: &'a [u8],
-    starts: &[u16],
-    classes: Classes,
-    c: usize,
-    i: usize,
-    memo: &mut [u16],
-) -> u8
-    requires indexed { Indexed library.now user.now classes.library classes.all starts.now }
-    requires falls { Falls (group_of library.now user.now) }
-    requires there { c < classes.all }
-    requires knows { Knows (group_of library.now user.now) c memo.old }
-    ensures markers { result ≡ lower_raw (group_of library.now user.now) c i }
-    ensures memo { memo.new ≡ memo.old }
-{
-    if c <= i {
-        return 0;
-    }
-    gathered(library, user, starts, classes, i, memo)
-}
+use records::record::{Body, Ty};
+use sheets::formed::Formed;
 
 // The own markers of class c and of all its supertypes, unless the memo has them.
 #[cycle(supertypes)]
-fn gathered<'a>(
-    library: &'a [u8],
-    user: &'a [u8],
-    starts: &[u16],
-    classes: Classes,
-    c: usize,
-    memo: &mut [u16],
-) -> u8
-    requires indexed { Indexed library.now user.now classes.library classes.all starts.now }
-    requires falls { Falls (group_of library.now user.now) }
-    requires there { c < classes.all }
-    requires knows { Knows (group_of library.now user.now) c memo.old }
-    ensures markers { result ≡ raw (group_of library.now user.now) c }
-    ensures memo { memo.new ≡ set memo.old c (raw (group_of library.now user.now) c) }
+fn gathered(formed: &Formed, c: usize, memo: &mut [Option<u8>]) -> u8
+    requires there { c < count formed.now.sheets }
+    requires knows { Knows (groups formed.now.sheets) c memo.old }
+    ensures markers { result ≡ raw (groups formed.now.sheets) c }
+    ensures memo { memo.new ≡ set memo.old c (Some (raw (groups formed.now.sheets) c)) }
 {
-    let known = memo[c];
-    if known < SETS {
-        return known as u8;
+    if let Some(known) = memo[c] {
+        return known;
     }
-    let bytes = bytes_of(library, user, starts, classes, c);
-    let own = bytes[MARKERS_AT];
-    let above = wide(word_in(bytes, SUPERCLASS_AT));
-    let up = lower(library, user, starts, classes, c, above, memo);
-    let m = interfaces(library, user, starts, classes, c, union(own, up), memo);
-    memo[c] = m as u16;
-    m
+    let head = formed.sheets.group(c).head();
+    let mut mine = head.markers;
+    if let Some(above) = head.superclass {
+        mine = union(mine, gathered(formed, above, memo));
+    }
+    let markers = interfaces(formed, c, mine, memo);
+    memo[c] = Some(markers);
+    markers
 }
 
 // The set `mine` joined with what is gathered for the interfaces that class c lists.
 #[cycle(supertypes)]
-fn interfaces<'a>(
-    library: &'a [u8],
-    user: &'a [u8],
-    starts: &[u16],
-    classes: Classes,
-    c: usize,
-    mine: u8,
-    memo: &mut [u16],
-) -> u8
-    requires indexed { Indexed library.now user.now classes.library classes.all starts.now }
-    requires falls { Falls (group_of library.now user.now) }
-    requires there { c < classes.all }
-    requires knows { Knows (group_of library.now user.now) c memo.old }
-    ensures markers { result ≡ with_interfaces (group_of library.now user.now) c mine }
+fn interfaces(formed: &Formed, c: usize, mine: u8, memo: &mut [Option<u8>]) -> u8
+    requires there { c < count formed.now.sheets }
+    requires knows { Knows (groups formed.now.sheets) c memo.old }
+    ensures markers { result ≡ with_interfaces (groups formed.now.sheets) c mine }
     ensures memo { memo.new ≡ memo.old }
 {
-    let bytes = bytes_of(library, user, starts, classes, c);
-    let mut at = 0;
-    let mut m = mine;
-    while at < bytes.len() {
-        let size = wide(word_in(bytes, at));
-        let kind = word_in(bytes, at + KIND_AT);
-        if kind == IMPLEMENTS {
-            let i = wide(word_in(bytes, at + TARGET_AT));
-            m = union(m, lower(library, user, starts, classes, c, i, memo));
+    let mut markers = mine;
+    for record in formed.sheets.group(c).records() {
+        if let Body::Implements(interface) = record.body() {
+            markers = union(markers, gathered(formed, interface, memo));
         }
-        at += size;
     }
-    m
+    markers
 }
 
-// The overlay markers of class c.
-pub fn overlay<'a>(
-    library: &'a [u8],
-    user: &'a [u8],
-    starts: &[u16],
-    classes: Classes,
-    c: usize,
-    memo: &mut [u16],
-) -> u8
-    ghost g: { ℕ → Group }
-    requires groups { group_of library.now user.now ≡ g }
-    requires indexed { Indexed library.now user.now classes.library classes.all starts.now }
-    requires falls { Falls g }
-    requires there { c < classes.all }
-    requires knows { Knows g c memo.old }
-    ensures markers { result ≡ overlay_of g c }
-    ensures memo { memo.new ≡ set memo.old c (raw g c) }
+/// The overlay markers of class c.
+pub fn overlay(formed: &Formed, c: usize, memo: &mut [Option<u8>]) -> u8
+    requires there { c < count formed.now.sheets }
+    requires knows { Knows (groups formed.now.sheets) c memo.old }
+    ensures markers { result ≡ overlay_of (groups formed.now.sheets) c }
+    ensures memo { memo.new ≡ set memo.old c (Some (raw (groups formed.now.sheets) c)) }
 {
-    let open = gathered(library, user, starts, classes, c, memo);
-    let closed = closure(open);
-    closed
+    let open = gathered(formed, c, memo);
+    closure(open)
 }
 
-// The overlay markers of class c, where the memo knows the library classes. The user classes below c are asked first, so that each finds its supertypes
-// in the memo and no call is deep.
-pub fn overlay_in_turn<'a>(
-    library: &'a [u8],
-    user: &'a [u8],
-    starts: &[u16],
-    classes: Classes,
-    c: usize,
-    memo: &mut [u16],
-) -> u8
-    ghost g: { ℕ → Group }
-    requires groups { group_of library.now user.now ≡ g }
-    requires indexed { Indexed library.now user.now classes.library classes.all starts.now }
-    requires falls { Falls g }
-    requires there { c < classes.all }
-    requires memo { memo.old ≡ memo_of g classes.library }
-    ensures markers { result ≡ overlay_of g c }
-    ensures memo { memo.new ≡ memo_of g (max classes.library (c + 1)) }
+/// The overlay markers of class c, where the memo knows the library classes. The user classes below c are asked first, so that each finds its supertypes
+/// in the memo and no call is deep.
+pub fn overlay_in_turn(formed: &Formed, c: usize, memo: &mut [Option<u8>]) -> u8
+    requires there { c < count formed.now.sheets }
+    requires memo { memo.old ≡ memo_of (groups formed.now.sheets) (library_count formed.now.sheets) }
+    ensures markers { result ≡ overlay_of (groups formed.now.sheets) c }
+    ensures memo { memo.new ≡ memo_of (groups formed.now.sheets) (max (library_count formed.now.sheets) (c + 1)) }
 {
-    let mut d = classes.library;
-    while d < c {
-        gathered(library, user, starts, classes, d, memo);
-        d += 1;
+    let first = formed.sheets.library_count();
+    for below in first..c {
+        gathered(formed, below, memo);
     }
-    overlay(library, user, starts, classes, c, memo)
+    overlay(formed, c, memo)
 }
 
-// The overlay markers of class c, none if there is no such class.
-fn overlay_or_none<'a>(
-    library: &'a [u8],
-    user: &'a [u8],
-    starts: &[u16],
-    classes: Classes,
-    c: usize,
-    memo: &mut [u16],
-) -> u8
-    ghost g: { ℕ → Group }
-    requires groups { group_of library.now user.now ≡ g }
-    requires indexed { Indexed library.now user.now classes.library classes.all starts.now }
-    requires falls { Falls g }
-    requires memo { memo.old ≡ memo_of g (max classes.library (min c classes.all)) }
-    ensures markers { result ≡ overlay_of g c }
-    ensures memo { memo.new ≡ memo_of g (max classes.library (min (c + 1) classes.all)) }
-{
-    if classes.all <= c {
-        return 0;
-    }
-    overlay(library, user, starts, classes, c, memo)
-}
-
-// Writes the overlay markers of each class, 0 past the last one.
-pub fn overlays<'a>(
-    library: &'a [u8],
-    user: &'a [u8],
-    starts: &[u16],
-    classes: Classes,
-    memo: &mut [u16],
-    row: &mut [u8],
-)
-    ghost g: { ℕ → Group }
-    requires groups { group_of library.now user.now ≡ g }
-    requires indexed { Indexed library.now user.now classes.library classes.all starts.now }
-    requires falls { Falls g }
-    requires memo { memo.old ≡ memo_of g classes.library }
+/// Writes the overlay markers of each class, 0 past the last one.
+pub fn overlays(formed: &Formed, memo: &mut [Option<u8>], row: &mut [u8])
+    requires memo { memo.old ≡ memo_of (groups formed.now.sheets) (library_count formed.now.sheets) }
     requires row { length row.old ≡ 256 }
-    ensures row { Known g row.new }
-    ensures memo { memo.new ≡ memo_of g classes.all }
+    ensures row { Known (groups formed.now.sheets) row.new }
+    ensures memo { memo.new ≡ memo_of (groups formed.now.sheets) (count formed.now.sheets) }
 {
-    let mut c = 0;
-    while c < CLASS_LIMIT {
-        row[c] = overlay_or_none(library, user, starts, classes, c, memo);
-        c += 1;
+    let (there, past) = row.split_at_mut(formed.sheets.count());
+    for (c, markers) in there.iter_mut().enumerate() {
+        *markers = overlay(formed, c, memo);
     }
+    past.fill(0);
 }
 
-// The set that the row holds for class c.
+/// The set that the row holds for class c.
 pub fn known(row: &[u8], c: usize) -> u8
     ensures { result ≡ get_or row.now c 0 }
 {
-    if c < row.len() { row[c] } else { 0 }
+    row.get(c).copied().unwrap_or(0)
 }
 
-// The markers that the type at i satisfies, by the row of all classes' markers: those of its class, all if it is primitive, none if it is an array.
-pub fn type_markers(bytes: &[u8], i: usize, row: &[u8]) -> u8
-    requires { (i + 3 < length bytes.now) × (length bytes.now ≤ 32768) }
-    ensures { result ≡ row_markers row.now (ty_at bytes.now i) }
+/// The markers that a type satisfies, by the row of all classes' markers: those of its class, all if it is primitive, none if it is an array.
+pub fn type_markers(ty: Ty, row: &[u8]) -> u8
+    ensures { result ≡ row_markers row.now (spec_ty ty) }
 {
-    if bytes[i] != 0 {
-        return 0;
+    match (ty.dims, ty.code) {
+        (0, 0) => known(row, ty.class),
+        (0, _) => ALL,
+        _ => 0,
     }
-    if bytes[i + CODE_AT] != 0 {
-        return ALL;
-    }
-    known(row, wide(word_in(bytes, i + TYPE_CLASS_AT)))
 }

@@ -4,10 +4,10 @@ use mathlib.Core.Path.{◌≡◌, refl, sym, ap, ap₂, ◌∙◌, subst}
 use mathlib.Core.Bool.{Bool, true, false}
 use mathlib.Core.List.{List, [], ◌∷◌, ◌++◌, map, map-append, append-nil}
 use mathlib.Core.Option.{Option, none, some}
-use Prim.Native.Nat.{ℕ, suc, ◌+◌}
+use Prim.Native.Nat.{ℕ, ◌+◌}
 use native.Mathlib.Nat.{add-zero, add_assoc}
 use native.Mathlib.Omega.{arith}
-use lib.ListN.{length, set, length-append}
+use lib.ListN.{length, length-append}
 use lib.Dec.{T}
 use borrow.Author.Tests.{eq-eqb}
 use Rattle.spec.specs.Lists.{concat, first_of}
@@ -17,13 +17,13 @@ use Rattle.spec.specs.Refusals.{Refusal, refuse_if, refuse_record, record_tests,
 use Rattle.laws.proofs.All.{All, all_append, all_map}
 use Rattle.theory.proofs.Cut.{concat_append, split_class, split_other, split_join, IsGroup, group_one, records_of_groups, count_of_join, whole_join}
 use Rattle.theory.proofs.Answers.{first_append, first_only, keep_head}
-use Rattle.pass.specs.Pass.{place, pass_refusal, shifted, fill, filled}
-use Rattle.pass.proofs.Places.{answer, class_place, other_place, place_class, place_other, classes_after, records_after, locate_class, locate_other, locate_cons}
-use Rattle.pass.proofs.Starts.{fill_class, fill_other}
+use Rattle.pass.specs.Pass.{place, classes_after, records_after, pass_refusal, shifted, fill, filled}
+use Rattle.pass.proofs.Places.{answer, locate_class, carried, locate_cons}
+use Rattle.pass.proofs.Starts.{row_after, fill_cons}
 
 -- ---- refusals further on
 
-first_shifted : (d : ℕ) (o : Option Refusal) (os os' : List (Option Refusal)) → first_of os' ≡ shifted d (first_of os) → first_of (shifted d o ∷ os') ≡ shifted d (first_of (o ∷ os))
+pub first_shifted : (d : ℕ) (o : Option Refusal) (os os' : List (Option Refusal)) → first_of os' ≡ shifted d (first_of os) → first_of (shifted d o ∷ os') ≡ shifted d (first_of (o ∷ os))
 unfolding first_of
 first_shifted d none os os' e = e
 first_shifted d (some r) os os' e = refl
@@ -37,18 +37,14 @@ tests_shifted d sheet at ((n, false) ∷ ts) = tests_shifted d sheet at ts
 
 -- the tests of a record do not ask for its byte
 answer_shifted : (d sheet at n k b : ℕ) (r : List ℕ) → answer record_tests (place sheet (d + at) n k b r) ≡ shifted d (answer record_tests (place sheet at n k b r))
-unfolding answer refuse_record record_tests
-answer_shifted d sheet at n k b r = go (is_class r) refl
-  where
-    go : (c : Bool) → is_class r ≡ c → answer record_tests (place sheet (d + at) n k b r) ≡ shifted d (answer record_tests (place sheet at n k b r))
-    go true e = rw (place_class sheet (d + at) n k b r e, place_class sheet at n k b r e) (tests_shifted d sheet at (record_tests (class_place sheet at n k b r)))
-    go false e = rw (place_other sheet (d + at) n k b r e, place_other sheet at n k b r e) (tests_shifted d sheet at (record_tests (other_place sheet at n k b r)))
+unfolding answer refuse_record record_tests place
+answer_shifted d sheet at n k b r = tests_shifted d sheet at (record_tests (place sheet at n k b r))
 
 -- the first answer along some records
-abbrev along : ℕ → ℕ → ℕ → ℕ → ℕ → List (List ℕ) → Option Refusal
+abbrev pub along : ℕ → ℕ → ℕ → ℕ → ℕ → List (List ℕ) → Option Refusal
 along sheet at n k b rs = first_of (map (answer record_tests) (locate sheet at n k b rs))
 
-along_shifted : (d sheet at n k b : ℕ) (rs : List (List ℕ)) → along sheet (d + at) n k b rs ≡ shifted d (along sheet at n k b rs)
+pub along_shifted : (d sheet at n k b : ℕ) (rs : List (List ℕ)) → along sheet (d + at) n k b rs ≡ shifted d (along sheet at n k b rs)
 along_shifted d sheet at n k b [] = unfold locate first_of in refl
 along_shifted d sheet at n k b (r ∷ rs) =
     let n' : ℕ = classes_after (is_class r) n in
@@ -71,48 +67,47 @@ open_anywhere sheet at n k b (r ∷ rs) o = go (is_class r) refl
     go false e = let q = sym (ap (λ (t : Split). t.loose) (split_other r rs e)) ∙ o in absurd (let z : ◌≡◌ {A = ℕ} 0 1 = cc in omega arith)
 
 -- the groups that some records make
-abbrev count : List (List ℕ) → ℕ
+abbrev pub count : List (List ℕ) → ℕ
 count rs = length (split_groups rs).groups
 
 module _ (r : List ℕ) (rs : List (List ℕ)) where
-  count_class : is_class r ≡ true → count (r ∷ rs) ≡ suc (count rs)
-  count_class e = ap (λ (t : Split). length t.groups) (split_class r rs e)
-
-  count_other : is_class r ≡ false → count (r ∷ rs) ≡ count rs
-  count_other e = ap (λ (t : Split). length t.groups) (split_other r rs e)
+  pub count_cons : count (r ∷ rs) ≡ classes_after (is_class r) (count rs)
+  count_cons = go (is_class r) refl
+    where
+      go : (b : Bool) → is_class r ≡ b → count (r ∷ rs) ≡ classes_after b (count rs)
+      go true e = ap (λ (t : Split). length t.groups) (split_class r rs e)
+      go false e = ap (λ (t : Split). length t.groups) (split_other r rs e)
 
   long_cons : (at : ℕ) → at + length (concat (r ∷ rs)) ≡ at + length r + length (concat rs)
   unfolding concat
   long_cons at = omega (arith, length-append r (concat rs))
 
 -- what is located in two lists is located in each, the second further on
-abbrev Apart : ℕ → ℕ → ℕ → ℕ → ℕ → List (List ℕ) → List (List ℕ) → Type 0
-Apart sheet at n k b rs rs' = locate sheet at n k b (rs ++ rs') ≡ locate sheet at n k b rs ++ locate sheet (at + length (concat rs)) (n + count rs) 0 0 rs'
-
-locate_append : (sheet at n k b : ℕ) (rs rs' : List (List ℕ)) → Opens rs' → Apart sheet at n k b rs rs'
+locate_append : (sheet at n k b : ℕ) (rs rs' : List (List ℕ)) → Opens rs'
+    → locate sheet at n k b (rs ++ rs') ≡ locate sheet at n k b rs ++ locate sheet (at + length (concat rs)) (n + count rs) 0 0 rs'
 locate_append sheet at n k b [] rs' o = unfold locate concat split_groups in rw (add-zero at, add-zero n) (open_anywhere sheet at n k b rs' o)
 locate_append sheet at n k b (r ∷ rs) rs' o =
-    go (is_class r) refl (locate_append sheet (at + length r) (suc n) 1 (kind r) rs rs' o) (locate_append sheet (at + length r) n (suc k) (kind r) rs rs' o)
-  where
-    go : (c : Bool) → is_class r ≡ c → Apart sheet (at + length r) (suc n) 1 (kind r) rs rs' → Apart sheet (at + length r) n (suc k) (kind r) rs rs' → Apart sheet at n k b (r ∷ rs) rs'
-    go true e f g =
-        let q : n + count (r ∷ rs) ≡ suc n + count rs = omega (arith, count_class r rs e) in
-        rw (locate_class sheet at n k b r (rs ++ rs') e, locate_class sheet at n k b r rs e, long_cons r rs at, q, f)
-    go false e f g = rw (locate_other sheet at n k b r (rs ++ rs') e, locate_other sheet at n k b r rs e, long_cons r rs at, count_other r rs e, g)
+    rw (
+      locate_cons sheet at n k b r (rs ++ rs'),
+      locate_cons sheet at n k b r rs,
+      long_cons r rs at,
+      count_cons r rs,
+      carried (is_class r) n (count rs),
+      locate_append sheet (at + length r) (classes_after (is_class r) n) (records_after (is_class r) k) (kind r) rs rs' o,
+    )
 
 -- and so of the row
-abbrev Further : List ℕ → ℕ → ℕ → List (List ℕ) → List (List ℕ) → Type 0
-Further row n at rs rs' = fill row n at (rs ++ rs') ≡ fill (fill row n at rs) (n + count rs) (at + length (concat rs)) rs'
-
-fill_append : (row : List ℕ) (n at : ℕ) (rs rs' : List (List ℕ)) → Further row n at rs rs'
+fill_append : (row : List ℕ) (n at : ℕ) (rs rs' : List (List ℕ)) → fill row n at (rs ++ rs') ≡ fill (fill row n at rs) (n + count rs) (at + length (concat rs)) rs'
 fill_append row n at [] rs' = unfold fill concat split_groups in rw (add-zero at, add-zero n)
-fill_append row n at (r ∷ rs) rs' = go (is_class r) refl (fill_append (set row n at) (suc n) (at + length r) rs rs') (fill_append row n (at + length r) rs rs')
-  where
-    go : (c : Bool) → is_class r ≡ c → Further (set row n at) (suc n) (at + length r) rs rs' → Further row n (at + length r) rs rs' → Further row n at (r ∷ rs) rs'
-    go true e f g =
-        let q : n + count (r ∷ rs) ≡ suc n + count rs = omega (arith, count_class r rs e) in
-        rw (fill_class row n at r (rs ++ rs') e, fill_class row n at r rs e, long_cons r rs at, q, f)
-    go false e f g = rw (fill_other row n at r (rs ++ rs') e, fill_other row n at r rs e, long_cons r rs at, count_other r rs e, g)
+fill_append row n at (r ∷ rs) rs' =
+    rw (
+      fill_cons row n at r (rs ++ rs'),
+      fill_cons row n at r rs,
+      long_cons r rs at,
+      count_cons r rs,
+      carried (is_class r) n (count rs),
+      fill_append (row_after (is_class r) row n at) (classes_after (is_class r) n) (at + length r) rs rs',
+    )
 
 along_append : (sheet n : ℕ) (rs rs' : List (List ℕ)) → Opens rs'
     → along sheet 0 n 0 0 (rs ++ rs') ≡ first_of (along sheet 0 n 0 0 rs ∷ shifted (length (concat rs)) (along sheet 0 (n + count rs) 0 0 rs') ∷ [])

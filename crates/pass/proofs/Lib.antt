@@ -1,10 +1,7 @@
 pub mod Words
-pub mod Tables
 pub mod Names
-pub mod Bodies
-pub mod Numbers
+pub mod Tests
 pub mod Places
-pub mod Walk
 pub mod Starts
-pub mod Going
 pub mod Joining
+pub mod Going

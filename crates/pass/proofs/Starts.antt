@@ -12,29 +12,41 @@ use Rattle.spec.specs.Lists.{concat}
 use Rattle.spec.specs.Record.{is_class}
 use Rattle.spec.specs.Sheet.{Split, split_groups, records_of, groups_of, class_count, group_start}
 use Rattle.theory.proofs.Cut.{concat_append, onto_class, onto_loose, split_class, split_other}
-use Rattle.pass.specs.Pass.{fill, filled}
+use Rattle.pass.specs.Pass.{classes_after, fill, filled}
 
 -- ---- one record
 
+-- the row after one more record, a CLASS record or another
+abbrev pub row_after : Bool → List ℕ → ℕ → ℕ → List ℕ
+row_after true row n at = set row n at
+row_after false row n at = row
+
 module _ (row : List ℕ) (n at : ℕ) (r : List ℕ) (rs : List (List ℕ)) where
-  pub fill_class : is_class r ≡ true → fill row n at (r ∷ rs) ≡ fill (set row n at) (suc n) (at + length r) rs
+  pub fill_cons : fill row n at (r ∷ rs) ≡ fill (row_after (is_class r) row n at) (classes_after (is_class r) n) (at + length r) rs
   unfolding fill
-  fill_class e = rw (e, fill)
+  fill_cons = go (is_class r) refl
+    where
+      go : (b : Bool) → is_class r ≡ b → fill row n at (r ∷ rs) ≡ fill (row_after b row n at) (classes_after b n) (at + length r) rs
+      go true e = rw (e, fill)
+      go false e = rw (e, fill)
+
+  pub fill_class : is_class r ≡ true → fill row n at (r ∷ rs) ≡ fill (set row n at) (suc n) (at + length r) rs
+  fill_class e = rw e at fill_cons
 
   pub fill_other : is_class r ≡ false → fill row n at (r ∷ rs) ≡ fill row n (at + length r) rs
-  unfolding fill
-  fill_other e = rw (e, fill)
+  fill_other e = rw e at fill_cons
 
 -- ---- the row of any records
 
+after_below : (b : Bool) (row : List ℕ) (n at j : ℕ) → j < n → (j < classes_after b n) × (get_or (row_after b row n at) j 0 ≡ get_or row j 0)
+after_below true row n at j h = (omega arith, get_or-set_other row n j at 0 (λ q. omega arith))
+after_below false row n at j h = (h, refl)
+
 below : (row : List ℕ) (n at : ℕ) (rs : List (List ℕ)) (j : ℕ) → j < n → get_or (fill row n at rs) j 0 ≡ get_or row j 0
 below row n at [] j h = unfold fill in refl
-below row n at (r ∷ rs) j h = go (is_class r) refl (below (set row n at) (suc n) (at + length r) rs j (omega arith)) (below row n (at + length r) rs j h)
-  where
-    go : (b : Bool) → is_class r ≡ b → get_or (fill (set row n at) (suc n) (at + length r) rs) j 0 ≡ get_or (set row n at) j 0
-        → get_or (fill row n (at + length r) rs) j 0 ≡ get_or row j 0 → get_or (fill row n at (r ∷ rs)) j 0 ≡ get_or row j 0
-    go true e f g = rw (fill_class row n at r rs e) (f ∙ get_or-set_other row n j at 0 (λ q. omega arith))
-    go false e f g = rw (fill_other row n at r rs e) g
+below row n at (r ∷ rs) j h =
+    let a = after_below (is_class r) row n at j h in
+    rw (fill_cons row n at r rs) (below (row_after (is_class r) row n at) (classes_after (is_class r) n) (at + length r) rs j a.0 ∙ a.1)
 
 -- the byte where the i-th group begins, where the first record begins at `at`
 unfoldable pub start_from : ℕ → Split → ℕ → ℕ

@@ -1,20 +1,28 @@
--- Bytes tested at once, in the number that they make: the highest bits of all of them, and the same after a number is added to each byte or each is taken from one.
+-- Eight bytes tested at once, in the number that they make: the highest bits of all of them, and the same after a number is added to each byte or each is taken from one.
 -- Assumes nothing.
 use mathlib.Core.Path.{◌≡◌, refl, sym, ap, ◌∙◌}
 use mathlib.Core.Bool.{Bool, true, false, ◌&&◌}
-use mathlib.Core.List.{List, [], ◌∷◌, ◌++◌, map}
-use Prim.Native.Nat.{ℕ, suc, ◌+◌, ◌-◌, ◌*◌, ◌≤◌, ◌<◌}
+use mathlib.Core.List.{List, [], ◌∷◌, map}
+use Prim.Native.Nat.{ℕ, zero, suc, ◌+◌, ◌-◌, ◌*◌, ◌≤◌, ◌<◌}
+use native.Mathlib.Nat.{add-zero}
 use native.Mathlib.Omega.{arith}
-use lib.Dec.{T, leb, leb→le, le→leb}
-use lib.ListN.{length, get_or, take, drop}
-use lib.Seq.{drop-cons}
-use borrow.Author.Tests.{leb-true, leb-false}
+use lib.Dec.{T, eqb, eqb→eq, leb, leb→le, le→leb}
+use lib.ListN.{length, get_or, drop, drop_of_length-le}
+use lib.Seq.{get_or-drop, drop-drop}
+use borrow.Author.Tests.{eq-eqb, leb-true, leb-false}
 use lib.Bits.{bit_and, and_block, and_shifted, and_comm, and_zero_r}
+use mir.Syntax.{w64}
+use Rattle.std.proofs.lemmas.Bool.{false≢true}
+use Rattle.std.specs.Int.{from_le_bytes}
 use Rattle.spec.specs.Record.{name_fits}
 use Rattle.laws.proofs.Bools.{true_t, t_true, t_and, and_l, and_r}
 use Rattle.laws.proofs.All.{All, all_map, weaken, all_true, true_all}
 use Rattle.theory.proofs.Answers.{of_map}
-use Rattle.pass.specs.Pass.{joined}
+
+-- the number that bytes make, the lowest first
+abbrev joined : List ℕ → ℕ
+joined [] = 0
+joined (b ∷ bs) = joined bs * 256 + b
 
 -- the number that as many bytes make, each of them m
 abbrev filling : ℕ → List ℕ → ℕ
@@ -25,7 +33,6 @@ abbrev tops : List ℕ → ℕ
 tops bs = bit_and (joined bs) (filling 128 bs)
 
 tops_cons : (b : ℕ) (bs : List ℕ) → b < 256 → tops (b ∷ bs) ≡ tops bs * 256 + bit_and b 128
-unfolding joined
 tops_cons b bs h = and_block 8 (joined bs) (filling 128 bs) b 128 h (omega arith)
 
 -- of one byte
@@ -45,7 +52,6 @@ low_top b h e = go (leb 128 b) refl
     go false q = leb-false 128 b q
 
 none_high : (bs : List ℕ) → All (λ b. b < 128) bs → tops bs ≡ 0
-unfolding joined
 none_high [] h = refl
 none_high (b ∷ bs) h = rw (tops_cons b bs (omega (arith, h.0)), top_low b h.0, none_high bs h.1)
 
@@ -58,17 +64,14 @@ all_low (b ∷ bs) w e =
 -- ---- a number added to each byte, or each byte taken from one
 
 added : (m : ℕ) (bs : List ℕ) → joined (map (λ b. b + m) bs) ≡ joined bs + filling m bs
-unfolding joined
 added m [] = refl
 added m (b ∷ bs) = omega (arith, added m bs)
 
 taken : (m : ℕ) (bs : List ℕ) → All (λ b. b ≤ m) bs → joined (map (λ b. m - b) bs) + joined bs ≡ filling m bs
-unfolding joined
 taken m [] h = refl
 taken m (b ∷ bs) h = omega (arith, taken m bs h.1, h.0)
 
 filling_map : (m : ℕ) (f : ℕ → ℕ) (bs : List ℕ) → filling m (map f bs) ≡ filling m bs
-unfolding joined
 filling_map m f [] = refl
 filling_map m f (b ∷ bs) = rw (filling_map m f bs)
 
@@ -138,72 +141,72 @@ module _ (bs : List ℕ) (w : All (λ b. b < 256) bs) (z : bit_and (joined bs) (
       both [] p q = tt
       both (b ∷ xs) p q = (record { low = omega (arith, q.0); high = omega (arith, p.0) }, both xs p.1 q.1)
 
--- ---- four bytes and four bytes
-
-four_is : (s : List ℕ) (i : ℕ) → i + 4 ≤ length s → take 4 (drop i s) ≡ get_or s i 0 ∷ get_or s (i + 1) 0 ∷ get_or s (i + 2) 0 ∷ get_or s (i + 3) 0 ∷ []
-four_is s i h =
-    let a : i + 1 ≡ suc i = omega arith in
-    let b : i + 2 ≡ suc (suc i) = omega arith in
-    let c : i + 3 ≡ suc (suc (suc i)) = omega arith in
-    rw (a, b, c, drop-cons s i 0 (omega arith), drop-cons s (suc i) 0 (omega arith), drop-cons s (suc (suc i)) 0 (omega arith), drop-cons s (suc (suc (suc i))) 0 (omega arith))
-
-pub four_joined : (s : List ℕ) (i : ℕ) → i + 4 ≤ length s → {a b c d : ℕ} → a ≡ get_or s i 0 → b ≡ get_or s (i + 1) 0 → c ≡ get_or s (i + 2) 0 → d ≡ get_or s (i + 3) 0
-    → a + 256 * b + 65536 * c + 16777216 * d ≡ joined (take 4 (drop i s))
-unfolding joined
-four_joined s i h ea eb ec ed = rw (four_is s i h, ea, eb, ec, ed) (omega arith)
-
--- a and b are the numbers that the four bytes at i and the four at j make
-pub record Eight (s : List ℕ) (i j a b : ℕ) : Type 0 where
-  pub first_inside : i + 4 ≤ length s
-  pub second_inside : j + 4 ≤ length s
-  pub byte : (x : ℕ) → get_or s x 0 < 256
-  pub first_is : a ≡ joined (take 4 (drop i s))
-  pub second_is : b ≡ joined (take 4 (drop j s))
+-- ---- eight bytes
 
 -- in each of eight bytes: the highest bit
 abbrev highs : ℕ
 highs = 9259542123273814144
 
-module _ {s : List ℕ} {i j a b : ℕ} (w : Eight s i j a b) where
-  -- the eight bytes
-  abbrev both : List ℕ
-  both = take 4 (drop i s) ++ take 4 (drop j s)
+-- eight bytes, and their number
+pub record Eight (bs : List ℕ) (word : ℕ) : Type 0 where
+  pub long : length bs ≡ 8
+  pub bytes : (i : ℕ) → get_or bs i 0 < 256
+  pub is : word ≡ from_le_bytes w64 bs
 
-  word : a + 4294967296 * b ≡ joined both
-  unfolding joined
-  word = rw (w.first_is, w.second_is, four_is s i w.first_inside, four_is s j w.second_inside) (omega arith)
+joined_rest : (bs : List ℕ) → joined bs ≡ get_or bs 0 0 + 256 * joined (drop 1 bs)
+joined_rest [] = refl
+joined_rest (b ∷ bs) = omega arith
 
-  both_filling : (m : ℕ) → filling m both ≡ m * 72340172838076673
-  unfolding joined
-  both_filling m = rw (four_is s i w.first_inside, four_is s j w.second_inside) (omega arith)
+joined_drop : (bs : List ℕ) (i : ℕ) → joined (drop i bs) ≡ get_or bs i 0 + 256 * joined (drop (i + 1) bs)
+joined_drop bs i = omega (arith, joined_rest (drop i bs), rw (add-zero i) at (get_or-drop i bs 0 0), ap joined (drop-drop 1 i bs))
 
-  both_bytes : All (λ b. b < 256) both
-  both_bytes =
-      let byte = w.byte in
-      rw (four_is s i w.first_inside, four_is s j w.second_inside) (byte _, (byte _, (byte _, (byte _, (byte _, (byte _, (byte _, (byte _, tt))))))))
+at_all : (P : ℕ → Type 0) (bs : List ℕ) → ((i : ℕ) → P (get_or bs i 0)) → All P bs
+at_all P [] h = tt
+at_all P (b ∷ bs) h = (h 0, at_all P bs (λ i. h (suc i)))
+
+ones : ℕ → ℕ
+ones zero = 0
+ones (suc n) = ones n * 256 + 1
+
+filling_ones : (m : ℕ) (bs : List ℕ) → filling m bs ≡ m * ones (length bs)
+unfolding ones
+filling_ones m [] = omega arith
+filling_ones m (b ∷ bs) = omega (arith, filling_ones m bs)
+
+module _ {bs : List ℕ} {word : ℕ} (w : Eight bs word) where
+  word_is : word ≡ joined bs
+  word_is =
+      let j = joined_drop bs in
+      let z : joined (drop 8 bs) ≡ 0 = ap joined (drop_of_length-le bs {i = 8} (omega (arith, w.long))) in
+      omega (arith, w.is, j 0, j 1, j 2, j 3, j 4, j 5, j 6, j 7, z)
+
+  filling_is : (m : ℕ) → filling m bs ≡ m * 72340172838076673
+  unfolding ones
+  filling_is m = filling_ones m bs ∙ ap (λ (n : ℕ). m * ones n) w.long
+
+  all_bytes : All (λ b. b < 256) bs
+  all_bytes = at_all (λ b. b < 256) bs w.bytes
+
+  first_none : bit_and word highs ≡ 0 → bit_and (joined bs) (filling 128 bs) ≡ 0
+  first_none z = rw (← word_is, filling_is 128) z
 
   -- a byte over 127
-  pub over : (bit_and (a + 4294967296 * b) highs ≡ 0 → ⊥) → false ≡ name_fits both
-  over n = unfit both (λ h. n (rw (word, ← both_filling 128) (fit_first both h)))
+  pub over : (bit_and word highs ≡ 0 → ⊥) → false ≡ name_fits bs
+  over n = unfit bs (λ h. n (rw (word_is, ← filling_is 128) (fit_first bs h)))
 
-  -- a byte under 33
-  pub under : (bit_and (11574427654092267680 - (a + 4294967296 * b)) highs ≡ 0 → ⊥) → false ≡ name_fits both
-  under n = unfit both (λ h. n (rw (word, ← both_filling 128, ← both_filling 160) (fit_third both h)))
+  module _ (z : bit_and word highs ≡ 0) where
+    -- no sum or difference leaves the word
+    pub small : word ≤ 9187201950435737471
+    small = omega (arith, word_is, fall bs all_bytes (first_none z), filling_is 127)
 
-  -- a byte of 127
-  pub last : (bit_and (a + 4294967296 * b + 72340172838076673) highs ≡ 0 → ⊥) → false ≡ name_fits both
-  last n = unfit both (λ h. n (rw (word, ← both_filling 128, ← both_filling 1) (fit_second both h)))
+    -- a byte of 127
+    pub last : (bit_and (word + 72340172838076673) highs ≡ 0 → ⊥) → false ≡ name_fits bs
+    last n = unfit bs (λ h. n (rw (word_is, ← filling_is 128, ← filling_is 1) (fit_second bs h)))
 
-  module _ (z : bit_and (a + 4294967296 * b) highs ≡ 0) where
-    zero_tops : bit_and (joined both) (filling 128 both) ≡ 0
-    zero_tops = rw (← word, both_filling 128) z
-
-    -- so no sum or difference leaves the word
-    pub small : a + 4294967296 * b ≤ 9187201950435737471
-    small = omega (arith, word, fall both both_bytes zero_tops, both_filling 127)
-
-    pub all_pass : bit_and (a + 4294967296 * b + 72340172838076673) highs ≡ 0
-        → bit_and (11574427654092267680 - (a + 4294967296 * b)) highs ≡ 0
-        → true ≡ name_fits both
-    all_pass y x =
-        passes both both_bytes zero_tops (rw (← word, both_filling 1, both_filling 128) y) (rw (← word, both_filling 160, both_filling 128) x)
+    -- a byte under 33, or none
+    pub rest : bit_and (word + 72340172838076673) highs ≡ 0 → eqb (bit_and (11574427654092267680 - word) highs) 0 ≡ name_fits bs
+    rest y = go (eqb (bit_and (11574427654092267680 - word) highs) 0) refl
+      where
+        go : (t : Bool) → eqb (bit_and (11574427654092267680 - word) highs) 0 ≡ t → t ≡ name_fits bs
+        go true e = passes bs all_bytes (first_none z) (rw (← word_is, filling_is 1, filling_is 128) y) (rw (← word_is, filling_is 160, filling_is 128) (eqb→eq _ 0 (true_t e)))
+        go false e = unfit bs (λ h. false≢true (sym e ∙ eq-eqb _ 0 (rw (word_is, ← filling_is 128, ← filling_is 160) (fit_third bs h))))

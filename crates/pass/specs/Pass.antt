@@ -1,82 +1,92 @@
--- The first pass by positions: the number that refuses the record at a byte, how the pass ends, and the row of the bytes where groups begin.
+-- The first pass: what refuses the record at a place, how the pass ends, and the row of the bytes where groups begin.
 -- Assumes nothing.
-use Rattle.std.specs.Prelude.{◌≡◌, Bool, true, false, ◌&&◌, ◌||◌, List, [], ◌∷◌, ℕ, zero, suc, ◌+◌, ◌-◌, ◌*◌, eqb, ltb, length, get_or, take, drop, set}
+use Rattle.std.specs.Prelude.{◌≡◌, Bool, true, false, Option as StdOption, Some, None, Result, Ok, Err, List, [], ◌∷◌, ℕ, suc, ◌+◌, ◌-◌, ltb, length, take, set}
 use Rattle.std.proofs.Math.Option.{Option, none, some}
 use Rattle.spec.specs.Lists.{first_of}
-use Rattle.spec.specs.Record.{u8, u16, is_class, kind, name_fits, ty_fits, ty_at, class_flags_fit}
+use Rattle.spec.specs.Record.{u16, kind, is_class}
 use Rattle.spec.specs.Sheet.{whole_first, records_of, Located}
 use Rattle.spec.specs.Refusals.{Refusal, record_tests, record_refusal, torn_refusal}
-use Rattle.records.specs.Records.{size_fits, record_at}
-use Rattle.pass.specs.declared.Pass.{Pass}
-use Rattle.pass.specs.declared.Pass.TheVariants.{Fine, Refused}
-
--- the number that bytes make, the lowest first
-unfoldable pub joined : List ℕ → ℕ
-joined [] = 0
-joined (b ∷ bs) = joined bs * 256 + b
-
--- ---- one record, by kind and length
-
--- the sheet may have the kind
-unfoldable pub home_fits : ℕ → ℕ → Bool
-home_fits sheet k = get_or (false ∷ true ∷ true ∷ eqb sheet 1 ∷ eqb sheet 1 ∷ eqb sheet 1 ∷ eqb sheet 1 ∷ eqb sheet 0 ∷ eqb sheet 1 ∷ []) k false
-
--- the name bytes of a record at `at` with length n, after its first j bytes
-unfoldable pub name_at : List ℕ → ℕ → ℕ → ℕ → Bool
-name_at s at n j = name_fits (take ((at + n) - (at + j)) (drop (at + j) s))
-
--- the byte of a record with length n where its name begins, n if it has none
-unfoldable pub name_start : ℕ → ℕ → ℕ
-name_start k n = get_or (n ∷ 12 ∷ n ∷ 10 ∷ 8 ∷ n ∷ n ∷ 6 ∷ n ∷ []) k n
-
--- what stands at fixed places in the record at `at`, before a name, is right for its kind
-unfoldable pub fixed_at : ℕ → List ℕ → ℕ → ℕ → Bool
-fixed_at sheet s at k = get_or
-    (true
-    ∷ (class_flags_fit sheet (u16 s (at + 4)) && eqb (u8 s (at + 7)) 0)
-    ∷ true
-    ∷ (ltb (u16 s (at + 4)) 8 && ty_fits (ty_at s (at + 6)))
-    ∷ ty_fits (ty_at s (at + 4))
-    ∷ true
-    ∷ true
-    ∷ ltb (u16 s (at + 4)) 2
-    ∷ true
-    ∷ []) k true
-
--- the number that refuses kind, length or place of a record in its group, or 0: 3, 4, 6
-unfoldable pub order_number : ℕ → ℕ → ℕ → ℕ → ℕ
-order_number sheet kind n k =
-    elim (home_fits sheet kind) [
-      | true ↦ elim (size_fits kind n) [ true ↦ elim (eqb kind 1 || ltb 0 k) [ true ↦ 0 | false ↦ 6 ] | false ↦ 4 ]
-      | false ↦ 3
-    ]
-
--- the first of two numbers that is not 0
-abbrev pub or_else : ℕ → ℕ → ℕ
-or_else zero m = m
-or_else (suc i) m = suc i
-
--- the number that refuses kind, length, place or the fixed bytes of the record at `at`, or 0: 3, 4, 6, 5
-unfoldable pub head_number : ℕ → List ℕ → ℕ → ℕ → ℕ → ℕ → ℕ
-head_number sheet s at kind n k = or_else (order_number sheet kind n k) (elim (fixed_at sheet s at kind) [ true ↦ 0 | false ↦ 5 ])
+use Rattle.records.specs.Kinds.{kind_number}
+use Rattle.refusals.specs.Refusals.{sheet_number, reason_number}
+use Rattle.refusals.specs.declared.Reason.{Reason}
+use Rattle.refusals.specs.declared.Refusal.{Refusal as Refused}
+use Rattle.pass.specs.declared.place.OpenGroup.{OpenGroup}
+use Rattle.pass.specs.declared.place.Place.{Place}
 
 -- ---- a record at its place
 
--- the number of the first test that is met, or 0
-unfoldable pub number_of : List (ℕ × Bool) → ℕ
-number_of [] = 0
-number_of (t ∷ ts) = elim t.1 [ true ↦ t.0 | false ↦ number_of ts ]
+-- how many records the open group has, and the kind of the last of them; 0 where none is open
+abbrev pub group_records : StdOption OpenGroup → ℕ
+group_records None = 0
+group_records (Some o) = o.records
+
+abbrev pub group_kind : StdOption OpenGroup → ℕ
+group_kind None = 0
+group_kind (Some o) = kind_number o.last
 
 -- a record of sheet `sheet` at a byte, after n classes, and k records of the open group whose last has kind b
 unfoldable pub place : ℕ → ℕ → ℕ → ℕ → ℕ → List ℕ → Located
-place sheet at n k b r = elim (is_class r) [
-  | true ↦ record { sheet = sheet; byte = at; class = n; record_number = 0; before = 0; grouped = true; bytes = r }
-  | false ↦ record { sheet = sheet; byte = at; class = n - 1; record_number = k; before = b; grouped = ltb 0 k; bytes = r }
-]
+place sheet at n k b r = record {
+  sheet = sheet;
+  byte = at;
+  class = elim (is_class r) [ true ↦ n | false ↦ n - 1 ];
+  record_number = elim (is_class r) [ true ↦ 0 | false ↦ k ];
+  before = elim (is_class r) [ true ↦ 0 | false ↦ b ];
+  grouped = elim (is_class r) [ true ↦ true | false ↦ ltb 0 k ];
+  bytes = r;
+}
 
--- the number that refuses what begins at a byte, or 0
-unfoldable pub record_number : ℕ → List ℕ → ℕ → ℕ → ℕ → ℕ → ℕ
-record_number sheet s at n k b = elim (whole_first (drop at s)) [ true ↦ number_of (record_tests (place sheet at n k b (record_at s at))) | false ↦ 2 ]
+unfoldable pub located : Place → List ℕ → Located
+located p r = place (sheet_number p.side) p.byte p.classes (group_records p.group) (group_kind p.group) r
+
+-- the numbers of classes and of the open group's records after one more record, a CLASS record or another
+abbrev pub classes_after : Bool → ℕ → ℕ
+classes_after true n = suc n
+classes_after false n = n
+
+abbrev pub records_after : Bool → ℕ → ℕ
+records_after true k = 1
+records_after false k = suc k
+
+-- the place after a record
+pub record Follows (p : Place) (r : List ℕ) (after : Place) : Type 0 where
+  pub side : after.side ≡ p.side
+  pub byte : after.byte ≡ p.byte + length r
+  pub classes : after.classes ≡ classes_after (is_class r) p.classes
+  pub records : group_records after.group ≡ records_after (is_class r) (group_records p.group)
+  pub last : group_kind after.group ≡ kind r
+
+-- ---- what refuses a record
+
+-- the number of the first test that is met
+unfoldable pub first_met : List (ℕ × Bool) → Option ℕ
+first_met [] = none
+first_met (t ∷ ts) = elim t.1 [ true ↦ some t.0 | false ↦ first_met ts ]
+
+-- no test is met, or the reason is that of the first one
+abbrev pub Meets : {A : Type 0} → List (ℕ × Bool) → Result A Reason → Type 0
+Meets ts (Ok a) = first_met ts ≡ none
+Meets ts (Err e) = first_met ts ≡ some (reason_number e)
+
+-- the record that bytes begin with
+unfoldable pub first_record : List ℕ → List ℕ
+first_record s = take (u16 s 0) s
+
+-- what refuses the record that bytes begin with, if one does
+unfoldable pub refused_at : Place → List ℕ → Option ℕ
+refused_at p s = elim (whole_first s) [ true ↦ first_met (record_tests (located p (first_record s))) | false ↦ some 2 ]
+
+-- r is that record, and nothing refuses it
+pub record Passes (p : Place) (s r : List ℕ) : Type 0 where
+  pub whole : whole_first s ≡ true
+  pub is : r ≡ first_record s
+  pub fine : first_met (record_tests (located p r)) ≡ none
+
+-- it is refused, and e is the refusal
+pub record Blames (p : Place) (s : List ℕ) (e : Refused) : Type 0 where
+  pub number : refused_at p s ≡ some (reason_number e.reason)
+  pub sheet : e.sheet ≡ p.side
+  pub byte : e.byte ≡ p.byte
 
 -- ---- the whole pass
 
@@ -88,10 +98,6 @@ pass_refusal sheet n s = first_of (record_refusal sheet n s ∷ torn_refusal she
 abbrev pub shifted : ℕ → Option Refusal → Option Refusal
 shifted k none = none
 shifted k (some r) = some (record { number = r.number; sheet = r.sheet; byte = k + r.byte })
-
-abbrev pub pass_of : Option Refusal → ℕ → Pass
-pass_of none n = Fine n
-pass_of (some r) n = Refused r.number r.byte
 
 -- the row in which the byte of each CLASS record stands at its class's number; the first record begins at `at`, and n classes stand before it
 unfoldable pub fill : List ℕ → ℕ → ℕ → List (List ℕ) → List ℕ

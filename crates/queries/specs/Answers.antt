@@ -1,17 +1,8 @@
--- The numbers and values that document 01 gives for each answer about one class.
+-- The part of a sheet that a place stands for.
 -- Assumes nothing.
-use Rattle.std.specs.Prelude.{ℕ}
-use Rattle.spec.specs.Promises.{Answer, refused, accepted, Part}
-use Rattle.form.specs.Form.{refusal_of}
-use Rattle.queries.specs.declared.Marked.{Marked}
-use Rattle.queries.specs.declared.Marked.TheVariants as M
-use Rattle.queries.specs.declared.Placed.{Placed}
-use Rattle.queries.specs.declared.Placed.TheVariants as P
+use Rattle.spec.specs.Promises.{Part}
+use Rattle.refusals.specs.Refusals.{sheet_number}
+use Rattle.queries.specs.declared.Place.{Place}
 
-abbrev pub marked_answer : Marked → Answer ℕ
-marked_answer (M.Fine m) = accepted m
-marked_answer (M.Refused r) = refused (refusal_of r)
-
-abbrev pub placed_answer : Placed → Answer Part
-placed_answer (P.At s start size) = accepted (record { sheet = s; start = start; size = size })
-placed_answer (P.Refused r) = refused (refusal_of r)
+abbrev pub part_of : Place → Part
+part_of p = record { sheet = sheet_number p.sheet; start = p.start; size = p.len }

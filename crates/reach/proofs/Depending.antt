@@ -2,7 +2,7 @@
 -- Assumes nothing.
 use mathlib.Core.Path.{◌≡◌, refl, sym, ap, ◌∙◌, subst}
 use mathlib.Core.Bool.{Bool, true, false, ◌&&◌}
-use mathlib.Core.List.{List, [], ◌∷◌, ◌++◌, map, Memᴰ}
+use mathlib.Core.List.{List, ◌++◌, map, Memᴰ}
 use mathlib.Core.Logic.{inl}
 use mathlib.Core.Option.{none}
 use Prim.Native.Nat.{ℕ, ◌+◌, ◌*◌, ◌-◌, ◌≤◌, ◌<◌}
@@ -11,25 +11,23 @@ use native.Mathlib.Omega.{arith}
 use lib.Dec.{T, ltb}
 use lib.ListN.{length, get_or, set, take, drop, replicate, length-append, length-drop, get_or-append}
 use lib.Seq.{get_or-set_same, get_or-set_other, get_or-append-add, get_or-drop, ext_get_or}
-use borrow.Author.Tests.{lt-ltb, ltb-true, ltb-false}
-use Rattle.spec.specs.Lists.{gather, elem, span, reach}
+use borrow.Author.Tests.{ltb-true, ltb-false}
+use Rattle.spec.specs.Lists.{elem, span, reach}
 use Rattle.spec.specs.Record.{references}
-use Rattle.spec.specs.Sheet.{Group, total, group, group_references}
+use Rattle.spec.specs.Sheet.{total, group, group_references}
 use Rattle.spec.specs.Rules.{dependencies}
 use Rattle.spec.specs.Verdicts.{depends_on}
 use Rattle.spec.specs.Refusals.{form_refusal}
 use Rattle.laws.proofs.Bools.{true_t}
 use Rattle.laws.proofs.All.{at_member, of_members}
-use Rattle.laws.proofs.Members.{gather_mem, mem_gather, keep_mem, mem_keep}
+use Rattle.laws.proofs.Members.{gather_mem}
 use Rattle.theory.proofs.Accept.{form_fits}
 use Rattle.laws.proofs.Rows.{length_values, get_or_values}
 use Rattle.theory.proofs.Reach.{Steps, here, onward}
 use Rattle.theory.proofs.Complete.{reach_sound, reach_complete}
-use Rattle.groups.specs.Groups.{Indexed}
-use Rattle.named.specs.Named.{first_named, second_named, named_by}
-use Rattle.named.proofs.Meaning.{below, named_below}
+use Rattle.named.specs.declared.Along.TheVariants.{Every}
+use Rattle.sheets.specs.Sheets.{Pair, Passed, count, groups}
 use Rattle.lanes.specs.Lanes.{Draws, own, via, entry_at, Other, SeedsFit, Least}
-use Rattle.lanes.proofs.Chains.{least_steps}
 use Rattle.lanes.proofs.Filling.{filled}
 use Rattle.std.proofs.lemmas.List.{get_or-replicate, get_or-append_right, length-replicate, places}
 use Rattle.reach.specs.Reach.{named_in, steps_of, outer_of, Emptied, dependent_row}
@@ -67,26 +65,6 @@ module _ {before row : List ℕ} {d : ℕ} (f : Emptied 256 before row) (h : d <
           u ∙ z (omega (arith, u, v))
       go (no e) = absurd (omega (arith, v, get_or-set_other row d (k * 256 + m) x 255 e, f.none (k * 256 + m) (omega arith)))
 
--- ---- the steps to classes are what the records name
-
-module _ (g : ℕ → Group) (n : ℕ) (few : n ≤ 65535) (builds : Bool) where
-  pub steps_in_lem : (m t : ℕ) → t < n → Memᴰ t (steps_of g builds m) → Memᴰ t (gather (named_by builds) (g m))
-  unfolding named_in below
-  steps_in_lem m t h e =
-      let a = gather_mem (λ r. first_named builds r ∷ second_named builds r ∷ []) (g m) t e in
-      let p : T (ltb t n) = true_t (lt-ltb t n h) in
-      let k = subst (Memᴰ t) (sym (named_below n few a.source builds)) (mem_keep (λ x. ltb x n) a.part p) in
-      mem_gather (named_by builds) a.member (keep_mem (λ x. ltb x n) (named_by builds a.source) t k).0
-
-  pub in_steps : (m t : ℕ) → t < n → Memᴰ t (gather (named_by builds) (g m)) → Memᴰ t (steps_of g builds m)
-  unfolding named_in below
-  in_steps m t h e =
-      let a = gather_mem (named_by builds) (g m) t e in
-      let p : T (ltb t n) = true_t (lt-ltb t n h) in
-      let k = subst (Memᴰ t) (named_below n few a.source builds) (mem_keep (λ x. ltb x n) a.part p) in
-      mem_gather (λ r. first_named builds r ∷ second_named builds r ∷ []) a.member
-      (keep_mem (λ x. ltb x n) (first_named builds a.source ∷ second_named builds a.source ∷ []) t k).0
-
 -- ---- chains
 
 prepend : {step : ℕ → List ℕ} {c t d : ℕ} → Memᴰ t (step c) → Steps step t d → Steps step c d
@@ -118,11 +96,11 @@ module _ (library user : List ℕ) (ok : form_refusal library user ≡ none) (fe
       at_member (λ x. x < total library user) (references s.source) (at_member _ (group library user a) (form_fits library user ok a) s.member).there s.part
 
   module _ {before row s : List ℕ} {d : ℕ} (f : Emptied 256 before row) (h : d < total library user) (long : 256 ≤ length before)
-      (l : Least (steps_of (group library user) false) (outer_of (group library user)) (total library user) 1 (set row d 0) s) where
+      (l : Least (steps_of (group library user) Every) (outer_of (group library user)) (total library user) 1 (set row d 0) s) where
     -- over the references themselves
     least : Least (steps_in library user) (outer_of (group library user)) (total library user) 1 (set row d 0) s
-    unfolding group_references named_by
-    least = least_steps (steps_in_lem (group library user) (total library user) (omega arith) false) (in_steps (group library user) (total library user) (omega arith) false) l
+    unfolding group_references named_in
+    least = l
 
     marked : (c : ℕ) → c < total library user → get_or s c 255 ≡ elim (elem d (dependencies (group library user) c)) as (λ (b : Bool). ℕ) [ true ↦ 0 | false ↦ 255 ]
     unfolding dependencies
@@ -184,10 +162,6 @@ module _ (library user : List ℕ) (ok : form_refusal library user ≡ none) (fe
             ∙ sym (ap (λ (m : ℕ). get_or (map mark (span 0 256) ++ drop 256 before) m 255) (sym j) ∙ get_or-append-add (map mark (span 0 256)) (drop 256 before) (i - 256) 255
             ∙ get_or-drop 256 before (i - 256) 255 ∙ ap (λ (m : ℕ). get_or before m 255) k)
 
-pub found : {library user : List ℕ} {nlib n : ℕ} {starts : List ℕ} → Indexed library user nlib n starts → form_refusal library user ≡ none → {before row s : List ℕ} {d : ℕ} → Emptied 256 before row
-    → d < n → 256 ≤ length before
-    → Least (steps_of (group library user) false) (outer_of (group library user)) n 1 (set row d 0) s → length s ≡ length before → s ≡ dependent_row library user d before
-found {library} {user} {n = n} x ok {before} {row} {s} {d} f h long l e =
-    depending library user ok (omega (arith, x.few, x.n_is)) f (omega (arith, x.n_is)) long
-    (subst (λ (k : ℕ). Least (steps_of (group library user) false) (outer_of (group library user)) k 1 (set row d 0) s) x.n_is l)
-    e
+pub found : {p : Pair} → Passed p → form_refusal p.library p.user ≡ none → {before row s : List ℕ} {d : ℕ} → Emptied 256 before row → d < count p → 256 ≤ length before
+    → Least (steps_of (groups p) Every) (outer_of (groups p)) (count p) 1 (set row d 0) s → length s ≡ length before → s ≡ dependent_row p.library p.user d before
+found {p} x ok f h long l e = depending p.library p.user ok x.few f h long l e

@@ -1,4 +1,5 @@
 pub mod Depending
+pub mod Library
+pub mod Encloser
 pub mod Scanning
 pub mod Wanting
-pub mod Library

@@ -1,29 +1,37 @@
 -- The steps of the search over two sheets, and the enclosers that it asks.
 -- Assumes nothing.
-use Rattle.std.specs.Prelude.{◌≡◌, Bool, true, false, ℕ, ◌≤◌, ◌<◌, length, get_or, drop}
-use mathlib.Core.List.{List, [], ◌∷◌, ◌++◌, map, Memᴰ}
+use Rattle.std.specs.Prelude.{◌≡◌, Bool, true, false, Option, None, Some, ℕ, ◌≤◌, ◌<◌, ltb, length, get_or, drop}
+use mathlib.Core.List.{List, ◌++◌, map, Memᴰ}
 use Rattle.spec.specs.Lists.{gather, span}
 use Rattle.spec.specs.Record.{encloser}
 use Rattle.spec.specs.Sheet.{Group, class_record}
 use Rattle.spec.specs.Verdicts.{depends_on}
-use Rattle.records.specs.Records.{between}
-use Rattle.named.specs.Named.{first_named, second_named}
-use Rattle.lanes.specs.Lanes.{entry_at, Run, SettledAt, Enclosers}
+use Rattle.lanes.specs.Lanes.{entry_at, Run, SettledAt, Enclosers, drawn_lanes, drew_lanes, lanes_of}
+use Rattle.named.specs.declared.Along.{Along}
+use Rattle.named.specs.Named.{named_by}
 
--- the classes that a group names, 65535 where a record names fewer than two: along BUILDS or along every record
-unfoldable pub named_in : Bool → Group → List ℕ
-named_in builds g = gather (λ r. first_named builds r ∷ second_named builds r ∷ []) g
+-- the classes that a group names: along BUILDS or along every record
+unfoldable pub named_in : Along → Group → List ℕ
+named_in along g = gather (named_by along) g
 
-abbrev pub steps_of : (ℕ → Group) → Bool → ℕ → List ℕ
-steps_of g builds m = named_in builds (g m)
+abbrev pub steps_of : (ℕ → Group) → Along → ℕ → List ℕ
+steps_of g along m = named_in along (g m)
 
 -- the encloser of a class; a number that is not lower is none
 unfoldable pub outer_of : (ℕ → Group) → ℕ → ℕ
 outer_of g m = encloser (class_record (g m))
 
--- Class m has drawn along all that the records in these bytes name. Only the bytes and the row of marks were asked, so it holds for all steps and enclosers that they are right for.
-pub record Scanned (bytes marks : List ℕ) (builds : Bool) (n lanes m : ℕ) (s₀ s : List ℕ) (r : Bool) : Type 0 where
-  pub run : (step : ℕ → List ℕ) (outer : ℕ → ℕ) → step m ≡ named_in builds (between bytes 0 (length bytes)) → Enclosers outer m marks
+abbrev pub lower_outer : (ℕ → Group) → ℕ → Option ℕ
+lower_outer g m = elim (ltb (outer_of g m) m) [ true ↦ Some (outer_of g m) | false ↦ None ]
+
+-- class m has drawn what a class has that a record may name
+abbrev pub DrawnNamed : List ℕ → ℕ → ℕ → ℕ → Option ℕ → List ℕ → List ℕ → Bool → Type 0
+DrawnNamed marks n lanes m None s s' r = (s' ≡ s) × (r ≡ false)
+DrawnNamed marks n lanes m (Some t) s s' r = (s' ≡ drawn_lanes marks m t (lanes_of n lanes t) s) × (r ≡ drew_lanes marks m t (lanes_of n lanes t) s)
+
+-- Class m has drawn along all that these records name. Only the records and the row of marks were asked, so it holds for all steps and enclosers that they are right for.
+pub record Scanned (rs : Group) (marks : List ℕ) (along : Along) (n lanes m : ℕ) (s₀ s : List ℕ) (r : Bool) : Type 0 where
+  pub run : (step : ℕ → List ℕ) (outer : ℕ → ℕ) → step m ≡ named_in along rs → Enclosers outer m marks
       → Run step outer n lanes (SettledAt step outer n lanes m) s₀ s r
 
 -- told false: none of these classes has in any lane a lower owner than m

@@ -2,12 +2,12 @@
 -- Assumes nothing.
 use mathlib.Core.Path.{◌≡◌, refl, sym, ap, ◌∙◌, subst}
 use mathlib.Core.Logic.{◌↔◌}
-use mathlib.Core.Bool.{Bool, true, false, not, ◌||◌}
+use mathlib.Core.Bool.{Bool, true, false, not, or-false}
 use mathlib.Core.List.Memᴰ
 use mathlib.Core.List.{List, [], ◌∷◌, Memᴰ}
 use Prim.Native.Nat.{ℕ, ◌≤◌}
 use native.Mathlib.Nat.{zero-add}
-use lib.Dec.{T, eqb}
+use lib.Dec.{T}
 use lib.ListN.{take}
 use borrow.Author.Tests.{le-ltb}
 use Rattle.spec.specs.Lists.{any, keep, gather, numbered}
@@ -20,11 +20,13 @@ use Rattle.laws.proofs.Bools.{and_l}
 use Rattle.laws.proofs.Members.{gather_mem, mem_gather, keep_mem, mem_keep, numbered_at, at_numbered}
 use Rattle.theory.proofs.Slots.{place_own}
 use Rattle.theory.proofs.Faults.{Stands, stands_if, stands_at}
-use Rattle.breaks.specs.Breaking.{first_rules, breaks_at}
-use Rattle.rules.specs.Walk.{only_first, asked, found_in, found, order, walked}
+use Rattle.breaks.specs.declared.rule.Rule.{Rule}
+use Rattle.breaks.specs.declared.rule.Rule.TheVariants.{Classes, Members, Reserved, Clash, Statics, LetsOut}
+use Rattle.breaks.specs.Breaking.{asks_first, breaks_at}
+use Rattle.rules.specs.Walk.{only_first, asked_of, asked, found_in, found, order, walked}
 
 -- a record of a class that the walk asks breaks the rule, and its fault stands at x
-pub record Hit (nlib : ℕ) (g : ℕ → Group) (rule c x : ℕ) : Type 0 where
+pub record Hit (nlib : ℕ) (g : ℕ → Group) (rule : Rule) (c x : ℕ) : Type 0 where
   pub class : ℕ
   pub member : Memᴰ class (order nlib g rule c)
   pub number : ℕ
@@ -60,7 +62,7 @@ module _ (nlib : ℕ) (g : ℕ → Group) where
   fault : ℕ → ℕ × List ℕ → Fault
   fault t n = record { class = t; record_number = n.0 }
 
-  pub hit_is : (rule c x : ℕ) → Stands c (walked nlib g rule c) x ↔ Hit nlib g rule c x
+  pub hit_is : (rule : Rule) (c x : ℕ) → Stands c (walked nlib g rule c) x ↔ Hit nlib g rule c x
   unfolding walked found found_in fault
   hit_is rule c x = (there, back)
     where
@@ -95,7 +97,7 @@ module _ (nlib : ℕ) (g : ℕ → Group) where
 
   -- ---- rules 1 to 6 ask the class itself
 
-  module _ (rule c : ℕ) (alone : order nlib g rule c ≡ c ∷ []) where
+  module _ (rule : Rule) (c : ℕ) (alone : order nlib g rule c ≡ c ∷ []) where
     -- what a hit of the class itself is
     own_hit : (x : ℕ) → Hit nlib g rule c x → (k : ℕ) × (r : List ℕ) × At (asked nlib g rule c) k r × T (breaks_at nlib g rule c c k r) × (k ≡ x)
     own_hit x h =
@@ -139,40 +141,40 @@ module _ (nlib : ℕ) (g : ℕ → Group) where
             let q = (stands_if c c bad x).0 s in
             subst (Hit nlib g rule c) (sym q.1) (hit_own (subst (λ (rs : Group). At rs 0 (class_record (g c))) (sym ea) (at_first (g c) o)) (subst T (sym eb) q.0))
 
-  pub asked_all : (rule c : ℕ) → only_first nlib rule c ≡ false → asked nlib g rule c ≡ g c
-  unfolding asked
-  asked_all rule c e = rw (e, asked)
+  pub asked_all : (rule : Rule) (c : ℕ) → only_first nlib rule c ≡ false → asked nlib g rule c ≡ g c
+  unfolding asked_of
+  asked_all rule c e = rw (e, asked_of)
 
-  pub asked_one : (rule c : ℕ) → only_first nlib rule c ≡ true → asked nlib g rule c ≡ take 1 (g c)
-  unfolding asked
-  asked_one rule c e = rw (e, asked)
+  pub asked_one : (rule : Rule) (c : ℕ) → only_first nlib rule c ≡ true → asked nlib g rule c ≡ take 1 (g c)
+  unfolding asked_of
+  asked_one rule c e = rw (e, asked_of)
 
   -- a user class is asked as its rule says
-  of_user : (rule c : ℕ) → nlib ≤ c → only_first nlib rule c ≡ (eqb rule 3 || eqb rule 4 || eqb rule 6)
+  pub of_user : (rule : Rule) (c : ℕ) → nlib ≤ c → only_first nlib rule c ≡ asks_first rule
   unfolding only_first
-  of_user rule c h = rw (le-ltb c nlib h)
+  of_user rule c h = rw (le-ltb c nlib h) (or-false (asks_first rule))
 
   module _ (c : ℕ) (user : nlib ≤ c) (one : T (one_class (g c))) where
-    pub hits1 : (x : ℕ) → Hit nlib g 1 c x ↔ Stands c (rule1 nlib g c) x
-    unfolding rule1 order breaks_at first_rules
-    hits1 = each_record 1 c refl _ (asked_all 1 c (of_user 1 c user)) (λ k r. refl)
+    pub hits1 : (x : ℕ) → Hit nlib g Classes c x ↔ Stands c (rule1 nlib g c) x
+    unfolding rule1
+    hits1 = each_record Classes c refl _ (asked_all Classes c (of_user Classes c user)) (λ k r. refl)
 
-    pub hits2 : (x : ℕ) → Hit nlib g 2 c x ↔ Stands c (rule2 nlib g c) x
-    unfolding rule2 order breaks_at first_rules
-    hits2 = each_record 2 c refl _ (asked_all 2 c (of_user 2 c user)) (λ k r. refl)
+    pub hits2 : (x : ℕ) → Hit nlib g Members c x ↔ Stands c (rule2 nlib g c) x
+    unfolding rule2
+    hits2 = each_record Members c refl _ (asked_all Members c (of_user Members c user)) (λ k r. refl)
 
-    pub hits3 : (x : ℕ) → Hit nlib g 3 c x ↔ Stands c (rule3 nlib g c) x
-    unfolding rule3 order breaks_at first_rules
-    hits3 = first_record 3 c refl _ (asked_one 3 c (of_user 3 c user)) one refl
+    pub hits3 : (x : ℕ) → Hit nlib g Reserved c x ↔ Stands c (rule3 nlib g c) x
+    unfolding rule3
+    hits3 = first_record Reserved c refl _ (asked_one Reserved c (of_user Reserved c user)) one refl
 
-    pub hits4 : (x : ℕ) → Hit nlib g 4 c x ↔ Stands c (rule4 nlib g c) x
-    unfolding rule4 order breaks_at first_rules
-    hits4 = first_record 4 c refl _ (asked_one 4 c (of_user 4 c user)) one refl
+    pub hits4 : (x : ℕ) → Hit nlib g Clash c x ↔ Stands c (rule4 nlib g c) x
+    unfolding rule4
+    hits4 = first_record Clash c refl _ (asked_one Clash c (of_user Clash c user)) one refl
 
-    pub hits5 : (x : ℕ) → Hit nlib g 5 c x ↔ Stands c (rule5 nlib g c) x
-    unfolding rule5 order breaks_at first_rules
-    hits5 = each_record 5 c refl _ (asked_all 5 c (of_user 5 c user)) (λ k r. refl)
+    pub hits5 : (x : ℕ) → Hit nlib g Statics c x ↔ Stands c (rule5 nlib g c) x
+    unfolding rule5
+    hits5 = each_record Statics c refl _ (asked_all Statics c (of_user Statics c user)) (λ k r. refl)
 
-    pub hits6 : (x : ℕ) → Hit nlib g 6 c x ↔ Stands c (rule6 nlib g c) x
-    unfolding rule6 order breaks_at first_rules
-    hits6 = first_record 6 c refl _ (asked_one 6 c (of_user 6 c user)) one refl
+    pub hits6 : (x : ℕ) → Hit nlib g LetsOut c x ↔ Stands c (rule6 nlib g c) x
+    unfolding rule6
+    hits6 = first_record LetsOut c refl _ (asked_one LetsOut c (of_user LetsOut c user)) one refl

@@ -2,34 +2,43 @@
 -- Assumes nothing.
 use mathlib.Core.Path.{◌≡◌, refl, sym, ap, ap₂, ◌∙◌, subst}
 use mathlib.Core.Logic.{◌⊎◌, inl, inr}
-use mathlib.Core.Bool.{Bool, true, false, not, ◌&&◌, ◌||◌, and-false, or-false}
+use mathlib.Core.Bool.{Bool, true, false, not, ◌||◌, and-false, or-false}
 use mathlib.Core.List.{List, [], ◌∷◌, ◌++◌, append-nil, append_assoc}
 use Prim.Native.Nat.{ℕ, zero, suc, ◌≤◌, ◌<◌}
 use native.Mathlib.Nat.{not-suc-le-zero}
 use native.Mathlib.Decide.{ℕ_discrete}
 use native.Mathlib.Omega.{arith}
-use lib.Dec.{T, eqb, ltb, eqb→eq, ltb→lt, nltb→le}
-use lib.ListN.{get_or, set, take, replicate, length-set, get_or-replicate, get_or-eq_default}
+use lib.Dec.{T, ltb, eqb→eq, ltb→lt, nltb→le}
+use lib.ListN.{get_or, set, take, replicate}
 use lib.Seq.{get_or-set_other}
-use borrow.Author.Tests.{eq-eqb, ne_eqb, lt-ltb, le-ltb}
+use borrow.Author.Tests.{ne_eqb, lt-ltb, le-ltb}
+use Rattle.std.specs.Prelude.{Option, None, Some, IfSome}
 use Rattle.spec.specs.Lists.{any, keep, gather, numbered}
-use Rattle.spec.specs.Record.{u16, kind, is_class, CLASS, FIELD, superclass}
+use Rattle.spec.specs.Record.{kind, is_class, CLASS, FIELD, superclass}
 use Rattle.spec.specs.Sheet.{Group, class_record, is_interface, is_instance_field}
-use Rattle.spec.specs.Classes.{field_slot, has_marker, lineage, root}
+use Rattle.spec.specs.Classes.{lineage, root}
 use Rattle.spec.specs.Rules.{Fault, judged_for}
 use Rattle.spec.specs.Refusals.{one_class}
-use Rattle.laws.proofs.Bools.{decide, true_t, and_l, and_r}
+use Rattle.laws.proofs.Bools.{decide, and_l}
 use Rattle.theory.proofs.Somewhere.{some, some_append, some_map, some_keep}
 use Rattle.theory.proofs.Lines.{lineage_library, root_library}
 use Rattle.theory.proofs.Form.{lineage_up, root_up}
-use Rattle.breaks.specs.Breaking.{line_breaks, head_breaks, first_rules, breaks_at}
+use Rattle.records.specs.Kinds.{optional}
+use Rattle.records.proofs.Optional.{some_is}
+use Rattle.sheets.specs.Sheets.{Pair, count, groups, library_count}
+use Rattle.slots.specs.declared.Late.{Late as LateRule}
+use Rattle.slots.specs.declared.Late.TheVariants.{Immutable, Powerless, Selfless, DeepSelfless}
+use Rattle.slots.specs.Slots.{rule_marker, fixed_breaks, root_breaks, field_breaks, slots_break}
+use Rattle.breaks.specs.declared.rule.Rule.{Rule}
+use Rattle.breaks.specs.declared.rule.Rule.TheVariants.{Classes, Members, Reserved, Clash, Statics, LetsOut, Late}
+use Rattle.breaks.specs.Breaking.{has_base, line_breaks, head_breaks, breaks_at}
+use Rattle.breaks.proofs.Heads.{anywhere}
 use Rattle.breaks.proofs.Lines.{line_library, line_up}
-use Rattle.rules.specs.Walk.{only_first, asked, found_in, found, above, first_class, classes_from, walked, kept_at, climbed, Empty, Kept}
-use Rattle.rules.proofs.Ascent.{Spot, higher, itself, past, left, own_from, above_from, from_past, left_self, left_up}
-use Rattle.rules.proofs.Hits.{asked_all, asked_one}
-use Rattle.rules.proofs.Verdicts.{Ground}
+use Rattle.rules.specs.Walk.{only_first, asked, found_in, found, above, first_class, classes_from, walked, lane_of, kept_at, climbed, Empty, Kept}
+use Rattle.rules.proofs.Ground.{Ground}
+use Rattle.rules.proofs.Ascent.{Spot, left, own_from, above_from, super_is, left_self, left_up, judged_super}
+use Rattle.rules.proofs.Hits.{asked_all, asked_one, of_user}
 use Rattle.rules.proofs.Judging.{ClassAt}
-use Rattle.slots.specs.Slots.{rule_marker, slot_fits, fixed_breaks, root_breaks, field_breaks, slots_break}
 
 nothing : {A : Type 0} (xs : List A) → some xs ≡ false → xs ≡ []
 unfolding some
@@ -38,25 +47,21 @@ nothing (x ∷ xs) e = absurd (subst T e tt)
 
 -- ---- one class
 
-module _ (nlib : ℕ) (g : ℕ → Group) (rule c : ℕ) (late : 7 ≤ rule) where
-  at_record : (t k : ℕ) (r : List ℕ) → breaks_at nlib g rule c t k r ≡ elim (eqb k 0) as (λ (b : Bool). Bool) [ true ↦ head_breaks nlib g rule c t | false ↦ field_breaks g rule t k r ]
-  unfolding breaks_at first_rules
-  at_record t k r = get_or-eq_default (first_rules nlib g t r) _ late
-
-  found_some : (t : ℕ) → some (found nlib g rule c t) ≡ any (λ (n : ℕ × List ℕ). breaks_at nlib g rule c t n.0 n.1) (numbered 0 (asked nlib g rule t))
+module _ (nlib : ℕ) (g : ℕ → Group) (rule : LateRule) (c : ℕ) where
+  found_some : (t : ℕ) → some (found nlib g (Late rule) c t) ≡ any (λ (n : ℕ × List ℕ). breaks_at nlib g (Late rule) c t n.0 n.1) (numbered 0 (asked nlib g (Late rule) t))
   unfolding found found_in
   found_some t =
-      some_map (λ (n : ℕ × List ℕ). record { class = t; record_number = n.0 }) (keep (λ (n : ℕ × List ℕ). breaks_at nlib g rule c t n.0 n.1) (numbered 0 (asked nlib g rule t)))
-      ∙ some_keep (λ (n : ℕ × List ℕ). breaks_at nlib g rule c t n.0 n.1) (numbered 0 (asked nlib g rule t))
+      let p : ℕ × List ℕ → Bool = λ n. breaks_at nlib g (Late rule) c t n.0 n.1 in
+      some_map (λ (n : ℕ × List ℕ). record { class = t; record_number = n.0 }) (keep p (numbered 0 (asked nlib g (Late rule) t))) ∙ some_keep p (numbered 0 (asked nlib g (Late rule) t))
 
   -- the records after the first are asked as fields
-  later_fields : (t k : ℕ) (rs : Group) → any (λ (n : ℕ × List ℕ). breaks_at nlib g rule c t n.0 n.1) (numbered (suc k) rs) ≡ any (field_breaks g rule 0 0) rs
-  unfolding any numbered field_breaks slot_fits field_slot
+  later_fields : (t k : ℕ) (rs : Group) → any (λ (n : ℕ × List ℕ). breaks_at nlib g (Late rule) c t n.0 n.1) (numbered (suc k) rs) ≡ any (field_breaks g rule 0 0) rs
+  unfolding any numbered
   later_fields t k [] = refl
   later_fields t k (r ∷ rs) =
-      let e : breaks_at nlib g rule c t (suc k) r ≡ field_breaks g rule 0 0 r =
-      at_record t (suc k) r ∙ ap (λ (z : Bool). elim z as (λ (b : Bool). Bool) [ true ↦ head_breaks nlib g rule c t | false ↦ field_breaks g rule t (suc k) r ])
-      (ne_eqb (suc k) 0 (λ e. omega arith)) in
+      let e : breaks_at nlib g (Late rule) c t (suc k) r ≡ field_breaks g rule 0 0 r =
+      ap (λ (z : Bool). elim z as (λ (b : Bool). Bool) [ true ↦ head_breaks nlib g rule c t | false ↦ field_breaks g rule t (suc k) r ])
+      (ne_eqb (suc k) 0 (λ e. omega arith)) ∙ sym (anywhere g rule t (suc k) r) in
       ap₂ (λ (a b : Bool). a || b) e (later_fields t (suc k) rs)
 
   -- a CLASS record is no field
@@ -64,33 +69,33 @@ module _ (nlib : ℕ) (g : ℕ → Group) (rule c : ℕ) (late : 7 ≤ rule) whe
   unfolding field_breaks is_instance_field
   class_no_field r k = let e : kind r ≡ CLASS = eqb→eq (kind r) CLASS k in rw (ne_eqb (kind r) FIELD (λ q. omega (arith, e, q)))
 
-  user_some : {t : ℕ} → nlib ≤ t → (t ≡ c → ⊥) → T (one_class (g t)) → some (found nlib g rule c t) ≡ slots_break g rule t
-  unfolding slots_break only_first one_class any numbered head_breaks
+  user_some : {t : ℕ} → nlib ≤ t → (t ≡ c → ⊥) → T (one_class (g t)) → some (found nlib g (Late rule) c t) ≡ slots_break g rule t
+  unfolding slots_break one_class any numbered head_breaks
   user_some {t} user ne one =
       found_some t
-      ∙ ap (λ (rs : Group). any (λ (n : ℕ × List ℕ). breaks_at nlib g rule c t n.0 n.1) (numbered 0 rs))
-      (asked_all nlib g rule t (rw (le-ltb t nlib user, ne_eqb rule 3 (λ e. omega arith), ne_eqb rule 4 (λ e. omega arith), ne_eqb rule 6 (λ e. omega arith))))
+      ∙ ap (λ (rs : Group). any (λ (n : ℕ × List ℕ). breaks_at nlib g (Late rule) c t n.0 n.1) (numbered 0 rs))
+      (asked_all nlib g (Late rule) t (of_user nlib g (Late rule) t user))
       ∙ go (g t) one
     where
       head : head_breaks nlib g rule c t ≡ fixed_breaks g rule t
-      head = rw (le-ltb t nlib user, head_breaks, ne_eqb t c ne, and-false (eqb rule 9)) (or-false (fixed_breaks g rule t))
+      head = rw (le-ltb t nlib user, head_breaks, ne_eqb t c ne, and-false (has_base rule)) (or-false (fixed_breaks g rule t))
 
-      go : (h : Group) → T (one_class h) → any (λ (n : ℕ × List ℕ). breaks_at nlib g rule c t n.0 n.1) (numbered 0 h) ≡ (fixed_breaks g rule t || any (field_breaks g rule 0 0) h)
+      go : (h : Group) → T (one_class h) → any (λ (n : ℕ × List ℕ). breaks_at nlib g (Late rule) c t n.0 n.1) (numbered 0 h) ≡ (fixed_breaks g rule t || any (field_breaks g rule 0 0) h)
       go [] o = absurd o
       go (r ∷ rs) o =
-          ap₂ (λ (a b : Bool). a || b) (at_record t 0 r ∙ head) (later_fields t 0 rs
+          ap₂ (λ (a b : Bool). a || b) head (later_fields t 0 rs
           ∙ ap (λ (b : Bool). b || any (field_breaks g rule 0 0) rs) (sym (class_no_field r (and_l (is_class r) (not (any is_class rs)) o))))
 
-  root_some : {t : ℕ} → t < nlib → T (one_class (g t)) → some (found nlib g rule c t) ≡ root_breaks g rule t
+  root_some : {t : ℕ} → t < nlib → T (one_class (g t)) → some (found nlib g (Late rule) c t) ≡ root_breaks g rule t
   unfolding only_first one_class any numbered head_breaks
   root_some {t} h one =
       found_some t
-      ∙ ap (λ (rs : Group). any (λ (n : ℕ × List ℕ). breaks_at nlib g rule c t n.0 n.1) (numbered 0 rs)) (asked_one nlib g rule t (rw (lt-ltb t nlib h)))
+      ∙ ap (λ (rs : Group). any (λ (n : ℕ × List ℕ). breaks_at nlib g (Late rule) c t n.0 n.1) (numbered 0 rs)) (asked_one nlib g (Late rule) t (rw (lt-ltb t nlib h)))
       ∙ go (g t) one
     where
-      go : (k : Group) → T (one_class k) → any (λ (n : ℕ × List ℕ). breaks_at nlib g rule c t n.0 n.1) (numbered 0 (take 1 k)) ≡ root_breaks g rule t
+      go : (k : Group) → T (one_class k) → any (λ (n : ℕ × List ℕ). breaks_at nlib g (Late rule) c t n.0 n.1) (numbered 0 (take 1 k)) ≡ root_breaks g rule t
       go [] o = absurd o
-      go (r ∷ rs) o = or-false (breaks_at nlib g rule c t 0 r) ∙ at_record t 0 r ∙ rw (lt-ltb t nlib h, head_breaks)
+      go (r ∷ rs) o = or-false (breaks_at nlib g (Late rule) c t 0 r) ∙ rw (lt-ltb t nlib h, head_breaks)
 
 -- ---- a class and those above it
 
@@ -99,9 +104,15 @@ unfolding gather
 gather_append f [] ys = refl
 gather_append f (x ∷ xs) ys = ap (λ l. f x ++ l) (gather_append f xs ys) ∙ sym (append_assoc (f x) (gather f xs) (gather f ys))
 
-module _ {nlib n : ℕ} {g : ℕ → Group} (w : Ground nlib n g) {c : ℕ} (user : nlib ≤ c) (there : c < n) {rule : ℕ} (late : 7 ≤ rule) where
+module _ (p : Pair) (w : Ground (library_count p) (count p) (groups p)) {c : ℕ} (user : library_count p ≤ c) (there : c < count p) (rule : LateRule) where
+  abbrev nlib : ℕ
+  nlib = library_count p
+
+  abbrev g : ℕ → Group
+  g = groups p
+
   abbrev finds : ℕ → List Fault
-  finds = found nlib g rule c
+  finds = found nlib g (Late rule) c
 
   line_some : (k t : ℕ) → t < k → t < c → T (not (is_interface (g t))) → some (gather finds (lineage nlib g t ++ root nlib g t)) ≡ line_breaks nlib g rule t
   unfolding gather lineage root
@@ -114,37 +125,35 @@ module _ {nlib n : ℕ} {g : ℕ → Group} (w : Ground nlib n g) {c : ℕ} (use
       go (inl x) ih =
           let h = ltb→lt t nlib x in
           ap₂ (λ (p q : List ℕ). some (gather finds (p ++ q))) (lineage_library nlib g w.falls t t h) (root_library nlib g w.falls t t h)
-          ∙ ap some (append-nil (finds t)) ∙ root_some nlib g rule c late h (w.one t (omega arith)) ∙ line_library nlib g w.falls rule h
+          ∙ ap some (append-nil (finds t)) ∙ root_some nlib g rule c h (w.one t (omega arith)) ∙ line_library nlib g w.falls rule h
       go (inr x) ih =
           let h = nltb→le t nlib x in
           let u = w.supers t h (omega arith) i in
           let up : ℕ = superclass (class_record (g t)) in
           ap₂ (λ (p q : List ℕ). some (gather finds (p ++ q))) (lineage_up nlib g w.falls t h u) (root_up nlib g w.falls t h u)
           ∙ some_append (finds t) (gather finds (lineage nlib g up ++ root nlib g up))
-          ∙ ap₂ (λ (p q : Bool). p || q) (user_some nlib g rule c late h (λ e. omega arith) (w.one t (omega arith))) (ih u.lower u.concrete) ∙ line_up nlib g w.falls rule h u
+          ∙ ap₂ (λ (p q : Bool). p || q) (user_some nlib g rule c h (λ e. omega arith) (w.one t (omega arith))) (ih u.lower u.concrete) ∙ line_up nlib g w.falls rule h u
 
   -- what is found from t on: above c, and in c itself
   module _ {t : ℕ} (l : t < c) (i : T (not (is_interface (g t)))) where
-    parts : gather finds (classes_from nlib g n c t) ≡ gather finds (lineage nlib g t ++ root nlib g t) ++ gather finds (c ∷ [])
+    parts : gather finds (classes_from nlib g c (Some t)) ≡ gather finds (lineage nlib g t ++ root nlib g t) ++ gather finds (c ∷ [])
     unfolding above
     parts =
-        ap (gather finds) (sym (above_from nlib n g w.falls w.supers c user there t l i) ∙ sym (append_assoc (lineage nlib g t) (root nlib g t) (c ∷ [])))
+        ap (gather finds) (sym (above_from w user there l i) ∙ sym (append_assoc (lineage nlib g t) (root nlib g t) (c ∷ [])))
         ∙ gather_append finds (lineage nlib g t ++ root nlib g t) (c ∷ [])
 
     -- nothing above: so the walk may go to c
-    skipped : Empty nlib g rule t → ClassAt nlib n g c rule t → ClassAt nlib n g c rule c
+    skipped : Empty p rule t → ClassAt nlib g c (Late rule) (Some t) → ClassAt nlib g c (Late rule) (Some c)
     skipped e k = record {
-      rules = k.rules;
-      spot = itself refl;
-      concrete = λ a b. k.concrete a (omega arith);
-      rest = k.rest ∙ parts ∙ ap (λ (fs : List Fault). fs ++ gather finds (c ∷ [])) (nothing _ (line_some (suc t) t (omega arith) l i ∙ e.line))
-          ∙ ap (gather finds) (sym (own_from nlib n g w.falls w.supers c user there));
+      spot = inr refl;
+      rest = k.rest ∙ parts ∙ ap (λ (fs : List Fault). fs ++ gather finds (c ∷ [])) (nothing _ (line_some (suc t) t (omega arith) l i ∙ e.line)) ∙ ap (gather finds) (sym (own_from w user there));
     }
 
     -- nothing found: so nothing above
-    pub none_above : ClassAt nlib n g c rule t → walked nlib g rule c ≡ [] → Empty nlib g rule t
+    none_above : ClassAt nlib g c (Late rule) (Some t) → walked nlib g (Late rule) c ≡ [] → Empty p rule t
     unfolding some
     none_above k e = record {
+      there = omega arith;
       line = sym (line_some (suc t) t (omega arith) l i)
           ∙ left_none _ _ (sym (some_append (gather finds (lineage nlib g t ++ root nlib g t)) (gather finds (c ∷ []))) ∙ ap some (sym parts ∙ sym k.rest ∙ e));
       concrete = i;
@@ -154,131 +163,128 @@ module _ {nlib n : ℕ} {g : ℕ → Group} (w : Ground nlib n g) {c : ℕ} (use
         left_none true b q = q
         left_none false b q = refl
 
--- ---- the row
-
-module _ {nlib n : ℕ} {g : ℕ → Group} {row : List ℕ} (p : Kept nlib n g row) where
-  pub kept_more : {rule t : ℕ} → 7 ≤ rule → rule ≤ 10 → t < n → n ≤ 256 → Empty nlib g rule t → {i : ℕ} → i ≡ kept_at rule t → Kept nlib n g (set row i 1)
-  kept_more {rule} {t} a b h few e {i} q = record {
-    long = length-set row i 1 ∙ p.long;
-    is = λ rule' t' a' b' h' one. go rule' t' a' b' h' one (ℕ_discrete (kept_at rule' t') i);
-  }
+  -- the rule found nothing, from the superclass up and in c: that is kept
+  pub keep_from : (first : Option ℕ) → first ≡ first_class g (Late rule) c → ClassAt nlib g c (Late rule) first → ClassAt nlib g c (Late rule) None → IfSome first (λ t. Empty p rule t)
+  unfolding gather
+  keep_from None e k end = tt
+  keep_from (Some t) e k end = at k.spot
     where
-      go : (rule' t' : ℕ) → 7 ≤ rule' → rule' ≤ 10 → t' < n → get_or (set row i 1) (kept_at rule' t') 0 ≡ 1 → Dec (kept_at rule' t' ≡ i) → Empty nlib g rule' t'
-      go rule' t' a' b' h' one (yes z) =
-          let er : rule ≡ rule' = omega arith in
-          let et : t ≡ t' = omega arith in
-          subst (λ (x : ℕ). Empty nlib g rule' x) et (subst (λ (x : ℕ). Empty nlib g x t) er e)
-      go rule' t' a' b' h' one (no z) = p.is rule' t' a' b' h' (sym (get_or-set_other row i (kept_at rule' t') 1 0 z) ∙ one)
+      lower : (b : Bool) → judged_for g (rule_marker rule) c ≡ b → Some t ≡ elim b as (λ (_ : Bool). Option ℕ) [ true ↦ optional (superclass (class_record (g c))) | false ↦ None ] → t < c
+      lower true q z =
+          let u = judged_super w user there rule q in
+          let a : t ≡ superclass (class_record (g c)) = sym (some_is (superclass (class_record (g c))) z) in
+          omega (arith, u.lower)
+      lower false q z = absurd (cc)
+
+      at : Spot g c (Some t) → Empty p rule t
+      at (inl h) = none_above h.0 h.1 k end.rest
+      at (inr z) = absurd (let l : t < c = lower (judged_for g (rule_marker rule) c) refl e in omega arith)
+
+-- ---- the rows
+
+lane_apart : (a b : LateRule) → lane_of a ≡ lane_of b → a ≡ b
+lane_apart Immutable Immutable e = refl
+lane_apart Immutable Powerless e = absurd (omega arith)
+lane_apart Immutable Selfless e = absurd (omega arith)
+lane_apart Immutable DeepSelfless e = absurd (omega arith)
+lane_apart Powerless Immutable e = absurd (omega arith)
+lane_apart Powerless Powerless e = refl
+lane_apart Powerless Selfless e = absurd (omega arith)
+lane_apart Powerless DeepSelfless e = absurd (omega arith)
+lane_apart Selfless Immutable e = absurd (omega arith)
+lane_apart Selfless Powerless e = absurd (omega arith)
+lane_apart Selfless Selfless e = refl
+lane_apart Selfless DeepSelfless e = absurd (omega arith)
+lane_apart DeepSelfless Immutable e = absurd (omega arith)
+lane_apart DeepSelfless Powerless e = absurd (omega arith)
+lane_apart DeepSelfless Selfless e = absurd (omega arith)
+lane_apart DeepSelfless DeepSelfless e = refl
+
+-- a class in a row, beside the one that is written
+row_set : (rows : List (List Bool)) (i t u : ℕ) → (u ≡ t → ⊥) → get_or (get_or (set rows i (set (get_or rows i []) t true)) i []) u false ≡ get_or (get_or rows i []) u false
+row_set [] i t u n = refl
+row_set (row ∷ rows) zero t u n = get_or-set_other row t u true false n
+row_set (row ∷ rows) (suc i) t u n = row_set rows i t u n
+
+pub kept_more : {p : Pair} {rows : List (List Bool)} → Kept p rows → {rule : LateRule} {t : ℕ} → Empty p rule t → {i : ℕ} → i ≡ lane_of rule
+    → Kept p (set rows i (set (get_or rows i []) t true))
+unfolding kept_at
+kept_more {p} {rows} k {rule} {t} e ei = rw ei (record { is = λ late u one. go late u one (ℕ_discrete (lane_of late) (lane_of rule)) (ℕ_discrete u t) })
+  where
+    row : List Bool
+    row = set (get_or rows (lane_of rule) []) t true
+
+    go : (late : LateRule) (u : ℕ) → get_or (get_or (set rows (lane_of rule) row) (lane_of late) []) u false ≡ true → Dec (lane_of late ≡ lane_of rule) → Dec (u ≡ t) → Empty p late u
+    go late u one (no n) d = k.is late u (ap (λ (r : List Bool). get_or r u false) (sym (get_or-set_other rows (lane_of rule) (lane_of late) row [] n)) ∙ one)
+    go late u one (yes z) (yes q) = subst (λ (l : LateRule). Empty p l u) (sym (lane_apart late rule z)) (subst (Empty p rule) (sym q) e)
+    go late u one (yes z) (no n) =
+        k.is late u
+        (ap (λ (i : ℕ). get_or (get_or rows i []) u false) z ∙ sym (row_set rows (lane_of rule) t u n)
+        ∙ ap (λ (i : ℕ). get_or (get_or (set rows (lane_of rule) row) i []) u false) (sym z) ∙ one)
 
 -- nothing is kept at first
-pub kept_none : {nlib n : ℕ} {g : ℕ → Group} → n ≤ 256 → Kept nlib n g (replicate 1024 0)
-kept_none few = record { long = refl; is = λ rule t a b h one. absurd (omega (arith, get_or-replicate {A = ℕ} 1024 (kept_at rule t) 0 0 (omega arith))) }
+all_false : (n t : ℕ) → get_or (replicate n false) t false ≡ false
+all_false zero t = refl
+all_false (suc n) zero = refl
+all_false (suc n) (suc t) = all_false n t
+
+pub kept_none : {p : Pair} → Kept p (replicate 4 (replicate 256 false))
+unfolding kept_at
+kept_none {p} = record { is = none }
+  where
+    none : (rule : LateRule) (t : ℕ) → get_or (get_or (replicate 4 (replicate 256 false)) (lane_of rule) []) t false ≡ true → Empty p rule t
+    none Immutable t e = absurd (let q = all_false 256 t in cc)
+    none Powerless t e = absurd (let q = all_false 256 t in cc)
+    none Selfless t e = absurd (let q = all_false 256 t in cc)
+    none DeepSelfless t e = absurd (let q = all_false 256 t in cc)
 
 -- ---- the code's steps
 
-module _ {nlib n : ℕ} {g : ℕ → Group} (w : Ground nlib n g) {c : ℕ} (user : nlib ≤ c) (there : c < n) {rule : ℕ} {row : List ℕ} (p : Kept nlib n g row) (ten : rule ≤ 10) where
-  -- where the walk goes to: a class from which on it finds what is left
-  pub climb_at : {t r : ℕ} → ClassAt nlib n g c rule t → r ≡ climbed row n rule c t → ClassAt nlib n g c rule r × (left n c r ≤ left n c t)
-  unfolding climbed
-  climb_at {t} {r} k e = go (ltb t n && (not (ltb rule 7) && eqb (get_or row (kept_at rule t) 0) 1)) refl e
+-- where the walk goes to: a class from which on it finds what is left
+module _ (p : Pair) (w : Ground (library_count p) (count p) (groups p)) {c : ℕ} (user : library_count p ≤ c) (there : c < count p) {rows : List (List Bool)} (k : Kept p rows) where
+  abbrev Onto : Rule → Option ℕ → Option ℕ → Type 0
+  Onto rule class to = ClassAt (library_count p) (groups p) c rule to × (left c to ≤ left c class)
+
+  stay : {rule : Rule} {class : Option ℕ} → ClassAt (library_count p) (groups p) c rule class → Onto rule class class
+  stay a = (a, omega arith)
+
+  pub climb_at : (rule : Rule) (class : Option ℕ) → ClassAt (library_count p) (groups p) c rule class → {to : Option ℕ} → to ≡ climbed rows rule c class
+      → ClassAt (library_count p) (groups p) c rule to × (left c to ≤ left c class)
+  climb_at rule None a e = subst (Onto rule None) (sym e) (stay a)
+  climb_at Classes (Some t) a e = subst (Onto Classes (Some t)) (sym e) (stay a)
+  climb_at Members (Some t) a e = subst (Onto Members (Some t)) (sym e) (stay a)
+  climb_at Reserved (Some t) a e = subst (Onto Reserved (Some t)) (sym e) (stay a)
+  climb_at Clash (Some t) a e = subst (Onto Clash (Some t)) (sym e) (stay a)
+  climb_at Statics (Some t) a e = subst (Onto Statics (Some t)) (sym e) (stay a)
+  climb_at LetsOut (Some t) a e = subst (Onto LetsOut (Some t)) (sym e) (stay a)
+  climb_at (Late late) (Some t) a e = subst (Onto (Late late) (Some t)) (sym e) (go (kept_at rows late t) refl)
     where
-      Goal : ℕ → Type 0
-      Goal x = ClassAt nlib n g c rule x × (left n c x ≤ left n c t)
+      at : kept_at rows late t ≡ true → Spot (groups p) c (Some t) → Onto (Late late) (Some t) (Some c)
+      at q (inl h) = (skipped p w user there late h.0 h.1 (k.is late t q) a, omega (arith, left_self w user there, left_up w user there h.0))
+      at q (inr z) = subst (λ (x : ℕ). Onto (Late late) (Some t) (Some x)) z (stay a)
 
-      go : (b : Bool) → (ltb t n && (not (ltb rule 7) && eqb (get_or row (kept_at rule t) 0) 1)) ≡ b → r ≡ elim b as (λ (x : Bool). ℕ) [ true ↦ c | false ↦ t ] → Goal r
-      go false q e = subst Goal (sym e) (k, omega arith)
-      go true q e = subst Goal (sym e) (at k.spot)
-        where
-          tests : T (ltb t n && (not (ltb rule 7) && eqb (get_or row (kept_at rule t) 0) 1))
-          tests = true_t q
+      go : (b : Bool) → kept_at rows late t ≡ b → Onto (Late late) (Some t) (elim b as (λ (_ : Bool). Option ℕ) [ true ↦ Some c | false ↦ Some t ])
+      go true q = at q a.spot
+      go false q = stay a
 
-          inner : T (not (ltb rule 7) && eqb (get_or row (kept_at rule t) 0) 1)
-          inner = and_r (ltb t n) (not (ltb rule 7) && eqb (get_or row (kept_at rule t) 0) 1) tests
+-- a measure of the classes that are left above
+abbrev pub rank : Option ℕ → ℕ
+rank None = 0
+rank (Some t) = suc t
 
-          low : t < n
-          low = ltb→lt t n (and_l (ltb t n) (not (ltb rule 7) && eqb (get_or row (kept_at rule t) 0) 1) tests)
-
-          late : 7 ≤ rule
-          late = nltb→le rule 7 (and_l (not (ltb rule 7)) (eqb (get_or row (kept_at rule t) 0) 1) inner)
-
-          one : get_or row (kept_at rule t) 0 ≡ 1
-          one = eqb→eq (get_or row (kept_at rule t) 0) 1 (and_r (not (ltb rule 7)) (eqb (get_or row (kept_at rule t) 0) 1) inner)
-
-          at : Spot n g c t → Goal c
-          at (past h) = absurd (omega (arith, low, h))
-          at (itself z) = subst Goal z (k, omega arith)
-          at (higher l i) = (
-            skipped w user there late l i (p.is rule t late ten low one) k,
-            omega
-                (arith, left_self nlib n g w.falls w.supers c user there, left_up nlib n g w.falls w.supers c user there t l),
-          )
-
-  -- the first class that one of rules 7 to 10 asks is the superclass
-  pub first_lower : {t : ℕ} → 7 ≤ rule → t ≡ first_class nlib g n rule c → t < n → t < c
-  unfolding first_class judged_for
-  first_lower {t} late e h = go (judged_for g (rule_marker rule) c) refl (e ∙ rw (le-ltb rule 7 late, first_class))
-    where
-      go : (b : Bool) → judged_for g (rule_marker rule) c ≡ b → t ≡ elim b as (λ (x : Bool). ℕ) [ true ↦ superclass (class_record (g c)) | false ↦ n ] → t < c
-      go true q z = let u = w.supers c user there (and_l (not (is_interface (g c))) (has_marker g (rule_marker rule) c) (true_t q)) in omega (arith, z, u.lower)
-      go false q z = absurd (omega (arith, z))
-
-  -- the rule found nothing, from the superclass up and in c: that is kept
-  pub keep_at : {t u : ℕ} → 7 ≤ rule → t < n → t < c → ClassAt nlib n g c rule t → ClassAt nlib n g c rule u → n ≤ u → Empty nlib g rule t
-  unfolding gather
-  keep_at {t} {u} late low l k end h = at k.spot
-    where
-      none_left : walked nlib g rule c ≡ []
-      none_left = end.rest ∙ ap (gather (found nlib g rule c)) (from_past nlib n g w.falls w.supers c user there u h)
-
-      at : Spot n g c t → Empty nlib g rule t
-      at (past q) = absurd (omega arith)
-      at (itself z) = absurd (omega arith)
-      at (higher m i) = none_above w user there late m i k none_left
-
-module _ (row : List ℕ) (n rule c t : ℕ) where
-  pub climb_none : n ≤ t → t ≡ climbed row n rule c t
-  unfolding climbed
-  climb_none h = rw (le-ltb t n h, climbed)
-
-  pub climb_early : rule < 7 → t ≡ climbed row n rule c t
-  unfolding climbed
-  climb_early h = rw (lt-ltb rule 7 h, and-false (ltb t n), climbed)
-
-  module _ (h : t < n) (late : 7 ≤ rule) {i : ℕ} (ei : i ≡ kept_at rule t) where
-    pub climb_kept : get_or row i 0 ≡ 1 → c ≡ climbed row n rule c t
-    unfolding climbed
-    climb_kept e = rw (lt-ltb t n h, le-ltb rule 7 late, eq-eqb (get_or row (kept_at rule t) 0) 1 (ap (λ (j : ℕ). get_or row j 0) (sym ei) ∙ e), climbed)
-
-    pub climb_other : (get_or row i 0 ≡ 1 → ⊥) → t ≡ climbed row n rule c t
-    unfolding climbed
-    climb_other e = rw (lt-ltb t n h, le-ltb rule 7 late, ne_eqb (get_or row (kept_at rule t) 0) 1 (λ q. e (ap (λ (j : ℕ). get_or row j 0) ei ∙ q)), climbed)
-
--- ---- keeping upward
-
--- the class where it stands is to be kept, if it is a user class
-pub record Keeping (nlib n : ℕ) (g : ℕ → Group) (rule : ℕ) (row : List ℕ) (t : ℕ) : Type 0 where
-  pub kept : Kept nlib n g row
-  pub there : t < n
-  pub empty : Empty nlib g rule t
-
-module _ {nlib n : ℕ} {g : ℕ → Group} (w : Ground nlib n g) {rule : ℕ} (a : 7 ≤ rule) (b : rule ≤ 10) (few : n ≤ 256) {row : List ℕ} {t : ℕ} (k : Keeping nlib n g rule row t) where
-  pub keep_next : nlib ≤ t → {i : ℕ} → i ≡ kept_at rule t → {s v : ℕ} → s ≡ v → v ≡ u16 (class_record (g t)) 8 → Keeping nlib n g rule (set row i 1) s × (s < t)
-  unfolding superclass
-  keep_next h q {s} es ev =
-      let u = w.supers t h k.there k.empty.concrete in
-      let e : s ≡ superclass (class_record (g t)) = es ∙ ev in (
-        record {
-          kept = kept_more k.kept a b k.there few k.empty q;
-          there = omega (arith, e, u.lower, k.there);
-          empty = subst (Empty nlib g rule) (sym e) (record {
-            line = right_none (slots_break g rule t) (line_breaks nlib g rule (superclass (class_record (g t))))
-                (line_up nlib g w.falls rule h u ∙ k.empty.line);
-            concrete = u.concrete;
-          });
-        },
-        omega (arith, e, u.lower),
-      )
-    where
-      right_none : (x y : Bool) → (x || y) ≡ false → y ≡ false
-      right_none true y z = absurd (subst T z tt)
-      right_none false y z = z
+-- one class further up nothing is found either
+pub keep_next : (p : Pair) → Ground (library_count p) (count p) (groups p) → {rule : LateRule} {t : ℕ} → Empty p rule t → library_count p ≤ t → {next : Option ℕ}
+    → next ≡ optional (superclass (class_record (groups p t))) → IfSome next (λ u. Empty p rule u) × (rank next < suc t)
+keep_next p w {rule} {t} e h q =
+    let up : ℕ = superclass (class_record (groups p t)) in
+    let u = w.supers t h e.there e.concrete in
+    let above : Empty p rule up = record {
+      there = omega (arith, u.lower, e.there);
+      line = right_none (slots_break (groups p) rule t) (line_breaks (library_count p) (groups p) rule up) (line_up (library_count p) (groups p) w.falls rule h u ∙ e.line);
+      concrete = u.concrete;
+    } in
+    subst (λ (o : Option ℕ). IfSome o (λ x. Empty p rule x) × (rank o < suc t)) (sym (q ∙ super_is w u e.there)) (above, omega (arith, u.lower))
+  where
+    right_none : (x y : Bool) → (x || y) ≡ false → y ≡ false
+    right_none true y z = absurd (subst T z tt)
+    right_none false y z = z

@@ -2,7 +2,7 @@
 -- Assumes nothing.
 use mathlib.Core.Path.{◌≡◌, refl, sym, ap, ◌∙◌, subst}
 use mathlib.Core.Logic.{◌⊎◌, inl, inr, ◌↔◌}
-use mathlib.Core.Bool.{Bool, true, false, not, ◌&&◌, ◌||◌}
+use mathlib.Core.Bool.{Bool, not, ◌&&◌, ◌||◌}
 use mathlib.Core.List.Memᴰ
 use mathlib.Core.List.{List, [], ◌∷◌, ◌++◌, map, append-nil, Memᴰ}
 use Prim.Native.Nat.{ℕ, ◌≤◌, ◌<◌}
@@ -10,26 +10,29 @@ use native.Mathlib.Nat.{zero-add, le_refl}
 use native.Mathlib.Decide.{ℕ_discrete}
 use native.Mathlib.Omega.{arith}
 use lib.Dec.{T, eqb, eqb→eq}
-use lib.ListN.{take, get_or-eq_default}
+use lib.ListN.{take}
 use borrow.Author.Tests.{ne_eqb, lt-ltb, le-ltb}
 use Rattle.spec.specs.Lists.{keep, gather, numbered, only_if}
 use Rattle.spec.specs.Record.{kind, is_kind, CLASS, FIELD, is_static, superclass}
-use Rattle.spec.specs.Sheet.{Group, class_record, is_interface, is_inner, is_instance_field}
-use Rattle.spec.specs.Classes.{Slot, field_slot, encloser_slot, variable_slot, superclasses, enclosing, has_marker, local_at, captured, encloser_slots, field_slots, captured_slots, own_slots, lineage}
+use Rattle.spec.specs.Sheet.{Group, class_record, is_inner, is_instance_field}
+use Rattle.spec.specs.Classes.{Slot, field_slot, encloser_slot, variable_slot, superclasses, enclosing, local_at, captured, encloser_slots, field_slots, captured_slots, own_slots, lineage}
 use Rattle.spec.specs.Classes.{root, slots}
 use Rattle.spec.specs.Rules.{Fault, slot_fault, judged_for, slot_faults, place_in}
 use Rattle.spec.specs.Relations.{At, Lineage, self, up}
 use Rattle.spec.specs.Refusals.{one_class}
-use Rattle.laws.proofs.Bools.{t_and, and_l, and_r, or_cases, or_l, or_r, eq→eqb}
+use Rattle.laws.proofs.Bools.{t_true, t_and, and_l, and_r, or_cases, or_l, or_r, eq→eqb}
 use Rattle.laws.proofs.Members.{Among, gather_mem, mem_gather, keep_mem, mem_keep, only_mem, mem_only, numbered_at, at_numbered, any_mem, mem_any}
-use Rattle.theory.proofs.Falls.{Falls}
 use Rattle.theory.proofs.Lines.{lineage_is, root_is, lineage_user}
 use Rattle.theory.proofs.Slots.{place_other, place_zero}
 use Rattle.theory.proofs.Faults.{Stands, stands_append, stands_only, Failing, failing_is}
 use Rattle.theory.proofs.Form.{Super, lineage_up, root_up}
-use Rattle.breaks.specs.Breaking.{head_breaks, first_rules, breaks_at}
+use Rattle.slots.specs.declared.Late.{Late as LateRule}
+use Rattle.breaks.specs.declared.rule.Rule.TheVariants.{Late}
+use Rattle.breaks.specs.Breaking.{has_base, head_breaks, breaks_at}
 use Rattle.rules.specs.Walk.{only_first, asked, above, order}
-use Rattle.rules.proofs.Hits.{Hit, first_at, at_first, class_at, class_first, asked_all, asked_one}
+use Rattle.rules.proofs.Ground.{Ground}
+use Rattle.rules.proofs.Ascent.{judged_super}
+use Rattle.rules.proofs.Hits.{Hit, first_at, at_first, class_at, class_first, asked_all, asked_one, of_user}
 use Rattle.slots.specs.Slots.{rule_marker, slot_fits, fixed_breaks, root_breaks, base_breaks, field_breaks}
 
 -- a FIELD is no CLASS record, so it is not the first one
@@ -40,8 +43,7 @@ field_later h o {k} {r} a t e =
     let d : kind r ≡ FIELD = eqb→eq (kind r) FIELD (and_l (is_kind FIELD r) (not (is_static r)) t) in
     omega arith
 
-module _ (nlib n : ℕ) (g : ℕ → Group) (f : Falls g) (supers : (c : ℕ) → nlib ≤ c → c < n → T (not (is_interface (g c))) → Super g c) (one : (c : ℕ) → c < n → T (one_class (g c)))
-    (owners : (l d i : ℕ) → Memᴰ (d, i) (captured g l) → d < l) where
+module _ {nlib n : ℕ} {g : ℕ → Group} (w : Ground nlib n g) where
   -- ---- the slots of one class
 
   -- encloser and captured variables
@@ -82,7 +84,7 @@ module _ (nlib n : ℕ) (g : ℕ → Group) (f : Falls g) (supers : (c : ℕ) �
           let a = gather_mem (λ v. map (variable_slot v.0) (local_at (g v.0) v.1)) (captured g t) s k in
           let d : ℕ = a.source.0 in
           let b = Memᴰ.of_map (variable_slot d) (local_at (g d) a.source.1) a.part in
-          let w : d < t = owners t d a.source.1 a.member in
+          let lower : d < t = w.owners t d a.source.1 a.member in
           ap (λ (x : Slot). place_in c (slot_fault x)) (sym b.2) ∙ place_other c d b.0.0 (λ e. omega arith)
 
   -- a field with its record
@@ -109,31 +111,26 @@ module _ (nlib n : ℕ) (g : ℕ → Group) (f : Falls g) (supers : (c : ℕ) �
 
   -- ---- the classes that the walk asks
 
-  module _ (c : ℕ) (user : nlib ≤ c) (there : c < n) where
+  module _ {c : ℕ} (user : nlib ≤ c) (there : c < n) where
     low : {t : ℕ} → Lineage nlib g c t → t ≤ c
     low self = le_refl c
-    low (up {s} {t} p h k) = let q : t < s = f.superclass s t h in let r = low p in omega arith
+    low (up {s} {t} p h k) = let q : t < s = w.falls.superclass s t h in let r = low p in omega arith
 
-    module _ (rule : ℕ) (late : 7 ≤ rule) where
+    module _ (rule : LateRule) where
       abbrev judged : Bool
       judged = judged_for g (rule_marker rule) c
 
       its_super : T judged → Super g c
-      unfolding judged_for
-      its_super t = supers c user there (and_l (not (is_interface (g c))) (has_marker g (rule_marker rule) c) t)
-
-      order_is : order nlib g rule c ≡ only_if judged (gather (above nlib g c) (superclasses (g c)))
-      unfolding order
-      order_is = rw (le-ltb rule 7 late, order)
+      its_super t = judged_super w user there rule (t_true judged t)
 
       -- those above it, and then itself
       above_is : T judged → gather (above nlib g c) (superclasses (g c)) ≡ above nlib g c (superclass (class_record (g c)))
       unfolding gather
       above_is t = ap (gather (above nlib g c)) (its_super t).only ∙ append-nil (above nlib g c (superclass (class_record (g c))))
 
-      asks : T judged → {t : ℕ} → Memᴰ t (lineage nlib g c) ⊎ Memᴰ t (root nlib g c) → Memᴰ t (order nlib g rule c)
+      asks : T judged → {t : ℕ} → Memᴰ t (lineage nlib g c) ⊎ Memᴰ t (root nlib g c) → Memᴰ t (order nlib g (Late rule) c)
       unfolding above
-      asks j {t} m = subst (Memᴰ t) (sym order_is) (mem_only judged (gather (above nlib g c) (superclasses (g c))) j (subst (Memᴰ t) (sym (above_is j)) (go m)))
+      asks j {t} m = mem_only judged (gather (above nlib g c) (superclasses (g c))) j (subst (Memᴰ t) (sym (above_is j)) (go m))
         where
           s : ℕ
           s = superclass (class_record (g c))
@@ -143,51 +140,43 @@ module _ (nlib n : ℕ) (g : ℕ → Group) (f : Falls g) (supers : (c : ℕ) �
           line (inr k) = Memᴰ.append_left (root nlib g s ++ (c ∷ [])) k
 
           go : Memᴰ t (lineage nlib g c) ⊎ Memᴰ t (root nlib g c) → Memᴰ t (lineage nlib g s ++ (root nlib g s ++ (c ∷ [])))
-          go (inl k) = line (Memᴰ.cases_cons (subst (Memᴰ t) (lineage_up nlib g f c user (its_super j)) k))
-          go (inr k) = Memᴰ.append_right (lineage nlib g s) (Memᴰ.append_left (c ∷ []) (subst (Memᴰ t) (root_up nlib g f c user (its_super j)) k))
+          go (inl k) = line (Memᴰ.cases_cons (subst (Memᴰ t) (lineage_up nlib g w.falls c user (its_super j)) k))
+          go (inr k) = Memᴰ.append_right (lineage nlib g s) (Memᴰ.append_left (c ∷ []) (subst (Memᴰ t) (root_up nlib g w.falls c user (its_super j)) k))
 
-      asked_of : {t : ℕ} → Memᴰ t (order nlib g rule c) → T judged × (Memᴰ t (lineage nlib g c) ⊎ Memᴰ t (root nlib g c))
+      asked_of : {t : ℕ} → Memᴰ t (order nlib g (Late rule) c) → T judged × (Memᴰ t (lineage nlib g c) ⊎ Memᴰ t (root nlib g c))
       unfolding above
       asked_of {t} m =
-          let o = only_mem judged (gather (above nlib g c) (superclasses (g c))) (subst (Memᴰ t) order_is m) in
+          let o = only_mem judged (gather (above nlib g c) (superclasses (g c))) m in
           (o.0, go o.0 (Memᴰ.append_cases (lineage nlib g s) (subst (Memᴰ t) (above_is o.0) o.1)))
         where
           s : ℕ
           s = superclass (class_record (g c))
 
           at : T judged → Memᴰ t (root nlib g s) ⊎ Memᴰ t (c ∷ []) → Memᴰ t (lineage nlib g c) ⊎ Memᴰ t (root nlib g c)
-          at j (inl k) = inr (subst (Memᴰ t) (sym (root_up nlib g f c user (its_super j))) k)
-          at j (inr k) = inl (subst (Memᴰ t) (sym (lineage_up nlib g f c user (its_super j))) (Memᴰ.head (Memᴰ.eq_of_singleton k)))
+          at j (inl k) = inr (subst (Memᴰ t) (sym (root_up nlib g w.falls c user (its_super j))) k)
+          at j (inr k) = inl (subst (Memᴰ t) (sym (lineage_up nlib g w.falls c user (its_super j))) (Memᴰ.head (Memᴰ.eq_of_singleton k)))
 
           go : T judged → Memᴰ t (lineage nlib g s) ⊎ Memᴰ t (root nlib g s ++ (c ∷ [])) → Memᴰ t (lineage nlib g c) ⊎ Memᴰ t (root nlib g c)
-          go j (inl k) = inl (subst (Memᴰ t) (sym (lineage_up nlib g f c user (its_super j))) (Memᴰ.tail k))
+          go j (inl k) = inl (subst (Memᴰ t) (sym (lineage_up nlib g w.falls c user (its_super j))) (Memᴰ.tail k))
           go j (inr k) = at j (Memᴰ.append_cases (root nlib g s) k)
 
       -- ---- a record of one of them
 
-      slot_breaks : (t k : ℕ) (r : List ℕ) → breaks_at nlib g rule c t k r ≡ elim (eqb k 0) as (λ (b : Bool). Bool) [ true ↦ head_breaks nlib g rule c t | false ↦ field_breaks g rule t k r ]
-      unfolding breaks_at first_rules
-      slot_breaks t k r = get_or-eq_default (first_rules nlib g t r) _ late
+      at_field : (t k : ℕ) (r : List ℕ) → (k ≡ 0 → ⊥) → breaks_at nlib g (Late rule) c t k r ≡ field_breaks g rule t k r
+      at_field t k r h = rw (ne_eqb k 0 h, breaks_at)
 
-      at_head : (t : ℕ) (r : List ℕ) → breaks_at nlib g rule c t 0 r ≡ head_breaks nlib g rule c t
-      at_head t r = slot_breaks t 0 r
+      asked_user : (t : ℕ) → nlib ≤ t → asked nlib g (Late rule) t ≡ g t
+      asked_user t h = asked_all nlib g (Late rule) t (of_user nlib g (Late rule) t h)
 
-      at_field : (t k : ℕ) (r : List ℕ) → (k ≡ 0 → ⊥) → breaks_at nlib g rule c t k r ≡ field_breaks g rule t k r
-      at_field t k r h = slot_breaks t k r ∙ rw (ne_eqb k 0 h)
-
-      asked_user : (t : ℕ) → nlib ≤ t → asked nlib g rule t ≡ g t
+      asked_root : (t : ℕ) → t < nlib → asked nlib g (Late rule) t ≡ take 1 (g t)
       unfolding only_first
-      asked_user t h = asked_all nlib g rule t (rw (le-ltb t nlib h, ne_eqb rule 3 (λ e. omega arith), ne_eqb rule 4 (λ e. omega arith), ne_eqb rule 6 (λ e. omega arith)))
-
-      asked_root : (t : ℕ) → t < nlib → asked nlib g rule t ≡ take 1 (g t)
-      unfolding only_first
-      asked_root t h = asked_one nlib g rule t (rw (lt-ltb t nlib h))
+      asked_root t h = asked_one nlib g (Late rule) t (rw (lt-ltb t nlib h))
 
       head_root : (t : ℕ) → t < nlib → head_breaks nlib g rule c t ≡ root_breaks g rule t
       unfolding head_breaks
       head_root t h = rw (lt-ltb t nlib h, head_breaks)
 
-      head_user : (t : ℕ) → nlib ≤ t → head_breaks nlib g rule c t ≡ (fixed_breaks g rule t || (eqb rule 9 && eqb t c && base_breaks g c))
+      head_user : (t : ℕ) → nlib ≤ t → head_breaks nlib g rule c t ≡ (fixed_breaks g rule t || (has_base rule && eqb t c && base_breaks g c))
       unfolding head_breaks
       head_user t h = rw (le-ltb t nlib h, head_breaks)
 
@@ -198,7 +187,7 @@ module _ (nlib n : ℕ) (g : ℕ → Group) (f : Falls g) (supers : (c : ℕ) �
 
       -- the root or the base breaks it
       abbrev pub Extra : Type 0
-      Extra = ((d : ℕ) × Memᴰ d (root nlib g c) × T (root_breaks g rule d)) ⊎ (T (eqb rule 9) × T (base_breaks g c))
+      Extra = ((d : ℕ) × Memᴰ d (root nlib g c) × T (root_breaks g rule d)) ⊎ (T (has_base rule) × T (base_breaks g c))
 
       module _ (X : List Fault) (extra : (x : ℕ) → Stands c X x ↔ (Extra × (x ≡ 0))) where
         abbrev Found : ℕ → Type 0
@@ -208,47 +197,47 @@ module _ (nlib n : ℕ) (g : ℕ → Group) (f : Falls g) (supers : (c : ℕ) �
         unfolding slots
         from_slot s m o b p = inl (record { slot = s; member = mem_gather (own_slots g) m o; fails = b; place = p })
 
-        found_head : {t x : ℕ} → Memᴰ t (lineage nlib g c) → nlib ≤ t → t ≤ c → x ≡ 0 → T (fixed_breaks g rule t) ⊎ T (eqb rule 9 && eqb t c && base_breaks g c) → Found x
+        found_head : {t x : ℕ} → Memᴰ t (lineage nlib g c) → nlib ≤ t → t ≤ c → x ≡ 0 → T (fixed_breaks g rule t) ⊎ T (has_base rule && eqb t c && base_breaks g c) → Found x
         unfolding fixed_breaks
         found_head {t} {x} m l h e (inl b) =
             let a = any_mem (λ s. not (slot_fits g rule s)) (encloser_slots g t ++ captured_slots g t) b in
             from_slot a.0 m (fixed_own t a.1) a.2 (fixed_place h a.0 a.1 ∙ sym e)
         found_head {t} {x} m l h e (inr b) =
-            inr (inr (and_l (eqb rule 9) (eqb t c) (and_l (eqb rule 9 && eqb t c) (base_breaks g c) b), and_r (eqb rule 9 && eqb t c) (base_breaks g c) b), e)
+            inr (inr (and_l (has_base rule) (eqb t c) (and_l (has_base rule && eqb t c) (base_breaks g c) b), and_r (has_base rule && eqb t c) (base_breaks g c) b), e)
 
-        found_user : {t k x : ℕ} {r : List ℕ} → Memᴰ t (lineage nlib g c) → At (asked nlib g rule t) k r → T (breaks_at nlib g rule c t k r) → place_in c (record { class = t; record_number = k })
+        found_user : {t k x : ℕ} {r : List ℕ} → Memᴰ t (lineage nlib g c) → At (asked nlib g (Late rule) t) k r → T (breaks_at nlib g (Late rule) c t k r) → place_in c (record { class = t; record_number = k })
             ≡ x → Found x
         unfolding field_breaks slot_fault field_slot
         found_user {t} {k} {x} {r} m a b p = go (ℕ_discrete k 0)
           where
             line : Lineage nlib g c t
-            line = (lineage_is nlib g f c t user).0 m
+            line = (lineage_is nlib g w.falls c t user).0 m
 
             usr : nlib ≤ t
-            usr = lineage_user nlib g f user line
+            usr = lineage_user nlib g w.falls user line
 
             at : At (g t) k r
             at = subst (λ (rs : Group). At rs k r) (asked_user t usr) a
 
             go : Dec (k ≡ 0) → Found x
             go (yes e) =
-                let b₀ : T (breaks_at nlib g rule c t 0 r) = subst (λ (i : ℕ). T (breaks_at nlib g rule c t i r)) e b in
+                let b₀ : T (breaks_at nlib g (Late rule) c t 0 r) = subst (λ (i : ℕ). T (breaks_at nlib g (Late rule) c t i r)) e b in
                 found_head m usr (low line) (sym p ∙ ap (λ (i : ℕ). place_in c (record { class = t; record_number = i })) e ∙ place_zero c t)
-                (or_cases (fixed_breaks g rule t) (eqb rule 9 && eqb t c && base_breaks g c) (subst T (at_head t r ∙ head_user t usr) b₀))
+                (or_cases (fixed_breaks g rule t) (has_base rule && eqb t c && base_breaks g c) (subst T (head_user t usr) b₀))
             go (no h) =
                 let q = subst T (at_field t k r h) b in
                 from_slot (field_slot t (k, r)) m (field_in at (and_l (is_instance_field r) (not (slot_fits g rule (field_slot t (k, r)))) q))
                 (and_r (is_instance_field r) (not (slot_fits g rule (field_slot t (k, r)))) q) p
 
-        found_root : {t k x : ℕ} {r : List ℕ} → Memᴰ t (root nlib g c) → At (asked nlib g rule t) k r → T (breaks_at nlib g rule c t k r) → place_in c (record { class = t; record_number = k }) ≡ x
+        found_root : {t k x : ℕ} {r : List ℕ} → Memᴰ t (root nlib g c) → At (asked nlib g (Late rule) t) k r → T (breaks_at nlib g (Late rule) c t k r) → place_in c (record { class = t; record_number = k }) ≡ x
             → Found x
         found_root {t} {k} {x} {r} m a b p =
-            let l : t < nlib = ((root_is nlib g f c t user).0 m).library in
+            let l : t < nlib = ((root_is nlib g w.falls c t user).0 m).library in
             let q = first_at (g t) (subst (λ (rs : Group). At rs k r) (asked_root t l) a) in
-            let b₀ : T (breaks_at nlib g rule c t 0 r) = subst (λ (i : ℕ). T (breaks_at nlib g rule c t i r)) q.0 b in
-            inr (inl (t, m, subst T (at_head t r ∙ head_root t l) b₀), sym p ∙ ap (λ (i : ℕ). place_in c (record { class = t; record_number = i })) q.0 ∙ place_zero c t)
+            let b₀ : T (breaks_at nlib g (Late rule) c t 0 r) = subst (λ (i : ℕ). T (breaks_at nlib g (Late rule) c t i r)) q.0 b in
+            inr (inl (t, m, subst T (head_root t l) b₀), sym p ∙ ap (λ (i : ℕ). place_in c (record { class = t; record_number = i })) q.0 ∙ place_zero c t)
 
-        found_hit : {x : ℕ} → Hit nlib g rule c x → T judged × Found x
+        found_hit : {x : ℕ} → Hit nlib g (Late rule) c x → T judged × Found x
         found_hit {x} h = let o = asked_of h.member in (o.0, go o.1)
           where
             go : Memᴰ h.class (lineage nlib g c) ⊎ Memᴰ h.class (root nlib g c) → Found x
@@ -257,22 +246,22 @@ module _ (nlib n : ℕ) (g : ℕ → Group) (f : Falls g) (supers : (c : ℕ) �
 
         -- ---- and back
 
-        hit_head : {t x : ℕ} → T judged → Memᴰ t (lineage nlib g c) → x ≡ 0 → T (fixed_breaks g rule t || (eqb rule 9 && eqb t c && base_breaks g c)) → Hit nlib g rule c x
+        hit_head : {t x : ℕ} → T judged → Memᴰ t (lineage nlib g c) → x ≡ 0 → T (fixed_breaks g rule t || (has_base rule && eqb t c && base_breaks g c)) → Hit nlib g (Late rule) c x
         hit_head {t} {x} j m e b =
-            let line = (lineage_is nlib g f c t user).0 m in
-            let usr = lineage_user nlib g f user line in
+            let line = (lineage_is nlib g w.falls c t user).0 m in
+            let usr = lineage_user nlib g w.falls user line in
             let h : t ≤ c = low line in
             record {
               class = t;
               member = asks j (inl m);
               number = 0;
               bytes = class_record (g t);
-              at = subst (λ (rs : Group). At rs 0 (class_record (g t))) (sym (asked_user t usr)) (class_at (g t) (one t (omega arith)));
-              breaks = subst T (sym (at_head t (class_record (g t)) ∙ head_user t usr)) b;
+              at = subst (λ (rs : Group). At rs 0 (class_record (g t))) (sym (asked_user t usr)) (class_at (g t) (w.one t (omega arith)));
+              breaks = subst T (sym (head_user t usr)) b;
               place = place_zero c t ∙ sym e;
             }
 
-        hit_slot : {x : ℕ} → T judged → Failing nlib g c Ok x → Hit nlib g rule c x
+        hit_slot : {x : ℕ} → T judged → Failing nlib g c Ok x → Hit nlib g (Late rule) c x
         unfolding slots fixed_breaks field_breaks slot_fault field_slot
         hit_slot {x} j h = go (own_fixed a.source a.part)
           where
@@ -283,18 +272,18 @@ module _ (nlib n : ℕ) (g : ℕ → Group) (f : Falls g) (supers : (c : ℕ) �
             t = a.source
 
             line : Lineage nlib g c t
-            line = (lineage_is nlib g f c t user).0 a.member
+            line = (lineage_is nlib g w.falls c t user).0 a.member
 
             usr : nlib ≤ t
-            usr = lineage_user nlib g f user line
+            usr = lineage_user nlib g w.falls user line
 
             below : t < n
             below = let l : t ≤ c = low line in omega arith
 
-            go : Memᴰ h.slot (encloser_slots g t ++ captured_slots g t) ⊎ Memᴰ h.slot (field_slots g t) → Hit nlib g rule c x
+            go : Memᴰ h.slot (encloser_slots g t ++ captured_slots g t) ⊎ Memᴰ h.slot (field_slots g t) → Hit nlib g (Late rule) c x
             go (inl m) =
                 hit_head j a.member (sym h.place ∙ fixed_place (low line) h.slot m)
-                (or_l (fixed_breaks g rule t) (eqb rule 9 && eqb t c && base_breaks g c) (mem_any (λ s. not (slot_fits g rule s)) m h.fails))
+                (or_l (fixed_breaks g rule t) (has_base rule && eqb t c && base_breaks g c) (mem_any (λ s. not (slot_fits g rule s)) m h.fails))
             go (inr m) =
                 let d = field_out m in
                 record {
@@ -303,34 +292,34 @@ module _ (nlib n : ℕ) (g : ℕ → Group) (f : Falls g) (supers : (c : ℕ) �
                   number = d.number;
                   bytes = d.bytes;
                   at = subst (λ (rs : Group). At rs d.number d.bytes) (sym (asked_user t usr)) d.at;
-                  breaks = subst T (sym (at_field t d.number d.bytes (field_later (g t) (one t below) d.at d.instance)))
+                  breaks = subst T (sym (at_field t d.number d.bytes (field_later (g t) (w.one t below) d.at d.instance)))
                       (t_and (is_instance_field d.bytes) (not (slot_fits g rule (field_slot t (d.number, d.bytes)))) d.instance
                       (subst (λ (s : Slot). T (not (slot_fits g rule s))) (sym d.is) h.fails));
                   place = ap (λ (s : Slot). place_in c (slot_fault s)) d.is ∙ h.place;
                 }
 
-        hit_extra : {x : ℕ} → T judged → Extra → x ≡ 0 → Hit nlib g rule c x
-        hit_extra {x} j (inl w) e =
-            let d : ℕ = w.0 in
-            let l : d < nlib = ((root_is nlib g f c d user).0 w.1).library in
+        hit_extra : {x : ℕ} → T judged → Extra → x ≡ 0 → Hit nlib g (Late rule) c x
+        hit_extra {x} j (inl q) e =
+            let d : ℕ = q.0 in
+            let l : d < nlib = ((root_is nlib g w.falls c d user).0 q.1).library in
             record {
               class = d;
-              member = asks j (inr w.1);
+              member = asks j (inr q.1);
               number = 0;
               bytes = class_record (g d);
-              at = subst (λ (rs : Group). At rs 0 (class_record (g d))) (sym (asked_root d l)) (at_first (g d) (one d (omega arith)));
-              breaks = subst T (sym (at_head d (class_record (g d)) ∙ head_root d l)) w.2;
+              at = subst (λ (rs : Group). At rs 0 (class_record (g d))) (sym (asked_root d l)) (at_first (g d) (w.one d (omega arith)));
+              breaks = subst T (sym (head_root d l)) q.2;
               place = place_zero c d ∙ sym e;
             }
-        hit_extra {x} j (inr w) e =
-            hit_head j ((lineage_is nlib g f c c user).1 self) e
-            (or_r (fixed_breaks g rule c) (eqb rule 9 && eqb c c && base_breaks g c)
-            (t_and (eqb rule 9 && eqb c c) (base_breaks g c) (t_and (eqb rule 9) (eqb c c) w.0 (eq→eqb {m = c} {n = c} refl)) w.1))
+        hit_extra {x} j (inr q) e =
+            hit_head j ((lineage_is nlib g w.falls c c user).1 self) e
+            (or_r (fixed_breaks g rule c) (has_base rule && eqb c c && base_breaks g c)
+            (t_and (has_base rule && eqb c c) (base_breaks g c) (t_and (has_base rule) (eqb c c) q.0 (eq→eqb {m = c} {n = c} refl)) q.1))
 
-        pub slot_hits : (x : ℕ) → Hit nlib g rule c x ↔ Stands c (only_if (judged_for g (rule_marker rule) c) (slot_faults nlib g (slot_fits g rule) c ++ X)) x
+        pub slot_hits : (x : ℕ) → Hit nlib g (Late rule) c x ↔ Stands c (only_if (judged_for g (rule_marker rule) c) (slot_faults nlib g (slot_fits g rule) c ++ X)) x
         slot_hits x = (
-          (λ h. let w = found_hit h in o.1 (w.0, a.1 (there_x w.1))),
-          (λ s. let w = o.0 s in back w.0 (a.0 w.1)),
+          (λ h. let q = found_hit h in o.1 (q.0, a.1 (there_x q.1))),
+          (λ s. let q = o.0 s in back q.0 (a.0 q.1)),
         )
           where
             o : Stands c (only_if judged (slot_faults nlib g Ok c ++ X)) x ↔ (T judged × Stands c (slot_faults nlib g Ok c ++ X) x)
@@ -343,6 +332,6 @@ module _ (nlib n : ℕ) (g : ℕ → Group) (f : Falls g) (supers : (c : ℕ) �
             there_x (inl h) = inl ((failing_is nlib g c Ok x).1 h)
             there_x (inr h) = inr ((extra x).1 h)
 
-            back : T judged → Stands c (slot_faults nlib g Ok c) x ⊎ Stands c X x → Hit nlib g rule c x
+            back : T judged → Stands c (slot_faults nlib g Ok c) x ⊎ Stands c X x → Hit nlib g (Late rule) c x
             back j (inl h) = hit_slot j ((failing_is nlib g c Ok x).0 h)
-            back j (inr h) = let w = (extra x).0 h in hit_extra j w.0 w.1
+            back j (inr h) = let q = (extra x).0 h in hit_extra j q.0 q.1

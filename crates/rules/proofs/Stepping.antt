@@ -1,112 +1,68 @@
--- The classes and records that a rule asks, by the numbers that the code reads.
+-- The classes that a rule asks, one after the other, by what the code reads.
 -- Assumes nothing.
-use mathlib.Core.Path.{◌≡◌, refl, sym, ap, ◌∙◌}
-use mathlib.Core.Bool.{Bool, true, false, not, ◌&&◌, ◌||◌}
+use mathlib.Core.Path.{◌≡◌, sym, ap, ◌∙◌}
+use mathlib.Core.Bool.{Bool, true, false, not, ◌||◌, and-false}
 use mathlib.Core.List.{List}
 use Prim.Native.Nat.{ℕ, ◌/◌, ◌%◌, ◌^◌, ◌≤◌, ◌<◌}
-use native.Mathlib.Omega.{arith}
-use lib.Dec.{eqb, ltb, lt→ltb}
-use lib.ListN.{length, get_or}
+use lib.Dec.{eqb, ltb}
+use lib.ListN.{get_or}
 use borrow.Author.Tests.{eq-eqb, ne_eqb, lt-ltb, le-ltb}
-use Rattle.spec.specs.Lists.{concat}
-use Rattle.spec.specs.Record.{u16, bit, flags, superclass}
+use Rattle.std.specs.Prelude.{None, Some}
+use Rattle.spec.specs.Record.{bit, flags, superclass}
 use Rattle.spec.specs.Sheet.{Group, class_record, is_interface}
 use Rattle.spec.specs.Classes.{has_marker}
-use Rattle.spec.specs.Rules.{judged_for, place_in}
-use Rattle.laws.proofs.Bools.{t_true, or_l, or_r, eq→eqb}
-use Rattle.theory.proofs.Slots.{place_own, place_other}
-use Rattle.records.specs.Records.{Carries}
+use Rattle.spec.specs.Rules.{judged_for}
+use Rattle.records.specs.Kinds.{optional}
 use Rattle.overlay.specs.Types.{Known}
+use Rattle.slots.specs.declared.Late.{Late as LateRule}
 use Rattle.slots.specs.Slots.{rule_marker}
-use Rattle.rules.specs.Walk.{only_first, asked, first_class, next_class}
-use Rattle.rules.proofs.Hits.{asked_all, asked_one}
-use Rattle.rules.proofs.Records.{first_length_lem, all_length}
+use Rattle.breaks.specs.declared.rule.Rule.{Rule}
+use Rattle.breaks.specs.declared.rule.Rule.TheVariants.{Late}
+use Rattle.breaks.specs.Breaking.{asks_first}
+use Rattle.breaks.proofs.Bits.{bit_zero}
+use Rattle.rules.specs.Walk.{only_first, first_class, next_class}
 
-and_false : (b : Bool) → (b && false) ≡ false
-and_false true = refl
-and_false false = refl
-
--- ---- classes
-
-module _ (nlib : ℕ) (g : ℕ → Group) (n c t : ℕ) where
-  pub next_none : t ≡ c → n ≡ next_class nlib g n c t
+module _ (nlib c t : ℕ) (h : Group) where
+  pub next_none : t ≡ c → None ≡ next_class nlib c t h
   unfolding next_class
   next_none e = rw (eq-eqb t c e, next_class)
 
-  pub next_own : (t ≡ c → ⊥) → t < nlib → c ≡ next_class nlib g n c t
-  unfolding next_class
-  next_own ne h = rw (ne_eqb t c ne, lt-ltb t nlib h, next_class)
+  module _ (ne : t ≡ c → ⊥) where
+    pub next_own : t < nlib → Some c ≡ next_class nlib c t h
+    unfolding next_class
+    next_own l = rw (ne_eqb t c ne, lt-ltb t nlib l, next_class)
 
-  pub next_up : (t ≡ c → ⊥) → nlib ≤ t → {x y : ℕ} → x ≡ y → y ≡ u16 (class_record (g t)) 8 → x ≡ next_class nlib g n c t
-  unfolding next_class superclass
-  next_up ne h a b = rw (ne_eqb t c ne, le-ltb t nlib h, next_class) (a ∙ b)
+    pub next_up : nlib ≤ t → optional (superclass (class_record h)) ≡ next_class nlib c t h
+    unfolding next_class
+    next_up l = rw (ne_eqb t c ne, le-ltb t nlib l, next_class)
 
-module _ (nlib : ℕ) (g : ℕ → Group) (n rule c : ℕ) where
-  pub first_own : rule < 7 → c ≡ first_class nlib g n rule c
-  unfolding first_class
-  first_own h = rw (lt-ltb rule 7 h, first_class)
+module _ (g : ℕ → Group) (rule : LateRule) (c : ℕ) where
+  first_unjudged : judged_for g (rule_marker rule) c ≡ false → None ≡ first_class g (Late rule) c
+  first_unjudged e = rw (e, first_class)
 
-  none_of : 7 ≤ rule → judged_for g (rule_marker rule) c ≡ false → n ≡ first_class nlib g n rule c
-  unfolding first_class
-  none_of h e = rw (le-ltb rule 7 h, e, first_class)
+  module _ {row : List ℕ} {m set : ℕ} {b : Bool} (k : Known g row) (em : m ≡ get_or row c 0) (es : set ≡ 2 ^ rule_marker rule) (eb : b ≡ eqb (m / set % 2) 1) where
+    marked : has_marker g (rule_marker rule) c ≡ b
+    unfolding has_marker bit
+    marked = sym (rw (eb, es, em, k.is c))
 
-  pub first_interface : 7 ≤ rule → {f : ℕ} → f ≡ u16 (class_record (g c)) 4 → f % 2 ≡ 1 → n ≡ first_class nlib g n rule c
-  unfolding judged_for is_interface bit flags
-  first_interface h {f} a b = none_of h (rw (eq-eqb (u16 (class_record (g c)) 4 / 1 % 2) 1 (omega (arith, a, b))))
+    pub first_unmarked : b ≡ false → None ≡ first_class g (Late rule) c
+    unfolding judged_for
+    first_unmarked e = first_unjudged (rw (marked, e) (and-false (not (is_interface (g c)))))
 
-  marked_is : {row : List ℕ} {m set : ℕ} → Known g row → m ≡ get_or row c 0 → set ≡ 2 ^ rule_marker rule → eqb (m / set % 2) 1 ≡ has_marker g (rule_marker rule) c
-  unfolding has_marker bit
-  marked_is k em es = rw (em, k.is c, es)
+    module _ {f : ℕ} (ef : f ≡ flags (class_record (g c))) where
+      interface : is_interface (g c) ≡ eqb (f % 2) 1
+      unfolding is_interface
+      interface = ap (bit 0) (sym ef) ∙ bit_zero f
 
-  pub first_unmarked : 7 ≤ rule → {row : List ℕ} {m set : ℕ} {b : Bool} → Known g row → m ≡ get_or row c 0 → set ≡ 2 ^ rule_marker rule → b ≡ eqb (m / set % 2) 1 → b ≡ false → n
-      ≡ first_class nlib g n rule c
-  unfolding judged_for
-  first_unmarked h {b = b} k em es eb e = none_of h (rw (← marked_is k em es, ← eb, e) (and_false (not (is_interface (g c)))))
+      pub first_interface : f % 2 ≡ 1 → None ≡ first_class g (Late rule) c
+      unfolding judged_for
+      first_interface e = first_unjudged (rw (interface, eq-eqb (f % 2) 1 e))
 
-  pub first_up : 7 ≤ rule → {f : ℕ} → f ≡ u16 (class_record (g c)) 4 → (f % 2 ≡ 1 → ⊥) → {row : List ℕ} {m set : ℕ} {b : Bool} → Known g row → m ≡ get_or row c 0 → set ≡ 2 ^ rule_marker rule → b
-      ≡ eqb (m / set % 2) 1 → b ≡ true
-      → {x y : ℕ} → x ≡ y → y ≡ u16 (class_record (g c)) 8 → x ≡ first_class nlib g n rule c
-  unfolding first_class judged_for is_interface bit flags superclass
-  first_up h {f} ef nf k em es eb e a b =
-      rw (le-ltb rule 7 h, first_class, ne_eqb (u16 (class_record (g c)) 4 / 1 % 2) 1 (λ q. nf (omega (arith, ef, q))), ← marked_is k em es, ← eb, e) (a ∙ b)
+      pub first_up : b ≡ true → (f % 2 ≡ 1 → ⊥) → optional (superclass (class_record (g c))) ≡ first_class g (Late rule) c
+      unfolding judged_for
+      first_up e n = rw (interface, ne_eqb (f % 2) 1 n, marked, e, first_class)
 
--- ---- records
-
-module _ (nlib rule t : ℕ) where
-  pub only_library : t < nlib → only_first nlib rule t ≡ true
-  unfolding only_first
-  only_library h = t_true (ltb t nlib || eqb rule 3 || eqb rule 4 || eqb rule 6)
-      (or_l (ltb t nlib || eqb rule 3 || eqb rule 4) (eqb rule 6) (or_l (ltb t nlib || eqb rule 3) (eqb rule 4) (or_l (ltb t nlib) (eqb rule 3) (lt→ltb t nlib h))))
-
-  pub only_three : rule ≡ 3 → only_first nlib rule t ≡ true
-  unfolding only_first
-  only_three e = t_true (ltb t nlib || eqb rule 3 || eqb rule 4 || eqb rule 6)
-      (or_l (ltb t nlib || eqb rule 3 || eqb rule 4) (eqb rule 6) (or_l (ltb t nlib || eqb rule 3) (eqb rule 4) (or_r (ltb t nlib) (eqb rule 3) (eq→eqb e))))
-
-  pub only_four : rule ≡ 4 → only_first nlib rule t ≡ true
-  unfolding only_first
-  only_four e = t_true (ltb t nlib || eqb rule 3 || eqb rule 4 || eqb rule 6) (or_l (ltb t nlib || eqb rule 3 || eqb rule 4) (eqb rule 6) (or_r (ltb t nlib || eqb rule 3) (eqb rule 4) (eq→eqb e)))
-
-  pub only_six : rule ≡ 6 → only_first nlib rule t ≡ true
-  unfolding only_first
-  only_six e = t_true (ltb t nlib || eqb rule 3 || eqb rule 4 || eqb rule 6) (or_r (ltb t nlib || eqb rule 3 || eqb rule 4) (eqb rule 6) (eq→eqb e))
-
-  pub only_last : nlib ≤ t → (rule ≡ 3 → ⊥) → (rule ≡ 4 → ⊥) → eqb rule 6 ≡ only_first nlib rule t
-  unfolding only_first
-  only_last h a b = rw (le-ltb t nlib h, ne_eqb rule 3 a, ne_eqb rule 4 b)
-
--- where those end that the rule asks, in the bytes of the class
-module _ (nlib : ℕ) (g : ℕ → Group) (rule t : ℕ) {bytes : List ℕ} (w : Carries bytes (g t)) {b : Bool} (eb : b ≡ only_first nlib rule t) where
-  pub end_first : b ≡ true → 0 < length bytes → {l v : ℕ} → l ≡ v → v ≡ u16 bytes 0 → l ≡ length (concat (asked nlib g rule t))
-  end_first e h el ev = el ∙ ev ∙ sym (first_length_lem w h) ∙ ap (λ (rs : Group). length (concat rs)) (sym (asked_one nlib g rule t (sym eb ∙ e)))
-
-  pub end_all : b ≡ false → length bytes ≡ length (concat (asked nlib g rule t))
-  end_all e = sym (all_length w) ∙ ap (λ (rs : Group). length (concat rs)) (sym (asked_all nlib g rule t (sym eb ∙ e)))
-
--- ---- where a fault stands
-
-pub place_here : (c t k : ℕ) → t ≡ c → k ≡ place_in c (record { class = t; record_number = k })
-place_here c t k e = sym (ap (λ (d : ℕ). place_in c (record { class = d; record_number = k })) e ∙ place_own c k)
-
-pub place_there : (c t k : ℕ) → (t ≡ c → ⊥) → 0 ≡ place_in c (record { class = t; record_number = k })
-place_there c t k h = sym (place_other c t k h)
+-- a rule that asks the first record alone
+pub only_asks : (nlib : ℕ) (rule : Rule) (t : ℕ) → asks_first rule ≡ true → only_first nlib rule t ≡ true
+unfolding only_first
+only_asks nlib rule t e = ap (λ (b : Bool). b || ltb t nlib) e

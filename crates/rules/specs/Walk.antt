@@ -1,32 +1,44 @@
 -- The judging of one class as a walk over rules, classes and records: the classes that a rule asks, and the records that it asks of each of them.
 -- Assumes nothing.
-use Rattle.std.specs.Prelude.{◌≡◌, Bool, true, false, not, ◌&&◌, ◌||◌, List, [], ◌∷◌, ◌++◌, map, ℕ, ◌+◌, ◌*◌, ◌-◌, ◌≤◌, ◌<◌, T, eqb, ltb, length, get_or, take}
+use Rattle.std.specs.Prelude.{◌≡◌, Bool, true, false, not, ◌||◌, Option, None, Some, List, [], ◌∷◌, ◌++◌, map, ℕ, ◌<◌, T, eqb, ltb, get_or, take}
 use Rattle.spec.specs.Lists.{keep, gather, numbered, only_if}
 use Rattle.spec.specs.Record.{superclass}
 use Rattle.spec.specs.Sheet.{Group, class_record, is_interface}
 use Rattle.spec.specs.Classes.{superclasses, lineage, root}
 use Rattle.spec.specs.Rules.{Fault, judged_for}
-use Rattle.records.specs.Records.{Carries}
-use Rattle.groups.specs.declared.Classes.{Classes}
-use Rattle.breaks.specs.Breaking.{line_breaks, breaks_at}
+use Rattle.records.specs.Kinds.{optional}
+use Rattle.sheets.specs.Sheets.{Pair, count, groups, library_count}
+use Rattle.slots.specs.declared.Late.{Late as LateRule}
+use Rattle.slots.specs.declared.Late.TheVariants.{Immutable, Powerless, Selfless, DeepSelfless}
 use Rattle.slots.specs.Slots.{rule_marker}
+use Rattle.breaks.specs.declared.rule.TheConstants.{RULES}
+use Rattle.breaks.specs.declared.rule.Rule.{Rule}
+use Rattle.breaks.specs.declared.rule.Rule.TheVariants.{Classes, Members, Reserved, Clash, Statics, LetsOut, Late}
+use Rattle.breaks.specs.Breaking.{asks_first, breaks_at, line_breaks}
+
+-- the rules in their order, counted from 0
+abbrev pub rule_at : ℕ → Rule
+rule_at i = get_or RULES i Classes
 
 -- the CLASS record alone is asked: of the root, and by rules 3, 4 and 6
-unfoldable pub only_first : ℕ → ℕ → ℕ → Bool
-only_first nlib rule t = ltb t nlib || eqb rule 3 || eqb rule 4 || eqb rule 6
+unfoldable pub only_first : ℕ → Rule → ℕ → Bool
+only_first nlib rule t = asks_first rule || ltb t nlib
+
+-- those of some records that the rule asks of class t
+unfoldable pub asked_of : ℕ → Rule → ℕ → Group → Group
+asked_of nlib rule t rs = elim (only_first nlib rule t) [ true ↦ take 1 rs | false ↦ rs ]
 
 module _ (nlib : ℕ) (g : ℕ → Group) where
   -- ---- the records of one class
 
-  -- the records of class t that a rule asks
-  unfoldable pub asked : ℕ → ℕ → Group
-  asked rule t = elim (only_first nlib rule t) [ true ↦ take 1 (g t) | false ↦ g t ]
+  abbrev pub asked : Rule → ℕ → Group
+  asked rule t = asked_of nlib rule t (g t)
 
   -- those of some records, the first with number k, that break the rule
-  unfoldable pub found_in : ℕ → ℕ → ℕ → ℕ → Group → List Fault
+  unfoldable pub found_in : Rule → ℕ → ℕ → ℕ → Group → List Fault
   found_in rule c t k rs = map (λ n. record { class = t; record_number = n.0 }) (keep (λ n. breaks_at nlib g rule c t n.0 n.1) (numbered k rs))
 
-  unfoldable pub found : ℕ → ℕ → ℕ → List Fault
+  unfoldable pub found : Rule → ℕ → ℕ → List Fault
   found rule c t = found_in rule c t 0 (asked rule t)
 
   -- ---- the classes
@@ -36,47 +48,71 @@ module _ (nlib : ℕ) (g : ℕ → Group) where
   above c t = lineage nlib g t ++ (root nlib g t ++ (c ∷ []))
 
   -- the classes that a rule asks in the judging of c: inherited faults stand at record 0, so its superclasses come first
-  unfoldable pub order : ℕ → ℕ → List ℕ
-  order rule c = elim (ltb rule 7) [ true ↦ c ∷ [] | false ↦ only_if (judged_for g (rule_marker rule) c) (gather (above c) (superclasses (g c))) ]
+  abbrev pub order : Rule → ℕ → List ℕ
+  order Classes c = c ∷ []
+  order Members c = c ∷ []
+  order Reserved c = c ∷ []
+  order Clash c = c ∷ []
+  order Statics c = c ∷ []
+  order LetsOut c = c ∷ []
+  order (Late rule) c = only_if (judged_for g (rule_marker rule) c) (gather (above c) (superclasses (g c)))
 
   -- what comes after class t
   unfoldable pub afterward : ℕ → ℕ → List ℕ
   afterward c t = elim (eqb t c) [ true ↦ [] | false ↦ elim (ltb t nlib) [ true ↦ c ∷ [] | false ↦ above c (superclass (class_record (g t))) ] ]
 
-  unfoldable pub walked : ℕ → ℕ → List Fault
+  unfoldable pub walked : Rule → ℕ → List Fault
   walked rule c = gather (found rule c) (order rule c)
 
-  -- ---- as numbers: n stands for no class
+  -- class t, if there is one, and what comes after it
+  abbrev pub classes_from : ℕ → Option ℕ → List ℕ
+  classes_from c None = []
+  classes_from c (Some t) = t ∷ afterward c t
 
-  unfoldable pub first_class : ℕ → ℕ → ℕ → ℕ
-  first_class n rule c = elim (ltb rule 7) [ true ↦ c | false ↦ elim (judged_for g (rule_marker rule) c) [ true ↦ superclass (class_record (g c)) | false ↦ n ] ]
+-- ---- one class after the other
 
-  unfoldable pub next_class : ℕ → ℕ → ℕ → ℕ
-  next_class n c t = elim (eqb t c) [ true ↦ n | false ↦ elim (ltb t nlib) [ true ↦ c | false ↦ superclass (class_record (g t)) ] ]
+abbrev pub first_class : (ℕ → Group) → Rule → ℕ → Option ℕ
+first_class g Classes c = Some c
+first_class g Members c = Some c
+first_class g Reserved c = Some c
+first_class g Clash c = Some c
+first_class g Statics c = Some c
+first_class g LetsOut c = Some c
+first_class g (Late rule) c = elim (judged_for g (rule_marker rule) c) [ true ↦ optional (superclass (class_record (g c))) | false ↦ None ]
 
-  unfoldable pub classes_from : ℕ → ℕ → ℕ → List ℕ
-  classes_from n c t = elim (ltb t n) [ true ↦ t ∷ afterward c t | false ↦ [] ]
-
--- the class after t, by the bytes of t
-pub record NextClass (classes : Classes) (c t : ℕ) (bytes : List ℕ) (next : ℕ) : Type 0 where
-  pub is : (g : ℕ → Group) → Carries bytes (g t) → 13 ≤ length (class_record (g t)) → next ≡ next_class classes.library g classes.all c t
+-- the class after t, whose records these are
+unfoldable pub next_class : ℕ → ℕ → ℕ → Group → Option ℕ
+next_class nlib c t h = elim (eqb t c) [ true ↦ None | false ↦ elim (ltb t nlib) [ true ↦ Some c | false ↦ optional (superclass (class_record h)) ] ]
 
 -- ---- what earlier walks found
 
 -- under one of rules 7 to 10 nothing is found from class t upward
-pub record Empty (nlib : ℕ) (g : ℕ → Group) (rule t : ℕ) : Type 0 where
-  pub line : line_breaks nlib g rule t ≡ false
-  pub concrete : T (not (is_interface (g t)))
+pub record Empty (p : Pair) (rule : LateRule) (t : ℕ) : Type 0 where
+  pub there : t < count p
+  pub line : line_breaks (library_count p) (groups p) rule t ≡ false
+  pub concrete : T (not (is_interface (groups p t)))
 
--- four lanes, one a rule
-abbrev pub kept_at : ℕ → ℕ → ℕ
-kept_at rule t = (rule - 7) * 256 + t
+-- a row for each of those rules
+abbrev pub lane_of : LateRule → ℕ
+lane_of Immutable = 0
+lane_of Powerless = 1
+lane_of Selfless = 2
+lane_of DeepSelfless = 3
 
--- the row has 1 only where nothing is found
-pub record Kept (nlib n : ℕ) (g : ℕ → Group) (row : List ℕ) : Type 0 where
-  pub long : length row ≡ 1024
-  pub is : (rule t : ℕ) → 7 ≤ rule → rule ≤ 10 → t < n → get_or row (kept_at rule t) 0 ≡ 1 → Empty nlib g rule t
+unfoldable pub kept_at : List (List Bool) → LateRule → ℕ → Bool
+kept_at rows rule t = get_or (get_or rows (lane_of rule) []) t false
 
--- class t, or c where nothing is found from t upward
-unfoldable pub climbed : List ℕ → ℕ → ℕ → ℕ → ℕ → ℕ
-climbed row n rule c t = elim (ltb t n && (not (ltb rule 7) && eqb (get_or row (kept_at rule t) 0) 1)) [ true ↦ c | false ↦ t ]
+-- the rows have a class only where nothing is found
+pub record Kept (p : Pair) (rows : List (List Bool)) : Type 0 where
+  pub is : (rule : LateRule) (t : ℕ) → kept_at rows rule t ≡ true → Empty p rule t
+
+-- a class, or c where nothing is found from it upward
+abbrev pub climbed : List (List Bool) → Rule → ℕ → Option ℕ → Option ℕ
+climbed rows rule c None = None
+climbed rows Classes c (Some t) = Some t
+climbed rows Members c (Some t) = Some t
+climbed rows Reserved c (Some t) = Some t
+climbed rows Clash c (Some t) = Some t
+climbed rows Statics c (Some t) = Some t
+climbed rows LetsOut c (Some t) = Some t
+climbed rows (Late rule) c (Some t) = elim (kept_at rows rule t) [ true ↦ Some c | false ↦ Some t ]

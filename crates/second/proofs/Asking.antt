@@ -1,29 +1,30 @@
--- The row of heads: filled class by class, and what it says of a class.
+-- What records ask of a class by its number: how many records of a kind it has, and whether it is an interface.
 -- Assumes nothing.
-use mathlib.Core.Path.{◌≡◌, refl, ap, ap₂, ◌∙◌}
-use mathlib.Core.Bool.{Bool, true, false}
+use mathlib.Core.Path.{◌≡◌, refl, sym, ap, ◌∙◌}
+use mathlib.Core.Bool.{Bool, true, false, not}
+use mathlib.Core.Logic.{◌⊎◌, inl, inr}
 use mathlib.Core.List.{List, [], ◌∷◌}
-use Prim.Native.Nat.{ℕ, ◌+◌, ◌*◌, ◌/◌, ◌%◌, ◌≤◌, ◌<◌}
+use Prim.Native.Nat.{ℕ, ◌≤◌, ◌<◌}
 use native.Mathlib.Omega.{arith}
-use lib.Dec.{eqb}
+use lib.Dec.{T, ltb, ltb→lt, nltb→le}
 use lib.ListN.{length, get_or}
-use borrow.Author.Tests.{lt-ltb, le-ltb}
 use Rattle.spec.specs.Lists.{keep}
-use Rattle.spec.specs.Record.{u16, is_kind, flags, LOCAL, MEMBER}
-use Rattle.spec.specs.Sheet.{Group, group, class_record, of_kind, is_interface}
+use Rattle.spec.specs.Record.{is_kind, LOCAL, MEMBER}
+use Rattle.spec.specs.Sheet.{Group, of_kind}
+use Rattle.laws.proofs.Bools.{decide}
 use Rattle.laws.proofs.All.{keep_yes, keep_no}
-use Rattle.laws.proofs.Rows.{Filling}
-use Rattle.groups.specs.declared.Classes.{Classes}
-use Rattle.groups.specs.Groups.{Indexed}
+use Rattle.records.specs.Kinds.{kind_number}
+use Rattle.groups.specs.Groups.{sheet_number}
 use Rattle.groups.proofs.Few.{group_few}
+use Rattle.groups.proofs.Held.{library_number, user_number}
 use Rattle.groups.proofs.Fitting.{library_locals, user_members}
-use Rattle.groups.proofs.Held.{class_long}
-use Rattle.records.specs.Records.{between, Carries}
-use Rattle.records.proofs.Carried.{counted_in, class_word_in}
-use Rattle.second.specs.Second.{counted_kind, head_of, Heads}
-use Rattle.second.proofs.Leaves.{odd_bit}
-
--- ---- one class
+use Rattle.refusals.specs.declared.Side.{Side}
+use Rattle.refusals.specs.declared.Side.TheVariants.{Library, User}
+use Rattle.refusals.specs.Refusals.{sheet_number as side_number}
+use Rattle.sheets.specs.Sheets.{Pair, Passed, count, groups, library_count}
+use Rattle.second.specs.declared.lookup.Asked.{Asked}
+use Rattle.second.specs.Second.{indexed_kind, indexed_number, asked_of, Heads}
+use Rattle.sheets.proofs.Indexes.{indexed}
 
 -- no more of a kind than its records, which are few
 kept_few : (k : ℕ) (h : Group) → length (of_kind k h) ≤ length h
@@ -35,42 +36,55 @@ kept_few k (r ∷ rs) = go (is_kind k r) refl (kept_few k rs)
     go true e h = omega (arith, ap length (keep_yes (is_kind k) r rs e))
     go false e h = omega (arith, ap length (keep_no (is_kind k) r rs e))
 
--- `m` of the kind `k` are counted in the bytes of class c
-module _ {library user : List ℕ} {nlib n : ℕ} {row : List ℕ} (x : Indexed library user nlib n row) (c : ℕ) {bytes : List ℕ} (w : Carries bytes (group library user c))
-    (k : ℕ) {m : ℕ} (em : m ≡ length (of_kind k (between bytes 0 (length bytes)))) where
-  pub count_low : m < 256
-  count_low = omega (arith, counted_in w k em, kept_few k (group library user c), group_few x c)
+pub indexed_low : {p : Pair} → Passed p → (k c : ℕ) → length (of_kind k (groups p c)) < 256
+indexed_low {p} w k c = omega (arith, kept_few k (groups p c), group_few (indexed w) c)
 
-  pub head_is : c < n → k ≡ counted_kind nlib c → {f : ℕ} → f ≡ u16 bytes 4 → 2 * m + f % 2 ≡ head_of nlib (group library user) c
-  unfolding head_of flags
-  head_is h ek ef =
-      ap₂ (λ (a b : ℕ). 2 * a + b % 2) (counted_in w k em ∙ ap (λ (j : ℕ). length (of_kind j (group library user c))) ek) (ef ∙ class_word_in w (class_long x h) 4 (omega arith))
+-- ---- the sheet of a class, by its number
+
+library_side : (s : Side) → side_number s ≡ 0 → s ≡ Library
+library_side Library e = refl
+library_side User e = absurd (omega arith)
+
+user_side : (s : Side) → side_number s ≡ 1 → s ≡ User
+user_side Library e = absurd (omega arith)
+user_side User e = refl
+
+module _ {nlib c : ℕ} where
+  library_of : 0 ≡ sheet_number nlib c → c < nlib
+  library_of e = go (decide (ltb c nlib))
+    where
+      go : T (ltb c nlib) ⊎ T (not (ltb c nlib)) → c < nlib
+      go (inl t) = ltb→lt c nlib t
+      go (inr t) = absurd (omega (arith, user_number nlib c (nltb→le c nlib t)))
+
+  user_of : 1 ≡ sheet_number nlib c → nlib ≤ c
+  user_of e = go (decide (ltb c nlib))
+    where
+      go : T (ltb c nlib) ⊎ T (not (ltb c nlib)) → nlib ≤ c
+      go (inl t) = absurd (omega (arith, library_number nlib c (ltb→lt c nlib t)))
+      go (inr t) = nltb→le c nlib t
+
+pub kind_is : (p : Pair) (c : ℕ) (s : Side) → side_number s ≡ sheet_number (library_count p) c → kind_number (indexed_kind s) ≡ indexed_number p c
+unfolding sheet_number
+kind_is p c s e = go (ltb c (library_count p)) s e
+  where
+    go : (b : Bool) (s : Side) → side_number s ≡ (elim b as (λ (_ : Bool). ℕ) [ true ↦ 0 | false ↦ 1 ]) → kind_number (indexed_kind s) ≡ (elim b as (λ (_ : Bool). ℕ) [ true ↦ MEMBER | false ↦ LOCAL ])
+    go true s e = ap (λ (x : Side). kind_number (indexed_kind x)) (library_side s e)
+    go false s e = ap (λ (x : Side). kind_number (indexed_kind x)) (user_side s e)
 
 -- ---- the row
 
-pub heads_end : {library user : List ℕ} {classes : Classes} {starts : List ℕ} → Indexed library user classes.library classes.all starts
-    → {n : ℕ} {before row : List ℕ} {c : ℕ} → n ≡ classes.all → Filling (head_of classes.library (group library user)) n before row c → n ≤ c → n ≤ length before
-    → Heads (group library user) classes row
-heads_end x e w h room = record {
-  long = omega (arith, w.long);
-  heads = λ d k. w.new d (omega arith);
-  locals = λ d k. library_locals x k;
-  members = λ d k l. user_members x k l;
-}
+module _ {p : Pair} {row : List Asked} (w : Heads p row) (t : ℕ) (h : t < count p) where
+  -- in a class of the sheet, and of the other one
+  pub indexed_here : (s : Side) → side_number s ≡ sheet_number (library_count p) t → (e : Asked) → (get_or row t e).indexed ≡ length (of_kind (kind_number (indexed_kind s)) (groups p t))
+  indexed_here s q e = ap (λ (a : Asked). a.indexed) (w.heads t e h) ∙ ap (λ (k : ℕ). length (of_kind k (groups p t))) (sym (kind_is p t s q))
 
-module _ {g : ℕ → Group} {classes : Classes} {row : List ℕ} (w : Heads g classes row) {d : ℕ} (h : d < classes.all) where
-  parts : (get_or row d 0 / 2 ≡ length (of_kind (counted_kind classes.library d) (g d))) × (get_or row d 0 % 2 ≡ flags (class_record (g d)) % 2)
-  unfolding head_of
-  parts = (omega (arith, w.heads d h), omega (arith, w.heads d h))
+  pub indexed_none : (s x : Side) → side_number x ≡ sheet_number (library_count p) t → (x ≡ s → ⊥) → 0 ≡ length (of_kind (kind_number (indexed_kind s)) (groups p t))
+  indexed_none Library Library q n = absurd (n refl)
+  indexed_none Library User q n = sym (w.members t (user_of q) h)
+  indexed_none User Library q n = sym (w.locals t (library_of q))
+  indexed_none User User q n = absurd (n refl)
 
-  pub face : eqb (get_or row d 0 % 2) 1 ≡ is_interface (g d)
-  unfolding is_interface
-  face = ap (λ (f : ℕ). eqb f 1) parts.1 ∙ odd_bit (flags (class_record (g d)))
-
-  pub half_members : d < classes.library → get_or row d 0 / 2 ≡ length (of_kind MEMBER (g d))
-  unfolding counted_kind
-  half_members l = parts.0 ∙ rw (lt-ltb d classes.library l, counted_kind)
-
-  pub half_locals : classes.library ≤ d → get_or row d 0 / 2 ≡ length (of_kind LOCAL (g d))
-  unfolding counted_kind
-  half_locals l = parts.0 ∙ rw (le-ltb d classes.library l, counted_kind)
+pub heads_are : {p : Pair} → Passed p → {row : List Asked} → length row ≡ 256 → ((d : ℕ) (e : Asked) → d < count p → get_or row d e ≡ asked_of p d)
+    → Heads p row
+heads_are w l f = record { long = omega (arith, l, w.few); heads = f; locals = λ d h. library_locals (indexed w) h; members = λ d h k. user_members (indexed w) h k }

@@ -3,20 +3,22 @@
 use mathlib.Core.Path.{◌≡◌, refl, sym, ap, ◌∙◌}
 use mathlib.Core.Bool.{Bool, true, false, ◌||◌, or-true, or-false}
 use mathlib.Core.List.{List, [], ◌∷◌, append-nil}
-use Prim.Native.Nat.{ℕ, zero, suc, ◌+◌, ◌-◌, ◌≤◌, ◌<◌}
+use Prim.Native.Nat.{ℕ, zero, suc, ◌+◌, ◌≤◌, ◌<◌}
 use native.Mathlib.Decide.{ℕ_discrete}
 use native.Mathlib.Omega.{arith}
 use lib.Dec.{eqb}
 use lib.ListN.{length, get_or, set, replicate, length-set, length-replicate, get_or-replicate}
 use lib.Seq.{get_or-set_same, get_or-set_other}
-use borrow.Author.Tests.{eqb-false, eq-eqb, ne_eqb}
+use borrow.Author.Tests.{eq-eqb, ne_eqb}
+use Rattle.std.specs.declared.option.Option.{Option as Maybe}
 use Rattle.spec.specs.Lists.{any, keep, gather, elem}
-use Rattle.spec.specs.Record.{u16, encloser, unless_none}
-use Rattle.spec.specs.Sheet.{total, group, class_record, of_kind}
+use Rattle.spec.specs.Record.{encloser, none16, unless_none}
+use Rattle.spec.specs.Sheet.{Group, class_record, of_kind}
 use Rattle.spec.specs.Classes.{enclosing, enclosers_in, enclosers}
-use Rattle.theory.proofs.Form.{one_record, group_one_class}
-use Rattle.groups.specs.Groups.{Indexed}
-use Rattle.theory.proofs.Form.{group_past}
+use Rattle.theory.proofs.Form.{one_record, group_one_class, group_past}
+use Rattle.records.specs.Kinds.{optional, head_of}
+use Rattle.records.specs.declared.record.Head.{Head}
+use Rattle.sheets.specs.Sheets.{Pair, count, groups}
 use Rattle.second.specs.Second.{Enclosing}
 
 -- a class is marked, or is one of those that are left
@@ -32,73 +34,94 @@ mark_one row d t more l = go (ℕ_discrete t d)
     go (yes q) = rw (q, get_or-set_same row d 1 0 l, eq-eqb d d refl, or-true (eqb (get_or row d 0) 1))
     go (no q) = rw (get_or-set_other row d t 1 0 q, ne_eqb t d q)
 
+-- the encloser that stands in a class's CLASS record
+pub encloser_is : {h : Head} {q g : Group} → h ≡ head_of (class_record q) → q ≡ g → h.encloser ≡ optional (encloser (class_record g))
+encloser_is eh eq = ap (λ (h : Head). h.encloser) eh ∙ ap (λ (q : Group). optional (encloser (class_record q))) eq
+
 -- the walk from c is at class e and may go up `left` times
-pub record Rising (library user : List ℕ) (n c e left : ℕ) (row : List ℕ) : Type 0 where
-  pub there : e < n
+pub record Rising (p : Pair) (c e left : ℕ) (row : List ℕ) : Type 0 where
+  pub there : e < count p
   pub long : length row ≡ 256
-  pub same : (t : ℕ) → t < n → met row t (enclosers_in (group library user) left e) ≡ elem t (c ∷ enclosers (group library user) c)
+  pub same : (t : ℕ) → t < count p → met row t (enclosers_in (groups p) left e) ≡ elem t (c ∷ enclosers (groups p) c)
 
--- a class past the last has no group, so no encloser
-past_none : (library user : List ℕ) (d left : ℕ) → total library user ≤ d → enclosers_in (group library user) left d ≡ []
-unfolding enclosers_in enclosing of_kind keep gather
-past_none library user d zero h = refl
-past_none library user d (suc left) h = rw (group_past library user d h)
+-- the encloser that is named, if one is and is there: then those that are left are its own and it
+named : Maybe ℕ → (ℕ → List ℕ) → List ℕ
+named Maybe.None f = []
+named (Maybe.Some d) f = d ∷ f d
 
-module _ {library user : List ℕ} {nlib n : ℕ} {row : List ℕ} (x : Indexed library user nlib n row) where
-  module _ {c : ℕ} {marks : List ℕ} (h : c < n) (z : marks ≡ replicate 256 0) where
-    pub start_room : length marks ≡ 256
-    start_room = ap length z ∙ length-replicate {A = ℕ} 256 0
+gathered : (d : ℕ) (f : ℕ → List ℕ) → gather (λ e. e ∷ f e) (unless_none d) ≡ named (optional d) f
+unfolding gather unless_none named
+gathered d f = go (eqb d none16)
+  where
+    go : (b : Bool)
+        → gather (λ e. e ∷ f e) (elim b as (λ (_ : Bool). List ℕ) [ true ↦ [] | false ↦ d ∷ [] ])
+        ≡ named (elim b as (λ (_ : Bool). Maybe ℕ) [ true ↦ Maybe.None | false ↦ Maybe.Some d ]) f
+    go true = refl
+    go false = append-nil (d ∷ f d)
 
-    unmarked : (t : ℕ) → t < 256 → met marks t (c ∷ enclosers_in (group library user) (c + 1) c) ≡ elem t (c ∷ enclosers (group library user) c)
-    unfolding met enclosers
-    unmarked t l = let e : c + 1 ≡ suc c = omega arith in rw (z, get_or-replicate {A = ℕ} 256 t 0 0 l, e)
-
-    pub rising_start : Rising library user n c c (c + 1) (set marks c 1)
-    rising_start = record {
-      there = h;
-      long = length-set marks c 1 ∙ start_room;
-      same = λ t l. mark_one marks c t _ (omega (arith, x.few, start_room)) ∙ unmarked t (omega (arith, x.few));
-    }
+module _ (p : Pair) where
+  -- a class past the last has no group, so no encloser
+  past_none : (d left : ℕ) → count p ≤ d → enclosers_in (groups p) left d ≡ []
+  unfolding enclosers_in enclosing of_kind keep gather
+  past_none d zero h = refl
+  past_none d (suc left) h = rw (group_past p.library p.user d h)
 
   -- one level: the encloser, and its own
-  level : {e up : ℕ} (left : ℕ) → e < n → up ≡ u16 (class_record (group library user e)) 10
-      → enclosers_in (group library user) (suc left) e ≡ gather (λ d. d ∷ enclosers_in (group library user) left d) (unless_none up)
-  unfolding enclosers_in enclosing gather encloser
-  level {e} {up} left h eu =
-      let o = one_record (group library user e) (group_one_class library user e (omega (arith, x.n_is))) in
-      rw (o, append-nil (unless_none (u16 (class_record (group library user e)) 10)), ← eu)
+  level : (e left : ℕ) → e < count p → enclosers_in (groups p) (suc left) e ≡ named (optional (encloser (class_record (groups p e)))) (enclosers_in (groups p) left)
+  unfolding enclosers_in enclosing gather
+  level e left h =
+      let o = one_record (groups p e) (group_one_class p.library p.user e h) in
+      rw (o, append-nil (unless_none (encloser (class_record (groups p e))))) (gathered (encloser (class_record (groups p e))) (enclosers_in (groups p) left))
 
-  module _ {c e left : ℕ} {marks : List ℕ} (r : Rising library user n c e left marks) where
-    pub rising_end : left ≤ 0 → Enclosing (group library user) n c marks
-    unfolding met enclosers_in elem any
-    rising_end h =
-        let z : left ≡ 0 = omega arith in
-        record { long = omega (arith, r.long, x.few); marks = λ t l. sym (or-false (eqb (get_or marks t 0) 1)) ∙ (rw z at (r.same t l)) }
+module _ {marks : List ℕ} (z : marks ≡ replicate 256 0) where
+  room : length marks ≡ 256
+  room = ap length z ∙ length-replicate {A = ℕ} 256 0
 
-    module _ (l : 0 < left) {up : ℕ} (eu : up ≡ u16 (class_record (group library user e)) 10) where
-      -- what is left from e, by the number that its CLASS record names
-      from : (t : ℕ) → t < n
-          → met marks t (gather (λ d. d ∷ enclosers_in (group library user) (left - 1) d) (unless_none up)) ≡ elem t (c ∷ enclosers (group library user) c)
-      from t h =
-          let z : suc (left - 1) ≡ left = omega arith in
-          ap (met marks t) (sym (level (left - 1) r.there eu)) ∙ ap (λ (k : ℕ). met marks t (enclosers_in (group library user) k e)) z ∙ r.same t h
+  unmarked : (p : Pair) (c t : ℕ) → t < 256 → met marks t (c ∷ enclosers_in (groups p) (c + 1) c) ≡ elem t (c ∷ enclosers (groups p) c)
+  unfolding met enclosers
+  unmarked p c t l = let e : c + 1 ≡ suc c = omega arith in rw (z, get_or-replicate {A = ℕ} 256 t 0 0 l, e)
 
-      named : (up ≡ 65535 → ⊥) → (t : ℕ) → t < n → met marks t (up ∷ enclosers_in (group library user) (left - 1) up) ≡ elem t (c ∷ enclosers (group library user) c)
-      unfolding gather unless_none
-      named ne t h = rw (ne_eqb up 65535 ne, unless_none, append-nil (enclosers_in (group library user) (left - 1) up)) at (from t h)
+  pub rising_start : {p : Pair} {c left : ℕ} → count p ≤ 256 → c < count p → left ≡ c + 1 → Rising p c c left (set marks c 1)
+  rising_start {p} {c} few h el = rw el (record {
+    there = h;
+    long = length-set marks c 1 ∙ room;
+    same = λ t l. mark_one marks c t _ (omega (arith, room)) ∙ unmarked p c t (omega arith);
+  })
 
-      pub rising_step : up < n → Rising library user n c up (left - 1) (set marks up 1)
+module _ {p : Pair} {c e left : ℕ} {marks : List ℕ} (few : count p ≤ 256) (r : Rising p c e left marks) where
+  -- none is left
+  over : ((t : ℕ) → t < count p → met marks t [] ≡ elem t (c ∷ enclosers (groups p) c)) → Enclosing p c marks
+  unfolding met elem any
+  over f = record { long = omega (arith, r.long); marks = λ t l. sym (or-false (eqb (get_or marks t 0) 1)) ∙ f t l }
+
+  pub rising_end : left ≤ 0 → Enclosing p c marks
+  unfolding enclosers_in
+  rising_end h = let z : left ≡ 0 = omega arith in over (λ t l. rw z at (r.same t l))
+
+  module _ (m : ℕ) (l : left ≡ m + 1) {o : Maybe ℕ} (eo : o ≡ optional (encloser (class_record (groups p e)))) where
+    -- what is left from e, by the encloser that its CLASS record names
+    from : (t : ℕ) → t < count p → met marks t (named o (enclosers_in (groups p) m)) ≡ elem t (c ∷ enclosers (groups p) c)
+    from t h =
+        let z : suc m ≡ left = omega arith in
+        ap (λ (x : Maybe ℕ). met marks t (named x (enclosers_in (groups p) m))) eo
+        ∙ ap (met marks t) (sym (level p e m r.there)) ∙ ap (λ (k : ℕ). met marks t (enclosers_in (groups p) k e)) z ∙ r.same t h
+
+    pub rising_none : o ≡ Maybe.None → Enclosing p c marks
+    unfolding named
+    rising_none q = over (λ t h. rw q at (from t h))
+
+    module _ {up : ℕ} (q : o ≡ Maybe.Some up) where
+      here : (t : ℕ) → t < count p → met marks t (up ∷ enclosers_in (groups p) m up) ≡ elem t (c ∷ enclosers (groups p) c)
+      unfolding named
+      here t h = rw q at (from t h)
+
+      pub rising_step : up < count p → Rising p c up m (set marks up 1)
       rising_step h = record {
         there = h;
         long = length-set marks up 1 ∙ r.long;
-        same = λ t l. mark_one marks up t _ (omega (arith, x.few, r.long)) ∙ named (λ z. omega (arith, x.few)) t l;
+        same = λ t l. mark_one marks up t _ (omega (arith, r.long)) ∙ here t l;
       }
 
-      pub rising_stop : n ≤ up → Enclosing (group library user) n c marks
-      unfolding gather unless_none met elem any
-      rising_stop h = record { long = omega (arith, r.long, x.few); marks = λ t l. sym (or-false (eqb (get_or marks t 0) 1)) ∙ go t l (eqb up 65535) refl }
-        where
-          go : (t : ℕ) → t < n → (b : Bool) → eqb up 65535 ≡ b → (eqb (get_or marks t 0) 1 || false) ≡ elem t (c ∷ enclosers (group library user) c)
-          go t l true z = rw (z, unless_none) at (from t l)
-          go t l false z =
-              rw (ne_eqb t up (λ q. omega arith), past_none library user up (left - 1) (omega (arith, x.n_is))) at (named (eqb-false up 65535 z) t l)
+      pub rising_stop : count p ≤ up → Enclosing p c marks
+      unfolding met elem any
+      rising_stop h = over (λ t k. rw (ne_eqb t up (λ z. omega arith), past_none p up m h) at (here t k))

@@ -1,9 +1,6 @@
-pub mod ByKind
-pub mod ByPlace
 pub mod Asking
-pub mod Deciding
+pub mod ByKind
 pub mod Enclosing
-pub mod Leaves
 pub mod Names
+pub mod Classes
 pub mod Passing
-pub mod Sheets

@@ -1,102 +1,128 @@
--- The second pass by positions: the number that refuses a record by what it names.
+-- The second pass, class by class: the number that refuses a record by what it names, and what records ask of classes by their numbers.
 -- Assumes nothing.
-use Rattle.std.specs.Prelude.{◌≡◌, Bool, true, false, not, ◌&&◌, ◌||◌, List, [], ◌∷◌, map, ℕ, ◌+◌, ◌*◌, ◌%◌, ◌≤◌, ◌<◌, eqb, leb, ltb, length, get_or}
-use Rattle.std.proofs.Math.Option.{Option}
-use Rattle.spec.specs.Lists.{first_of, elem}
-use Rattle.spec.specs.Record.{bit, none16, flags, superclass, encloser, Ty, LOCAL, MEMBER}
-use Rattle.spec.specs.Sheet.{Group, located_in, class_record, of_kind, is_interface}
+use Rattle.std.specs.Prelude.{◌≡◌, Bool, true, false, not, ◌&&◌, ◌||◌, Option, None, Some, Result, Ok, Err, List, [], ◌∷◌, ℕ, ◌+◌, ◌≤◌, ◌<◌, eqb, leb, ltb, length, get_or}
+use Rattle.std.proofs.Math.Option as spec
+use Rattle.spec.specs.Lists.{elem}
+use Rattle.spec.specs.Record.{bit, LOCAL, MEMBER}
+use Rattle.spec.specs.Sheet.{Group, of_kind, is_interface}
 use Rattle.spec.specs.Classes.{enclosers}
-use Rattle.spec.specs.Refusals.{Refusal, refuse_record, form_tests, superclass_fits, encloser_fits}
-use Rattle.groups.specs.declared.Classes.{Classes}
-use Rattle.pass.specs.Pass.{number_of}
-use Rattle.pass.specs.declared.Pass.{Pass}
-use Rattle.pass.specs.declared.Pass.TheVariants.{Fine, Refused}
+use Rattle.spec.specs.Refusals.{Refusal, form_tests, name_met}
+use Rattle.groups.specs.Groups.{sheet_number, start_of}
+use Rattle.refusals.specs.declared.Reason.{Reason}
+use Rattle.refusals.specs.declared.Side.{Side}
+use Rattle.refusals.specs.declared.Side.TheVariants.{Library, User}
+use Rattle.refusals.specs.Refusals.{reason_number}
+use Rattle.records.specs.declared.record.Ty.{Ty}
+use Rattle.records.specs.declared.record.Head.{Head}
+use Rattle.records.specs.declared.kind.Kind.{Kind}
+use Rattle.records.specs.declared.kind.Kind.TheVariants.{Local, Member}
+use Rattle.sheets.specs.Sheets.{Pair, count, groups, library_count}
+use Rattle.second.specs.declared.lookup.Asked.{Asked}
 
--- the number that refuses record r of class c in the second pass, or 0
-unfoldable pub form_number : (ℕ → Group) → ℕ → ℕ → ℕ → List ℕ → ℕ
-form_number g nlib n c r =
-    number_of (form_tests g nlib n (record { sheet = 0; byte = 0; class = c; record_number = 0; before = 0; grouped = true; bytes = r }))
+-- ---- numbered tests
 
--- ---- by kind: 9 before 8 before 10
+-- the number of the first test that is met, if one is
+abbrev pub first_met : List (ℕ × Bool) → spec.Option ℕ
+first_met [] = spec.none
+first_met (t ∷ ts) = elim t.1 [ true ↦ spec.some t.0 | false ↦ first_met ts ]
 
--- 9 if the test fails, else what follows
-unfoldable pub nine_unless : Bool → ℕ → ℕ
-nine_unless b m = elim b [ true ↦ m | false ↦ 9 ]
+-- the number that an answer refuses with, if it does
+abbrev pub number_of : {A : Type 0} → Result A Reason → spec.Option ℕ
+number_of (Ok a) = spec.none
+number_of (Err reason) = spec.some (reason_number reason)
 
-unfoldable pub eight_unless : Bool → ℕ → ℕ
-eight_unless b m = elim b [ true ↦ m | false ↦ 8 ]
+-- the number that refuses record r of class c in the second pass, if one does
+unfoldable pub form_number : Pair → ℕ → List ℕ → spec.Option ℕ
+form_number p c r =
+    first_met
+    (form_tests (groups p) (library_count p) (count p) (record { sheet = 0; byte = 0; class = c; record_number = 0; before = 0; grouped = true; bytes = r }))
 
--- a superclass or an encloser is there, or none is named
-unfoldable pub there_or_none : ℕ → ℕ → Bool
-there_or_none n d = eqb d none16 || ltb d n
+-- ---- the tests of each kind: 9 before 8 before 10
 
--- a type's class is there
-unfoldable pub type_there : ℕ → Ty → Bool
-type_there n t = not (eqb t.code 0) || ltb t.class n
+-- a superclass or an encloser that is not there
+abbrev pub absent : Pair → Option ℕ → Bool
+absent p None = false
+absent p (Some d) = leb (count p) d
 
--- a CLASS record by all but its name; m if nothing refuses it so far
-unfoldable pub class_number : (ℕ → Group) → ℕ → ℕ → ℕ → List ℕ → ℕ → ℕ
-class_number g nlib n c r m =
-    nine_unless (there_or_none n (superclass r))
-    (nine_unless (there_or_none n (encloser r))
-    (eight_unless (not (eqb c 0 && bit 0 (flags r))) (eight_unless (superclass_fits g c r) (eight_unless (encloser_fits nlib c r) m))))
+-- a class without a superclass: class 0, and an interface
+abbrev pub bare : ℕ → ℕ → Bool
+bare c f = eqb c 0 || bit 0 f
 
-unfoldable pub implements_number : (ℕ → Group) → ℕ → ℕ → ℕ → ℕ
-implements_number g n c t = nine_unless (ltb t n) (eight_unless (ltb t c && is_interface (g t)) 0)
+-- the superclass and the encloser of class c with those flags
+abbrev pub superclass_ok : Pair → ℕ → ℕ → Option ℕ → Bool
+superclass_ok p c f None = bare c f
+superclass_ok p c f (Some up) = not (bare c f) && ltb up c && not (is_interface (groups p up))
 
--- a FIELD by whether its class is an interface, whether it is static, and its type
-unfoldable pub field_number : ℕ → Bool → Bool → Ty → ℕ
-field_number n face static t = nine_unless (type_there n t) (eight_unless (static || not face) 0)
+abbrev pub encloser_ok : Pair → ℕ → ℕ → Option ℕ → Bool
+encloser_ok p c f None = not (bit 1 f)
+encloser_ok p c f (Some outer) = leb (library_count p) c && leb (library_count p) outer && ltb outer c
 
-unfoldable pub uses_number : (ℕ → Group) → ℕ → ℕ → ℕ → ℕ → ℕ
-uses_number g n c t i = nine_unless (ltb t n) (nine_unless (ltb i (length (of_kind LOCAL (g t)))) (eight_unless (elem t (c ∷ enclosers g c)) 0))
+-- the CLASS record r of class c, which begins so
+abbrev pub class_tests : Pair → ℕ → Head → List ℕ → List (ℕ × Bool)
+class_tests p c h r =
+    (9, absent p h.superclass || absent p h.encloser)
+    ∷ (8, eqb c 0 && bit 0 h.flags)
+    ∷ (8, not (superclass_ok p c h.flags h.superclass))
+    ∷ (8, not (encloser_ok p c h.flags h.encloser))
+    ∷ (10, name_met (groups p) c r)
+    ∷ []
 
-unfoldable pub refers_number : (ℕ → Group) → ℕ → ℕ → ℕ → ℕ
-refers_number g n t i = nine_unless (ltb t n) (nine_unless (ltb i (length (of_kind MEMBER (g t)))) 0)
+abbrev pub target_tests : Pair → ℕ → List (ℕ × Bool)
+target_tests p t = (9, leb (count p) t) ∷ []
 
--- the form of a CLASS record by its numbers: flags, superclass, encloser
-unfoldable pub superclass_ok : (ℕ → Group) → ℕ → ℕ → ℕ → Bool
-superclass_ok g c f up = elim (eqb c 0 || bit 0 f) [ true ↦ eqb up none16 | false ↦ ltb up c && not (is_interface (g up)) ]
+abbrev pub type_tests : Pair → Ty → List (ℕ × Bool)
+type_tests p t = (9, eqb t.code 0 && leb (count p) t.class) ∷ []
 
-unfoldable pub encloser_ok : ℕ → ℕ → ℕ → ℕ → Bool
-encloser_ok nlib c f outer = elim (eqb outer none16) [ true ↦ not (bit 1 f) | false ↦ leb nlib c && leb nlib outer && ltb outer c ]
+abbrev pub implements_tests : Pair → ℕ → ℕ → List (ℕ × Bool)
+implements_tests p c t = (9, leb (count p) t) ∷ (8, not (ltb t c && is_interface (groups p t))) ∷ []
 
--- how many classes stand before a sheet, and the class after its last one
-unfoldable pub classes_start : ℕ → ℕ → ℕ
-classes_start nlib sheet = elim (eqb sheet 0) [ true ↦ 0 | false ↦ nlib ]
+-- a FIELD with those flags
+abbrev pub field_tests : Pair → ℕ → ℕ → Ty → List (ℕ × Bool)
+field_tests p c f t = (9, eqb t.code 0 && leb (count p) t.class) ∷ (8, not (bit 2 f) && is_interface (groups p c)) ∷ []
 
-unfoldable pub classes_end : ℕ → ℕ → ℕ → ℕ
-classes_end nlib n sheet = elim (eqb sheet 0) [ true ↦ nlib | false ↦ n ]
+-- record number i of kind k in class t
+abbrev pub index_tests : Pair → ℕ → ℕ → ℕ → List (ℕ × Bool)
+index_tests p k t i = (9, leb (count p) t) ∷ (9, leb (length (of_kind k (groups p t))) i) ∷ []
+
+abbrev pub uses_tests : Pair → ℕ → ℕ → ℕ → List (ℕ × Bool)
+uses_tests p c t i = (9, leb (count p) t) ∷ (9, leb (length (of_kind LOCAL (groups p t))) i) ∷ (8, not (elem t (c ∷ enclosers (groups p) c))) ∷ []
 
 -- ---- what others ask of a class by its number
 
--- the kind of the records that others name by an index
-unfoldable pub counted_kind : ℕ → ℕ → ℕ
-counted_kind nlib c = elim (ltb c nlib) [ true ↦ MEMBER | false ↦ LOCAL ]
+-- the records that others name by an index: MEMBER in the library, LOCAL in the user sheet
+abbrev pub indexed_kind : Side → Kind
+indexed_kind Library = Member
+indexed_kind User = Local
 
--- twice how many of those class c has, and one more if it is an interface
-unfoldable pub head_of : ℕ → (ℕ → Group) → ℕ → ℕ
-head_of nlib g c = 2 * length (of_kind (counted_kind nlib c) (g c)) + flags (class_record (g c)) % 2
+abbrev pub indexed_number : Pair → ℕ → ℕ
+indexed_number p c = elim (ltb c (library_count p)) [ true ↦ MEMBER | false ↦ LOCAL ]
 
--- the row holds the head of each class; of the other kind a class has none
-pub record Heads (g : ℕ → Group) (classes : Classes) (row : List ℕ) : Type 0 where
-  pub long : classes.all ≤ length row
-  pub heads : (d : ℕ) → d < classes.all → get_or row d 0 ≡ head_of classes.library g d
-  pub locals : (d : ℕ) → d < classes.library → length (of_kind LOCAL (g d)) ≡ 0
-  pub members : (d : ℕ) → classes.library ≤ d → d < classes.all → length (of_kind MEMBER (g d)) ≡ 0
+-- how many of those class c has, and whether it is an interface
+abbrev pub asked_of : Pair → ℕ → Asked
+asked_of p c = record { interface = is_interface (groups p c); indexed = length (of_kind (indexed_number p c) (groups p c)) }
 
--- the row has 1 at class c and its enclosers, and at none else of n classes
-pub record Enclosing (g : ℕ → Group) (n c : ℕ) (row : List ℕ) : Type 0 where
-  pub long : n ≤ length row
-  pub marks : (t : ℕ) → t < n → eqb (get_or row t 0) 1 ≡ elem t (c ∷ enclosers g c)
+-- the row holds what is asked of each class; of the other kind a class has no records
+pub record Heads (p : Pair) (row : List Asked) : Type 0 where
+  pub long : count p ≤ length row
+  pub heads : (d : ℕ) (e : Asked) → d < count p → get_or row d e ≡ asked_of p d
+  pub locals : (d : ℕ) → d < library_count p → length (of_kind LOCAL (groups p d)) ≡ 0
+  pub members : (d : ℕ) → library_count p ≤ d → d < count p → length (of_kind MEMBER (groups p d)) ≡ 0
+
+-- the row has 1 at class c and its enclosers, and at none else of the classes
+pub record Enclosing (p : Pair) (c : ℕ) (row : List ℕ) : Type 0 where
+  pub long : count p ≤ length row
+  pub marks : (t : ℕ) → t < count p → eqb (get_or row t 0) 1 ≡ elem t (c ∷ enclosers (groups p) c)
 
 -- ---- the whole
 
--- the first of some records of class c that is refused, by its number and its byte, where the first begins at `at`
-unfoldable pub form_of : (ℕ → Group) → ℕ → ℕ → ℕ → ℕ → Group → Pass
-form_of g nlib n c at [] = Fine c
-form_of g nlib n c at (r ∷ rs) = elim (eqb (form_number g nlib n c r) 0) [ true ↦ form_of g nlib n c (at + length r) rs | false ↦ Refused (form_number g nlib n c r) at ]
+-- the first of some records that is refused, by its number and its byte, where the first begins at `at`
+unfoldable pub form_of : (List ℕ → spec.Option ℕ) → ℕ → ℕ → Group → spec.Option Refusal
+form_of number sheet at [] = spec.none
+form_of number sheet at (r ∷ rs) = elim (number r) [
+  | spec.some k ↦ spec.some (record { number = k; sheet = sheet; byte = at })
+  | spec.none ↦ form_of number sheet (at + length r) rs
+]
 
--- 9, 8, 10 along the records of one sheet, where m classes stand before it
-unfoldable pub form_in : (ℕ → Group) → ℕ → ℕ → ℕ → ℕ → List ℕ → Option Refusal
-form_in g nlib n sheet m s = first_of (map (λ l. refuse_record l (form_tests g nlib n l)) (located_in sheet m s))
+-- 9, 8, 10 along the records of class c
+unfoldable pub class_refusal : Pair → ℕ → spec.Option Refusal
+class_refusal p c = form_of (form_number p c) (sheet_number (library_count p) c) (start_of p.library p.user c) (groups p c)

@@ -1,83 +1,113 @@
--- A FIELD record read at its place in the sheet: rule 5 for a static field, rules 7 to 10 for one of the instance.
+-- The fields of a class: the set of one, and of all.
 -- Assumes nothing.
-use mathlib.Core.Path.{◌≡◌, sym, ap, ◌∙◌}
-use mathlib.Core.Bool.{Bool, true, false, not, ◌&&◌}
-use mathlib.Core.List.{List}
-use Prim.Native.Nat.{ℕ, ◌+◌, ◌/◌, ◌%◌, ◌<◌}
+use mathlib.Core.Path.{◌≡◌, refl, sym, ap, ap₂, ◌∙◌}
+use mathlib.Core.Bool.{Bool, true, false, not, ◌&&◌, ◌||◌, and-true}
+use mathlib.Core.List.{List, [], ◌∷◌}
+use Prim.Native.Nat.{ℕ, ◌<◌}
 use native.Mathlib.Omega.{arith}
-use lib.Dec.{eqb}
-use borrow.Author.Tests.{eq-eqb, ne_eqb}
-use Rattle.spec.specs.Record.{u16, bit, kind, is_kind, FIELD, flags, ty_at, field_ty, is_final, is_transient, is_static}
-use Rattle.spec.specs.Sheet.{Group, is_static_field, is_instance_field}
-use Rattle.spec.specs.Markers.{Powerless}
-use Rattle.spec.specs.Classes.{field_slot, satisfies}
-use Rattle.spec.specs.Rules.{static_breaks}
-use Rattle.overlay.specs.Types.{type_markers}
-use Rattle.overlay.proofs.Types.{satisfies_bit}
-use Rattle.records.specs.Records.{Sized, record_at}
-use Rattle.records.proofs.Positions.{kind_is, kind_not, flags_at, field_type_at}
-use Rattle.slots.specs.Slots.{from_seven, slot_fits, field_breaks}
-use Rattle.slots.proofs.Bits.{bit_zero, bit_one}
+use borrow.Author.Tests.{eq-eqb}
+use Rattle.spec.specs.Lists.{any}
+use Rattle.spec.specs.Record.{bit, kind, is_kind, FIELD, flags, field_ty, is_final, is_transient, is_static}
+use Rattle.spec.specs.Sheet.{Group, is_instance_field}
+use Rattle.spec.specs.Classes.{Slot, field_slot, satisfies}
+use Rattle.records.specs.declared.record.Ty.{Ty}
+use Rattle.records.specs.declared.record.Body.{Body}
+use Rattle.records.specs.declared.record.Body.TheVariants.{Field}
+use Rattle.records.specs.Kinds.{Reads, spec_ty}
+use Rattle.records.proofs.Bodies.{is_not, not_field}
+use Rattle.overlay.specs.Types.{Known, row_markers, type_markers}
+use Rattle.overlay.proofs.Types.{row_markers_lem, satisfies_bit}
+use Rattle.slots.specs.declared.Late.{Late}
+use Rattle.slots.specs.declared.Late.TheVariants.{Immutable, Powerless, Selfless, DeepSelfless}
+use Rattle.slots.specs.Slots.{rule_marker, slot_fits, field_breaks, Passes, slot_by, FieldSet, FieldsSet}
+use Rattle.slots.proofs.Sets.{twice, passes_all, passes_as}
 
-not_static : (f : ℕ) → (f / 4 % 2 ≡ 1 → ⊥) → bit 2 f ≡ false
-unfolding bit
-not_static f h = ne_eqb (f / 4 % 2) 1 h
+-- ---- one field
 
-module _ (g : ℕ → Group) {s : List ℕ} {at : ℕ} (z : Sized s at) {k : ℕ} (ek : k ≡ u16 s (at + 2)) where
-  abbrev r : List ℕ
-  r = record_at s at
+-- no field has no slot
+pub field_other : (g : ℕ → Group) (rule : Late) (t i : ℕ) (r : List ℕ) → is_kind FIELD r ≡ false → field_breaks g rule t i r ≡ false
+unfolding field_breaks is_instance_field
+field_other g rule t i r n = rw n
 
-  pub static_other : (k ≡ FIELD → ⊥) → false ≡ static_breaks g r
-  unfolding is_static_field
-  static_other n = rw (kind_not z ek FIELD n)
+-- a slot by the two flags and the markers of the type
+slot_is : (g : ℕ → Group) (f m : ℕ) (s : Slot) → s.final ≡ bit 0 f → s.transient ≡ bit 1 f → ((j : ℕ) → j < 8 → satisfies g j s.type ≡ bit j m) → (rule : Late) → slot_fits g rule s ≡ slot_by f m rule
+slot_is g f m s ef et sat Immutable = ap₂ (λ (a b : Bool). a && b) ef (sat 0 (omega arith))
+slot_is g f m s ef et sat Powerless = sat 1 (omega arith)
+slot_is g f m s ef et sat Selfless = ap₂ (λ (a b : Bool). a && not b) ef et
+slot_is g f m s ef et sat DeepSelfless = sat 7 (omega arith)
 
-  pub field_other : (rule t i : ℕ) → (k ≡ FIELD → ⊥) → false ≡ field_breaks g rule t i r
-  unfolding field_breaks is_instance_field
-  field_other rule t i n = rw (kind_not z ek FIELD n)
+module _ (r : List ℕ) {f : ℕ} {ty : Ty} (w : Reads r (Field f ty)) where
+  is_field : is_kind FIELD r ≡ true
+  is_field = eq-eqb (kind r) FIELD w.0
 
-  module _ (e : k ≡ FIELD) {f : ℕ} (ef : f ≡ u16 s (at + 4)) where
-    is_field : is_kind FIELD r ≡ true
-    is_field = eq-eqb (kind r) FIELD (kind_is z ek e)
+  -- nor has a static one
+  pub field_static : (g : ℕ → Group) (rule : Late) (t i : ℕ) → bit 2 f ≡ true → field_breaks g rule t i r ≡ false
+  unfolding field_breaks is_instance_field is_static
+  field_static g rule t i h = rw (is_field, ← w.1, h)
 
-    flags_is : flags r ≡ f
-    flags_is = flags_at z FIELD (kind_is z ek e) (omega arith) ∙ sym ef
+  -- another one is the slot of its flags and its type
+  pub field_own : {g : ℕ → Group} {row : List ℕ} → Known g row → (rule : Late) (t i : ℕ) → bit 2 f ≡ false → {m : ℕ} → m ≡ row_markers row (spec_ty ty)
+      → field_breaks g rule t i r ≡ not (slot_by f m rule)
+  unfolding field_breaks is_instance_field is_static field_slot is_final is_transient
+  field_own {g} {row} k rule t i h {m} em =
+      let stat : bit 2 (flags r) ≡ false = ap (bit 2) (sym w.1) ∙ h in
+      rw (is_field, stat) (ap not (slot_is g f m (field_slot t (i, r)) (ap (bit 0) (sym w.1)) (ap (bit 1) (sym w.1)) sat rule))
+    where
+      same : m ≡ type_markers g (field_ty r)
+      same = em ∙ ap (λ (y : Ty). row_markers row (spec_ty y)) w.2 ∙ row_markers_lem k (field_ty r)
 
-    -- ---- rule 5
+      sat : (j : ℕ) → j < 8 → satisfies g j (field_ty r) ≡ bit j m
+      sat j l = satisfies_bit g j (field_ty r) l ∙ ap (bit j) (sym same)
 
-    pub static_instance : f / 4 % 2 ≡ 0 → false ≡ static_breaks g r
-    unfolding is_static_field is_static bit
-    static_instance h = rw (is_field, flags_is, h)
+pub static_set : {row : List ℕ} {f : ℕ} {ty : Ty} → bit 2 f ≡ true → FieldSet row f ty 255
+static_set h = record { is = λ r w g k. passes_all (λ rule. ap not (field_static r w g rule 0 0 h)) }
 
-    module _ (h : f / 4 % 2 ≡ 0 → ⊥) where
-      is_static_lem : is_static_field r ≡ true
-      unfolding is_static_field is_static bit
-      is_static_lem = let o : f / 4 % 2 ≡ 1 = omega arith in rw (is_field, flags_is, o)
+pub instance_set : {row : List ℕ} {f : ℕ} {ty : Ty} → bit 2 f ≡ false → {m : ℕ} → m ≡ row_markers row (spec_ty ty) → {set : ℕ} → Passes (slot_by f m) set → FieldSet row f ty set
+instance_set {f = f} h {m} em s = record { is = λ r w g k. passes_as s (λ rule. sym (ap not (field_own r w k rule 0 0 h em) ∙ twice (slot_by f m rule))) }
 
-      final_is : is_final r ≡ eqb (f % 2) 1
-      unfolding is_final
-      final_is = ap (bit 0) flags_is ∙ bit_zero f
+-- ---- all of them
 
-      pub static_changing : f % 2 ≡ 0 → true ≡ static_breaks g r
-      static_changing c = rw (is_static_lem, final_is, c)
+-- the set, and what is left of the records, tell of all records
+pub record Fielding (row : List ℕ) (all : Group) (set : ℕ) (left : Group) : Type 0 where
+  pub rest : (g : ℕ → Group) → Known g row → (rule : Late)
+      → (bit (rule_marker rule) set && not (any (field_breaks g rule 0 0) left)) ≡ not (any (field_breaks g rule 0 0) all)
 
-      pub static_typed : (f % 2 ≡ 0 → ⊥) → {m : ℕ} → m ≡ type_markers g (ty_at s (at + 6)) → {b : Bool} → b ≡ eqb (m / 2 % 2) 1 → not b ≡ static_breaks g r
-      static_typed c {m} em eb =
-          let o : f % 2 ≡ 1 = omega arith in
-          let q : satisfies g Powerless (field_ty r) ≡ bit 1 m = ap (satisfies g Powerless) (field_type_at z (kind_is z ek e)) ∙ satisfies_bit g 1 (ty_at s (at + 6)) (omega arith)
-          ∙ ap (bit 1) (sym em) in
-          rw (is_static_lem, final_is, o, q) (unfold bit in ap not eb)
+pub fielding_start : {row : List ℕ} {all left : Group} → left ≡ all → Fielding row all 255 left
+fielding_start {all = all} e = record {
+  rest = λ g k rule.
+      ap (λ (rs : Group). bit (rule_marker rule) 255 && not (any (field_breaks g rule 0 0) rs)) e
+      ∙ ap (λ (b : Bool). b && not (any (field_breaks g rule 0 0) all)) ((passes_all {P = λ i. true} (λ i. refl)).is rule);
+}
 
-    -- ---- rules 7 to 10
+module _ {row : List ℕ} {all : Group} {set : ℕ} {left : Group} (w : Fielding row all set left) where
+  pub fielding_end : left ≡ [] → FieldsSet row all set
+  unfolding any
+  fielding_end e = record {
+    is = λ g k. record {
+      is = λ rule.
+          sym (and-true (bit (rule_marker rule) set)) ∙ ap (λ (rs : Group). bit (rule_marker rule) set && not (any (field_breaks g rule 0 0) rs)) (sym e) ∙ w.rest g k rule;
+    };
+  }
 
-    module _ (rule t i : ℕ) where
-      pub field_static : f / 4 % 2 ≡ 1 → false ≡ field_breaks g rule t i r
-      unfolding field_breaks is_instance_field is_static bit
-      field_static h = rw (is_field, flags_is, h)
+  module _ {r : List ℕ} {left' : Group} (e : left ≡ r ∷ left') where
+    next : {s : ℕ} → ((g : ℕ → Group) → Known g row → (rule : Late) → bit (rule_marker rule) s ≡ (bit (rule_marker rule) set && not (field_breaks g rule 0 0 r))) → Fielding row all s left'
+    unfolding any
+    next {s} h = record {
+      rest = λ g k rule.
+          let fb : List ℕ → Bool = field_breaks g rule 0 0 in
+          ap (λ (b : Bool). b && not (any fb left')) (h g k rule) ∙ both (bit (rule_marker rule) set) (fb r) (any fb left')
+          ∙ ap (λ (rs : Group). bit (rule_marker rule) set && not (any fb rs)) (sym e) ∙ w.rest g k rule;
+    }
+      where
+        both : (a b c : Bool) → ((a && not b) && not c) ≡ (a && not (b || c))
+        both true true c = refl
+        both true false c = refl
+        both false b c = refl
 
-      pub field_own : (f / 4 % 2 ≡ 1 → ⊥) → {m : ℕ} → m ≡ type_markers g (ty_at s (at + 6)) → {b : Bool}
-          → b ≡ from_seven rule (eqb (f % 2) 1 && bit 0 m) (bit 1 m) (eqb (f % 2) 1 && not (eqb (f / 2 % 2) 1)) (bit 7 m) → not b ≡ field_breaks g rule t i r
-      unfolding field_breaks is_instance_field slot_fits field_slot is_static is_final is_transient
-      field_own h {m} em eb =
-          let ty = field_type_at z (kind_is z ek e) in
-          let sat : (j : ℕ) → j < 8 → satisfies g j (field_ty r) ≡ bit j m = λ j l. ap (satisfies g j) ty ∙ satisfies_bit g j (ty_at s (at + 6)) l ∙ ap (bit j) (sym em) in
-          rw (is_field, flags_is, not_static f h, bit_zero f, bit_one f, sat 0 (omega arith), sat 1 (omega arith), sat 7 (omega arith), eb)
+    pub fielding_other : (b : Body) → Reads r b → ((f : ℕ) (t : Ty) → b ≡ Field f t → ⊥) → Fielding row all set left'
+    fielding_other b q n =
+        next (λ g _ rule. sym (and-true (bit (rule_marker rule) set))
+        ∙ ap (λ (b : Bool). bit (rule_marker rule) set && not b) (sym (field_other g rule 0 0 r (is_not r b q (not_field b n)))))
+
+    pub fielding_field : {f : ℕ} {ty : Ty} → Reads r (Field f ty) → {one : ℕ} → FieldSet row f ty one → {s : ℕ} → ((j : ℕ) → bit j s ≡ (bit j set && bit j one)) → Fielding row all s left'
+    fielding_field q o h = next (λ g k rule. h (rule_marker rule) ∙ ap (λ (b : Bool). bit (rule_marker rule) set && b) ((o.is r q g k).is rule))

@@ -1,46 +1,55 @@
 // Slots against rules 7 to 10: for a slot the set of the markers whose rules it passes, 1 Immutable, 2 Powerless, 4 Selfless, 128 DeepSelfless.
-// A class's bytes are read as a plain slice; markers and captured variables stand in their rows.
+// Markers and captured variables stand in their rows.
 #![tactic(auto)]
 
-ghost use Rattle.std.specs.Prelude.{◌≡◌, true, false, ◌+◌, ◌^◌, ◌≤◌, ◌<◌, length};
-ghost use Rattle.spec.specs.Record.{u16};
-ghost use Rattle.records.specs.Records.{Sized, record_at, between, AtRecord};
-ghost use Rattle.slots.specs.Slots.{rule_marker, Passes, slot_by, FieldSet, FieldsSet, RootSet, encloser_by, captured_by, HeadSet, base_by};
+ghost use Rattle.std.specs.Prelude.{◌≡◌, ◌^◌, ◌<◌};
+ghost use Rattle.slots.specs.Slots.{rule_number, rule_marker, Passes, slot_by, FieldSet, FieldsSet, RootSet, encloser_by, lane_by, captured_by, HeadSet, base_by};
 
-use captured::lacking;
 use markers::{ALL, DEEP_SELFLESS, IMMUTABLE, POWERLESS, SELFLESS, common, has, union};
+use records::group::Group;
+use records::record::{Body, Head, Ty};
+use records::{INNER, STATIC, TRANSIENT};
+use captured::{Lane, lacking};
 use overlay::{known, type_markers};
-use records::{
-    ENCLOSER_AT, FIELD, FIELD_TYPE_AT, FLAGS_AT, INNER, KIND_AT, STATIC, SUPERCLASS_AT, TRANSIENT,
-    wide, word_in,
-};
 
-// What a field that changes can pass, and a transient one; and all markers but one.
+/// The rules that ask slots, each of the classes that have its marker.
+#[derive(Clone, Copy, PartialEq, Eq, Debug)]
+pub enum Late {
+    Immutable,
+    Powerless,
+    Selfless,
+    DeepSelfless,
+}
+
+impl Late {
+    /// The rule's number.
+    pub fn number(self) -> u8
+        ensures { result ≡ rule_number self }
+    {
+        match self {
+            Late::Immutable => 7,
+            Late::Powerless => 8,
+            Late::Selfless => 9,
+            Late::DeepSelfless => 10,
+        }
+    }
+}
+
+// What a field that changes can pass, and a transient one.
 const CHANGING: u8 = POWERLESS + DEEP_SELFLESS;
 
 const LASTING: u8 = ALL - SELFLESS;
 
-const NOT_IMMUTABLE: u8 = ALL - IMMUTABLE;
-
-const NOT_POWERLESS: u8 = ALL - POWERLESS;
-
-const NOT_DEEP_SELFLESS: u8 = ALL - DEEP_SELFLESS;
-
-// The marker of a rule, as a set of its own.
-pub fn rule_set(rule: u8) -> u8
-    requires { 7 ≤ rule }
+/// The marker of a rule, as a set of its own.
+pub fn rule_set(rule: Late) -> u8
     ensures { (result ≡ 2 ^ rule_marker rule) × (0 < result) }
 {
-    if rule == 7 {
-        return IMMUTABLE;
+    match rule {
+        Late::Immutable => IMMUTABLE,
+        Late::Powerless => POWERLESS,
+        Late::Selfless => SELFLESS,
+        Late::DeepSelfless => DEEP_SELFLESS,
     }
-    if rule == 8 {
-        return POWERLESS;
-    }
-    if rule == 9 {
-        return SELFLESS;
-    }
-    DEEP_SELFLESS
 }
 
 // By the flags of a field and the markers of its type. One that is not final passes neither rule 7 nor rule 9, a transient one not rule 9.
@@ -56,31 +65,25 @@ fn slot_set(flags: u16, m: u8) -> u8
     union(m, SELFLESS)
 }
 
-// Those that the FIELD record at `at` passes; a static field has no slot.
-pub fn field_set(bytes: &[u8], at: usize, markers: &[u8]) -> u8
-    requires sized { Sized bytes.now at }
-    requires short { (length bytes.now ≤ 32768) × (u16 bytes.now (at + 2) ≡ 3) }
-    ensures { FieldSet markers.now (record_at bytes.now at) result }
+/// Those that a field passes; a static field has no slot.
+pub fn field_set(flags: u16, ty: Ty, markers: &[u8]) -> u8
+    ensures { FieldSet markers.now flags ty result }
 {
-    let flags = word_in(bytes, at + FLAGS_AT);
     if flags / STATIC % 2 == 1 {
         return ALL;
     }
-    slot_set(flags, type_markers(bytes, at + FIELD_TYPE_AT, markers))
+    slot_set(flags, type_markers(ty, markers))
 }
 
-// Those that all fields of a class pass.
-pub fn fields_set(bytes: &[u8], markers: &[u8]) -> u8
-    requires { AtRecord bytes.now (length bytes.now) 0 }
-    ensures { FieldsSet markers.now (between bytes.now 0 (length bytes.now)) result }
+/// Those that all fields of a class pass.
+pub fn fields_set(group: &Group, markers: &[u8]) -> u8
+    ensures { FieldsSet markers.now group.now result }
 {
-    let mut at = 0;
-    let mut set: u8 = ALL;
-    while at < bytes.len() {
-        if word_in(bytes, at + KIND_AT) == FIELD {
-            set = common(set, field_set(bytes, at, markers));
+    let mut set = ALL;
+    for record in group.records() {
+        if let Body::Field { flags, ty } = record.body() {
+            set = common(set, field_set(flags, ty, markers));
         }
-        at += wide(word_in(bytes, at));
     }
     set
 }
@@ -96,56 +99,61 @@ fn root_set(markers: &[u8], d: usize) -> u8
 }
 
 // Those that the encloser of an inner class passes.
-fn encloser_set(bytes: &[u8], markers: &[u8]) -> u8
-    requires { 13 ≤ length bytes.now }
-    ensures { Passes (encloser_by bytes.now markers.now) result }
+fn encloser_set(head: &Head, markers: &[u8]) -> u8
+    ensures { Passes (encloser_by head.now markers.now) result }
 {
-    if word_in(bytes, FLAGS_AT) / INNER % 2 == 0 {
+    if head.flags / INNER % 2 == 0 {
         return ALL;
     }
-    union(known(markers, wide(word_in(bytes, ENCLOSER_AT))), SELFLESS)
+    match head.encloser {
+        Some(e) => union(known(markers, e), SELFLESS),
+        None => ALL,
+    }
 }
 
-// All markers, or those of the mask.
-fn all_or(lacks: bool, mask: u8) -> u8
-    ensures { (lacks ≡ true → result ≡ mask) × (lacks ≡ false → result ≡ 255) }
+// Those that the captured variables of class t pass by one lane: all, or all but the lane's marker.
+fn lane_set(row: &[u8], lane: Lane, t: usize) -> u8
+    requires { t < 256 }
+    ensures { result ≡ lane_by row.now t lane }
 {
-    if lacks { mask } else { ALL }
+    if lacking(row, lane, t) {
+        ALL - lane.set()
+    } else {
+        ALL
+    }
 }
 
-// Those that the captured variables of class t pass: each lane is one marker's.
+// Those that the captured variables of class t pass.
 fn captured_set(row: &[u8], t: usize) -> u8
     requires { t < 256 }
     ensures { Passes (captured_by row.now t) result }
 {
-    let a = all_or(lacking(row, 0, t), NOT_IMMUTABLE);
-    let b = all_or(lacking(row, 1, t), NOT_POWERLESS);
-    let c = all_or(lacking(row, 2, t), NOT_DEEP_SELFLESS);
+    let a = lane_set(row, Lane::Immutable, t);
+    let b = lane_set(row, Lane::Powerless, t);
+    let c = lane_set(row, Lane::DeepSelfless, t);
     common(common(a, b), c)
 }
 
-// Those that record 0 of class t passes, whose bytes these are: as a root, or by its encloser and its captured variables.
-pub fn head_set(bytes: &[u8], markers: &[u8], lanes: &[u8], nlib: usize, t: usize) -> u8
-    requires { (13 ≤ length bytes.now) × (t < 256) }
-    ensures { HeadSet markers.now lanes.now bytes.now nlib t result }
+/// Those that record 0 of class t passes, whose head this is: as a root, or by its encloser and its captured variables.
+pub fn head_set(head: &Head, markers: &[u8], lanes: &[u8], nlib: usize, t: usize) -> u8
+    requires { t < 256 }
+    ensures { HeadSet markers.now lanes.now head.now nlib t result }
 {
     if t < nlib {
         return root_set(markers, t);
     }
-    common(encloser_set(bytes, markers), captured_set(lanes, t))
+    common(encloser_set(head, markers), captured_set(lanes, t))
 }
 
-// Rule 9's second part: the superclass is not Selfless, nor class 0 with two flags.
-pub fn base_breaks(bytes: &[u8], markers: &[u8]) -> bool
-    requires { 13 ≤ length bytes.now }
-    ensures { result ≡ base_by bytes.now markers.now }
+/// Rule 9's second part: the superclass is not Selfless, nor class 0 with two flags.
+pub fn base_breaks(head: &Head, markers: &[u8]) -> bool
+    ensures { result ≡ base_by head.now markers.now }
 {
-    let s = wide(word_in(bytes, SUPERCLASS_AT));
+    let Some(s) = head.superclass else {
+        return false;
+    };
     if has(known(markers, s), SELFLESS) {
         return false;
     }
-    if s != 0 {
-        return true;
-    }
-    word_in(bytes, FLAGS_AT) / 4 % 8 != 3
+    s != 0 || head.flags / 4 % 8 != 3
 }

@@ -1,4 +1,3 @@
-pub mod Covering
 pub mod Verdicts
 pub mod Lines
 pub mod Records

@@ -17,9 +17,12 @@ use Rattle.spec.specs.Rules.{Fault, Verdict, clean, static_breaks, slot_fault, f
 use Rattle.spec.specs.Rules.{rule1, rule2, rule3, rule4, rule5, rule6, rule7, rule8, rule9, rule10, rules, place_in, first_broken, verdict_of}
 use Rattle.laws.proofs.Bools.{true_t, and_l, and_r}
 use Rattle.theory.proofs.Somewhere.{any_append, any_map, any_gather, any_keep, any_numbered, any_same, any_either, any_never, some, some_append, some_map, some_only, some_keep, some_gather}
+use Rattle.slots.specs.declared.Late.{Late}
+use Rattle.slots.specs.declared.Late.TheVariants as late
+use Rattle.slots.specs.Slots.{slot_fits, fixed_breaks, root_breaks, base_breaks, field_breaks, slots_break}
+use Rattle.slots.proofs.Sets.{late_cases}
 use Rattle.breaks.specs.Breaking.{line_breaks}
-use Rattle.survey.specs.Survey.{is_clean, head_fails, any_late, record_breaks, late_breaks, class_breaks}
-use Rattle.slots.specs.Slots.{from_seven, rule_marker, slot_fits, fixed_breaks, root_breaks, base_breaks, field_breaks, slots_break}
+use Rattle.survey.specs.Survey.{is_clean, head_by, head_fails, any_late, record_breaks, late_breaks, class_breaks}
 
 pub clean_both : (v : Verdict) → is_clean v ≡ true → v ≡ clean
 unfolding is_clean
@@ -65,15 +68,23 @@ module _ (g : ℕ → Group) (c : ℕ) where
   some_base = some_each (λ s. not (base_fits g (flags (class_record (g c))) s)) (λ s. c) (superclasses (g c))
 
 module _ (nlib : ℕ) (g : ℕ → Group) (c : ℕ) where
-  module _ (rule : ℕ) where
+  module _ (rule : Late) where
     bad : Slot → Bool
     bad s = not (slot_fits g rule s)
 
+    -- a field is asked the same wherever it stands
+    field_same : (t : ℕ) (n : ℕ × List ℕ) → slot_fits g rule (field_slot t n) ≡ slot_fits g rule (field_slot 0 (0, n.1))
+    unfolding field_slot
+    field_same t n = late_cases (λ l. slot_fits g l (field_slot t n) ≡ slot_fits g l (field_slot 0 (0, n.1))) refl refl refl refl rule
+
     fields_are : (t : ℕ) → any bad (field_slots g t) ≡ any (field_breaks g rule 0 0) (g t)
-    unfolding field_slots field_breaks slot_fits field_slot bad
+    unfolding field_slots field_breaks bad
     fields_are t =
-        any_map bad (field_slot t) (keep (λ (n : ℕ × List ℕ). is_instance_field n.1) (numbered 0 (g t)))
-        ∙ any_keep (λ (n : ℕ × List ℕ). bad (field_slot t n)) (λ n. is_instance_field n.1) (numbered 0 (g t))
+        let ns : List (ℕ × List ℕ) = numbered 0 (g t) in
+        any_map bad (field_slot t) (keep (λ (n : ℕ × List ℕ). is_instance_field n.1) ns)
+        ∙ any_keep (λ (n : ℕ × List ℕ). bad (field_slot t n)) (λ n. is_instance_field n.1) ns
+        ∙ any_same (λ (n : ℕ × List ℕ). is_instance_field n.1 && bad (field_slot t n)) (λ n. field_breaks g rule 0 0 n.1)
+        (λ n. ap (λ (b : Bool). is_instance_field n.1 && not b) (field_same t n)) ns
         ∙ any_numbered (field_breaks g rule 0 0) 0 (g t)
 
     own_are : (t : ℕ) → any bad (own_slots g t) ≡ slots_break g rule t
@@ -105,35 +116,35 @@ module _ (nlib : ℕ) (g : ℕ → Group) (c : ℕ) where
         some_only (judged_for g k c) (slot_faults nlib g (slot_fits g rule) c ++ extra)
         ∙ ap (λ (b : Bool). judged_for g k c && b) (some_append (slot_faults nlib g (slot_fits g rule) c) extra ∙ ap₂ (λ (a b : Bool). a || b) some_slots e)
 
-  some7 : some (rule7 nlib g c) ≡ (judged_for g Immutable c && line_breaks nlib g 7 c)
-  unfolding rule7 slot_fits from_seven root_breaks root_faults
-  some7 = some_late 7 Immutable (root_faults nlib g Immutable c) (some_each g c (λ d. not (root_fits g Immutable d)) (λ d. d) (root nlib g c))
+  some7 : some (rule7 nlib g c) ≡ (judged_for g Immutable c && line_breaks nlib g late.Immutable c)
+  unfolding rule7 root_faults
+  some7 = some_late late.Immutable Immutable (root_faults nlib g Immutable c) (some_each g c (λ d. not (root_fits g Immutable d)) (λ d. d) (root nlib g c))
 
-  some8 : some (rule8 nlib g c) ≡ (judged_for g Powerless c && line_breaks nlib g 8 c)
-  unfolding rule8 slot_fits from_seven root_breaks root_faults
-  some8 = some_late 8 Powerless (root_faults nlib g Powerless c) (some_each g c (λ d. not (root_fits g Powerless d)) (λ d. d) (root nlib g c))
+  some8 : some (rule8 nlib g c) ≡ (judged_for g Powerless c && line_breaks nlib g late.Powerless c)
+  unfolding rule8 root_faults
+  some8 = some_late late.Powerless Powerless (root_faults nlib g Powerless c) (some_each g c (λ d. not (root_fits g Powerless d)) (λ d. d) (root nlib g c))
 
-  some10 : some (rule10 nlib g c) ≡ (judged_for g DeepSelfless c && line_breaks nlib g 10 c)
-  unfolding rule10 slot_fits from_seven root_breaks root_faults
-  some10 = some_late 10 DeepSelfless (root_faults nlib g DeepSelfless c) (some_each g c (λ d. not (root_fits g DeepSelfless d)) (λ d. d) (root nlib g c))
+  some10 : some (rule10 nlib g c) ≡ (judged_for g DeepSelfless c && line_breaks nlib g late.DeepSelfless c)
+  unfolding rule10 root_faults
+  some10 = some_late late.DeepSelfless DeepSelfless (root_faults nlib g DeepSelfless c) (some_each g c (λ d. not (root_fits g DeepSelfless d)) (λ d. d) (root nlib g c))
 
   -- rule 9 asks the superclass instead
-  some9 : some (rule9 nlib g c) ≡ (judged_for g Selfless c && (line_breaks nlib g 9 c || base_breaks g c))
-  unfolding rule9 slot_fits from_seven line_breaks root_breaks
+  some9 : some (rule9 nlib g c) ≡ (judged_for g Selfless c && (line_breaks nlib g late.Selfless c || base_breaks g c))
+  unfolding rule9 line_breaks
   some9 =
-      some_only (judged_for g Selfless c) (slot_faults nlib g (slot_fits g 9) c ++ base_faults g c)
+      some_only (judged_for g Selfless c) (slot_faults nlib g (slot_fits g late.Selfless) c ++ base_faults g c)
       ∙ ap (λ (b : Bool). judged_for g Selfless c && b)
-      (some_append (slot_faults nlib g (slot_fits g 9) c) (base_faults g c)
-      ∙ ap₂ (λ (a b : Bool). a || b) (some_slots 9 ∙ sym (or-false (any (slots_break g 9) (lineage nlib g c)))
-      ∙ ap (λ (b : Bool). any (slots_break g 9) (lineage nlib g c) || b) (sym (any_never (root nlib g c)))) (some_base g c))
+      (some_append (slot_faults nlib g (slot_fits g late.Selfless) c) (base_faults g c)
+      ∙ ap₂ (λ (a b : Bool). a || b) (some_slots late.Selfless ∙ sym (or-false (any (slots_break g late.Selfless) (lineage nlib g c)))
+      ∙ ap (λ (b : Bool). any (slots_break g late.Selfless) (lineage nlib g c) || b) (sym (any_never (root nlib g c)))) (some_base g c))
 
   -- ---- all ten
 
-  records_are : any (record_breaks nlib g) (g c) ≡ (some (rule1 nlib g c) || (some (rule2 nlib g c) || some (rule5 nlib g c)))
+  records_are : any (record_breaks nlib g) (g c) ≡ (some (rule5 nlib g c) || (some (rule2 nlib g c) || some (rule1 nlib g c)))
   unfolding record_breaks rule1 rule2 rule5
   records_are =
-      any_either one (λ r. two r || static_breaks g r) (g c)
-      ∙ ap₂ (λ (a b : Bool). a || b) (sym (some_at g c one)) (any_either two (static_breaks g) (g c) ∙ ap₂ (λ (a b : Bool). a || b) (sym (some_at g c two)) (sym (some_at g c (static_breaks g))))
+      any_either (static_breaks g) (λ r. two r || one r) (g c)
+      ∙ ap₂ (λ (a b : Bool). a || b) (sym (some_at g c (static_breaks g))) (any_either two one (g c) ∙ ap₂ (λ (a b : Bool). a || b) (sym (some_at g c two)) (sym (some_at g c one)))
     where
       one : List ℕ → Bool
       one r = any (forbidden nlib g) (references r)
@@ -142,14 +153,14 @@ module _ (nlib : ℕ) (g : ℕ → Group) (c : ℕ) where
       two r = is_kind REFERS r && not (member_allowed g (target r) (index r))
 
   head_is : head_fails (class_record (g c)) (overlay g c) ≡ (some (rule3 nlib g c) || (some (rule4 nlib g c) || some (rule6 nlib g c)))
-  unfolding head_fails rule3 rule4 rule6
+  unfolding head_fails head_by rule3 rule4 rule6
   head_is = ap₂ (λ (a b : Bool). a || b) (sym (some_if _ c)) (ap₂ (λ (a b : Bool). a || b) (sym (some_if _ c)) (sym (some_if _ c)))
 
   late_is : (not (is_interface (g c)) && late_breaks nlib g c) ≡ (some (rule7 nlib g c) || (some (rule8 nlib g c) || (some (rule9 nlib g c) || (some (rule10 nlib g c) || false))))
-  unfolding late_breaks any_late any judged_for has_marker rule_marker from_seven
+  unfolding late_breaks any_late any judged_for has_marker
   late_is = rw (some7, some8, some9, some10)
-      (shuffle (not (is_interface (g c))) (bit 0 (overlay g c)) (bit 1 (overlay g c)) (bit 2 (overlay g c)) (bit 7 (overlay g c)) (line_breaks nlib g 7 c) (line_breaks nlib g 8 c)
-      (line_breaks nlib g 9 c) (base_breaks g c) (line_breaks nlib g 10 c))
+      (shuffle (not (is_interface (g c))) (bit 0 (overlay g c)) (bit 1 (overlay g c)) (bit 2 (overlay g c)) (bit 7 (overlay g c))
+      (line_breaks nlib g late.Immutable c) (line_breaks nlib g late.Powerless c) (line_breaks nlib g late.Selfless c) (base_breaks g c) (line_breaks nlib g late.DeepSelfless c))
     where
       joined : (p q x b r : Bool) → (b || (p || (q || (x || r)))) ≡ (p || (q || ((x || b) || r)))
       joined true q x true r = refl
@@ -174,9 +185,13 @@ module _ (nlib : ℕ) (g : ℕ → Group) (c : ℕ) where
       ap₂ (λ (a b : Bool). a || b) records_are (ap₂ (λ (a b : Bool). a || b) head_is late_is)
       ∙ order (some (rule1 nlib g c)) (some (rule2 nlib g c)) (some (rule5 nlib g c)) (some (rule3 nlib g c)) (some (rule4 nlib g c)) (some (rule6 nlib g c)) _
     where
-      order : (a b e c d f l : Bool) → ((a || (b || e)) || ((c || (d || f)) || l)) ≡ (a || (b || (c || (d || (e || (f || l))))))
-      order true b e c d f l = refl
-      order false true e c d f l = refl
+      order : (a b e c d f l : Bool) → ((e || (b || a)) || ((c || (d || f)) || l)) ≡ (a || (b || (c || (d || (e || (f || l))))))
+      order true true true c d f l = refl
+      order true true false c d f l = refl
+      order true false true c d f l = refl
+      order true false false c d f l = refl
+      order false true true c d f l = refl
+      order false true false c d f l = refl
       order false false true true d f l = refl
       order false false true false true f l = refl
       order false false true false false f l = refl

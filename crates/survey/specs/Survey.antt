@@ -1,18 +1,16 @@
 -- Whether a class is clean, asked at once: its records by rules 1, 2 and 5, its CLASS record by 3, 4 and 6, and for rules 7 to 10 the sets of markers that slots pass.
 -- Assumes nothing.
-use Rattle.std.specs.Prelude.{◌≡◌, Bool, true, false, not, ◌&&◌, ◌||◌, List, [], ◌∷◌, ℕ, ◌+◌, ◌≤◌, ◌<◌, eqb, length, get_or, take, drop}
-use Rattle.std.proofs.Math.Option.{none}
+use Rattle.std.specs.Prelude.{◌≡◌, Bool, true, false, not, ◌&&◌, ◌||◌, List, [], ◌∷◌, ℕ, ◌≤◌, ◌<◌, eqb, length, get_or}
 use Rattle.spec.specs.Lists.{any}
 use Rattle.spec.specs.Record.{bit, is_kind, REFERS, flags, own_markers, target, index, references}
-use Rattle.spec.specs.Sheet.{Group, group, class_record, is_interface}
-use Rattle.spec.specs.Markers.{Selfless, Token, Throwable, Enum, clash}
+use Rattle.spec.specs.Sheet.{Group, class_record, is_interface}
+use Rattle.spec.specs.Markers as marker
 use Rattle.spec.specs.Classes.{overlay}
 use Rattle.spec.specs.Rules.{Verdict, static_breaks, member_allowed, forbidden}
-use Rattle.spec.specs.Refusals.{form_refusal}
-use Rattle.groups.specs.declared.Classes.{Classes}
-use Rattle.groups.specs.Groups.{Indexed}
-use Rattle.breaks.specs.Breaking.{line_breaks, Facts}
+use Rattle.slots.specs.declared.Late.{Late}
+use Rattle.slots.specs.declared.Late.TheVariants.{Immutable, Powerless, Selfless, DeepSelfless}
 use Rattle.slots.specs.Slots.{rule_marker, base_breaks, Passes}
+use Rattle.breaks.specs.Breaking.{line_breaks}
 
 -- "clean is 0 and 0"
 unfoldable pub is_clean : Verdict → Bool
@@ -20,25 +18,28 @@ is_clean v = eqb v.rule 0 && eqb v.record_number 0
 
 -- ---- what a class breaks
 
--- a CLASS record with the overlay markers m breaks rule 3, 4 or 6
+-- a CLASS record with these flags and own markers, of a class with the overlay markers m, breaks rule 3, 4 or 6
+unfoldable pub head_by : ℕ → ℕ → ℕ → Bool
+head_by f own m =
+    (bit marker.Token own || bit marker.Throwable own || bit marker.Enum own)
+    || (marker.clash m || (bit 5 f || bit 6 f || bit 7 f))
+
 unfoldable pub head_fails : List ℕ → ℕ → Bool
-head_fails r m =
-    (bit Token (own_markers r) || bit Throwable (own_markers r) || bit Enum (own_markers r))
-    || (clash m || (bit 5 (flags r) || bit 6 (flags r) || bit 7 (flags r)))
+head_fails r m = head_by (flags r) (own_markers r) m
 
 -- some of rules 7 to 10: those whose markers the class has
-unfoldable pub any_late : ℕ → (ℕ → Bool) → Bool
-any_late m bad = any (λ rule. bit (rule_marker rule) m && bad rule) (7 ∷ 8 ∷ 9 ∷ 10 ∷ [])
+unfoldable pub any_late : ℕ → (Late → Bool) → Bool
+any_late m bad = any (λ rule. bit (rule_marker rule) m && bad rule) (Immutable ∷ Powerless ∷ Selfless ∷ DeepSelfless ∷ [])
 
 module _ (nlib : ℕ) (g : ℕ → Group) where
   -- a record breaks rule 1, 2 or 5
   unfoldable pub record_breaks : List ℕ → Bool
   record_breaks r =
-      any (forbidden nlib g) (references r)
-      || ((is_kind REFERS r && not (member_allowed g (target r) (index r))) || static_breaks g r)
+      static_breaks g r
+      || ((is_kind REFERS r && not (member_allowed g (target r) (index r))) || any (forbidden nlib g) (references r))
 
   unfoldable pub late_breaks : ℕ → Bool
-  late_breaks c = (bit Selfless (overlay g c) && base_breaks g c) || any_late (overlay g c) (λ rule. line_breaks nlib g rule c)
+  late_breaks c = (bit marker.Selfless (overlay g c) && base_breaks g c) || any_late (overlay g c) (λ rule. line_breaks nlib g rule c)
 
   unfoldable pub class_breaks : ℕ → Bool
   class_breaks c = any record_breaks (g c) || (head_fails (class_record (g c)) (overlay g c) || (not (is_interface (g c)) && late_breaks c))
@@ -54,22 +55,3 @@ pub record ClassSet (nlib : ℕ) (g : ℕ → Group) (t set : ℕ) : Type 0 wher
 pub record Passing (nlib n : ℕ) (g : ℕ → Group) (row : List ℕ) : Type 0 where
   pub long : length row ≡ 256
   pub is : (c : ℕ) → c < n → ClassSet nlib g c (get_or row c 0)
-
--- ---- where they stand
-
--- the third part of the row of facts
-abbrev pub sets_in : List ℕ → List ℕ
-sets_in facts = take 256 (drop 512 facts)
-
--- all but the sets of n classes is as it was
-pub record KeepsFacts (n : ℕ) (before after : List ℕ) : Type 0 where
-  pub long : length after ≡ length before
-  pub first : take 512 after ≡ take 512 before
-  pub rest : drop (512 + n) after ≡ drop (512 + n) before
-
--- two sheets that passed both passes, and the row with all that is known of their classes
-pub record Surveyed (library user starts : List ℕ) (classes : Classes) (row : List ℕ) : Type 0 where
-  pub indexed : Indexed library user classes.library classes.all starts
-  pub formed : form_refusal library user ≡ none
-  pub facts : Facts classes.library (group library user) row
-  pub sets : Passing classes.library classes.all (group library user) (sets_in row)

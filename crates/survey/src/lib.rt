@@ -1,205 +1,167 @@
 // Whether a class is clean, in one look at each record: a clean class needs no walk over the rules.
 #![tactic(auto)]
 
-ghost use Rattle.std.specs.Prelude.{◌≡◌, true, false, not, ◌&&◌, ℕ, ◌+◌, ◌/◌, ◌%◌, ◌≤◌, ◌<◌, eqb, length};
+ghost use Rattle.std.specs.Prelude.{◌≡◌, not, ◌&&◌, ◌||◌, ◌≤◌, ◌<◌};
 ghost use Rattle.spec.specs.Lists.{any};
-ghost use Rattle.spec.specs.Record.{u16, bit};
-ghost use Rattle.spec.specs.Sheet.{Group, group as group_of};
+ghost use Rattle.spec.specs.Record.{bit};
 ghost use Rattle.spec.specs.Rules.{verdict_of};
 ghost use Rattle.laws.proofs.All.{All};
-ghost use Rattle.groups.specs.Groups.{Indexed};
-ghost use Rattle.overlay.specs.Types.{Known};
-ghost use Rattle.records.specs.Records.{between, AtRecord};
-ghost use Rattle.slots.specs.Slots.{rule_marker, base_by};
-ghost use Rattle.breaks.specs.Breaking.{Bans, Refers, Judging};
-ghost use Rattle.survey.specs.Survey.{is_clean, head_fails, any_late, record_breaks, ClassSet, Passing, sets_in, KeepsFacts, Surveyed};
+ghost use Rattle.sheets.specs.Sheets.{Passed, count, groups, library_count};
+ghost use Rattle.slots.specs.Slots.{base_by, rule_marker};
+ghost use Rattle.breaks.specs.Bans.{Refers};
+ghost use Rattle.survey.specs.Survey.{is_clean, head_by, any_late, record_breaks, ClassSet, Passing};
 
-use breaks::{
-    BANS_AT, FACTS, SETS_AT, lets_out, names_forbidden, refers_forbidden, reserved, static_breaks,
-};
-use groups::{Classes, class_bytes};
-use markers::{DEEP_SELFLESS, IMMUTABLE, POWERLESS, SELFLESS, clash, common, has};
-use records::{FLAGS_AT, MARKERS_AT, SUPERCLASS_AT, wide, word_in};
-use slots::{base_breaks, fields_set, head_set};
+use markers::{SELFLESS, clash, common, has};
+use records::CLASS_LIMIT;
+use records::group::Group;
+use records::record::{Head, Record};
+use breaks::early::{lets_out, names_forbidden, refers_forbidden, reserved, static_breaks};
+use breaks::judging::Judging;
+use slots::{Late, base_breaks, fields_set, head_set, rule_set};
+
+// The rules that ask slots.
+const LATE: [Late; 4] = [
+    Late::Immutable,
+    Late::Powerless,
+    Late::Selfless,
+    Late::DeepSelfless,
+];
+
+/// A judging, and for each class the set of the markers whose rules its slots and its superclasses' pass.
+#[derive(Drop)]
+pub struct Survey<'a> {
+    pub judging: Judging<'a>,
+    sets: [u8; CLASS_LIMIT],
+    ghost passing: { Passing (library_count judging.formed.now.sheets) (count judging.formed.now.sheets) (groups judging.formed.now.sheets) sets },
+}
 
 // ---- rules 7 to 10
 
-// The markers whose rules class t and its superclasses up to the root pass, by the sets of lower classes. An interface has no slots.
-fn class_set<'a>(
-    library: &'a [u8],
-    user: &'a [u8],
-    starts: &[u16],
-    classes: Classes,
-    facts: &[u8],
-    lanes: &[u8],
-    t: usize,
-) -> u8
-    ghost g: { ℕ → Group }
-    requires groups { group_of library.now user.now ≡ g }
-    requires judging { Judging library.now user.now starts.now classes facts.now lanes.now }
-    requires there { (t < classes.all) × Passing classes.library t g (sets_in facts.now) }
-    ensures { ClassSet classes.library g t result }
+// Flag 0 of a CLASS.
+fn is_interface(head: &Head) -> bool
+    ensures { result ≡ bit 0 head.now.flags }
 {
-    let bytes = class_bytes(library, user, starts, classes, t);
-    let markers = &facts[0..BANS_AT];
-    let sets = &facts[SETS_AT..FACTS];
-    let head = head_set(bytes, markers, lanes, classes.library, t);
-    if t < classes.library {
-        return head;
+    head.flags % 2 == 1
+}
+
+// The markers whose rules class t and its superclasses up to the root pass, by the sets of lower classes. An interface has no slots.
+fn class_set(judging: &Judging, sets: &[u8], t: usize) -> u8
+    requires passed { Passed judging.now.formed.now.sheets }
+    requires there { t < count judging.now.formed.now.sheets }
+    requires passing { Passing (library_count judging.now.formed.now.sheets) t (groups judging.now.formed.now.sheets) sets.now }
+    ensures { ClassSet (library_count judging.now.formed.now.sheets) (groups judging.now.formed.now.sheets) t result }
+{
+    let nlib = judging.formed.sheets.library_count();
+    let group = judging.formed.sheets.group(t);
+    let head = group.head();
+    let first = head_set(&head, &judging.markers, judging.lanes, nlib, t);
+    if t < nlib {
+        return first;
     }
-    if word_in(bytes, FLAGS_AT) % 2 == 1 {
+    if is_interface(&head) {
         return 0;
     }
-    let above = wide(word_in(bytes, SUPERCLASS_AT));
-    let own = common(head, fields_set(bytes, markers));
+    let Some(above) = head.superclass else {
+        unreachable!()
+    };
+    let own = common(first, fields_set(&group, &judging.markers));
     common(own, sets[above])
 }
 
-// Writes the set of each class beside what else is known of it; all else in the row is kept.
-pub fn passes<'a>(
-    library: &'a [u8],
-    user: &'a [u8],
-    starts: &[u16],
-    classes: Classes,
-    facts: &mut [u8],
-    lanes: &[u8],
-)
-    ghost g: { ℕ → Group }
-    requires groups { group_of library.now user.now ≡ g }
-    requires judging { Judging library.now user.now starts.now classes facts.old lanes.now }
-    ensures sets { Passing classes.library classes.all g (sets_in facts.new) }
-    ensures rest { KeepsFacts classes.all facts.old facts.new }
+// The set of each class.
+fn passes(judging: &Judging) -> [u8; CLASS_LIMIT]
+    ensures { Passing (library_count judging.now.formed.now.sheets) (count judging.now.formed.now.sheets) (groups judging.now.formed.now.sheets) result }
 {
-    let end = classes.all;
-    let mut c = 0;
-    while c < end {
-        facts[SETS_AT + c] = class_set(library, user, starts, classes, facts, lanes, c);
-        c += 1;
+    let mut sets = [0; CLASS_LIMIT];
+    for c in 0..judging.formed.sheets.count() {
+        sets[c] = class_set(judging, &sets, c);
     }
-}
-
-// A class has the marker, and its set lacks it.
-fn lacks(m: u8, set: u8, marker: u8) -> bool
-    requires { 0 < marker }
-    ensures { result ≡ (eqb (m / marker % 2) 1 && not (eqb (set / marker % 2) 1)) }
-{
-    if has(m, marker) {
-        return !has(set, marker);
-    }
-    false
+    sets
 }
 
 // The set has each of the four markers that a class with the markers m has.
 fn covers(m: u8, set: u8) -> bool
     ensures { result ≡ not (any_late m (λ rule. not (bit (rule_marker rule) set))) }
 {
-    if lacks(m, set, IMMUTABLE) {
-        return false;
-    }
-    if lacks(m, set, POWERLESS) {
-        return false;
-    }
-    if lacks(m, set, SELFLESS) {
-        return false;
-    }
-    !lacks(m, set, DEEP_SELFLESS)
+    !LATE.iter().any(|rule| has(m, rule_set(*rule)) && !has(set, rule_set(*rule)))
 }
 
 // Rule 9's second part, for a class with the markers m.
-fn base_lacks(m: u8, bytes: &[u8], markers: &[u8]) -> bool
-    requires { 13 ≤ length bytes.now }
-    ensures { result ≡ (eqb (m / 4 % 2) 1 && base_by bytes.now markers.now) }
+fn base_lacks(m: u8, head: &Head, markers: &[u8]) -> bool
+    ensures { result ≡ (bit 2 m && base_by head.now markers.now) }
 {
-    if has(m, SELFLESS) {
-        return base_breaks(bytes, markers);
-    }
-    false
+    has(m, SELFLESS) && base_breaks(head, markers)
+}
+
+// A class with the markers m and this set breaks none of rules 7 to 10, which do not ask an interface.
+fn late_fine(m: u8, set: u8, head: &Head, markers: &[u8]) -> bool
+    ensures { result ≡ (bit 0 head.now.flags
+        || not ((bit 2 m && base_by head.now markers.now) || any_late m (λ rule. not (bit (rule_marker rule) set)))) }
+{
+    is_interface(head) || !base_lacks(m, head, markers) && covers(m, set)
 }
 
 // ---- rules 1 to 6
 
-// No record breaks rule 1, 2 or 5.
-fn records_fine<'a>(
-    library: &'a [u8],
-    user: &'a [u8],
-    starts: &[u16],
-    classes: Classes,
-    markers: &[u8],
-    banned: &[u8],
-    bytes: &[u8],
-) -> bool
-    ghost g: { ℕ → Group }
-    requires groups { group_of library.now user.now ≡ g }
-    requires indexed { Indexed library.now user.now classes.library classes.all starts.now }
-    requires known { Known g markers.now }
-    requires at_record { AtRecord bytes.now (length bytes.now) 0 }
-    requires all { All (Refers classes.all g) (between bytes.now 0 (length bytes.now)) }
-    requires bans { Bans classes.library g banned.now }
-    ensures { result ≡ not (any (record_breaks classes.library g) (between bytes.now 0 (length bytes.now))) }
+// The record breaks rule 1, 2 or 5. The two tests that ask one kind of record alone come first.
+fn breaks(judging: &Judging, record: &Record) -> bool
+    requires { Refers (count judging.now.formed.now.sheets) (groups judging.now.formed.now.sheets) record.now }
+    ensures { result ≡ record_breaks (library_count judging.now.formed.now.sheets) (groups judging.now.formed.now.sheets) record.now }
 {
-    let mut at = 0;
-    while at < bytes.len() {
-        if names_forbidden(bytes, at, banned) {
+    static_breaks(record, &judging.markers)
+        || refers_forbidden(&judging.formed.sheets, &judging.bans, record)
+        || names_forbidden(record, &judging.bans)
+}
+
+// No record of the class breaks one of them.
+fn records_fine(judging: &Judging, group: &Group) -> bool
+    requires { All (Refers (count judging.now.formed.now.sheets) (groups judging.now.formed.now.sheets)) group.now }
+    ensures { result ≡ not (any (record_breaks (library_count judging.now.formed.now.sheets) (groups judging.now.formed.now.sheets)) group.now) }
+{
+    for record in group.records() {
+        if breaks(judging, &record) {
             return false;
         }
-        if refers_forbidden(library, user, starts, classes, banned, bytes, at) {
-            return false;
-        }
-        if static_breaks(bytes, at, markers) {
-            return false;
-        }
-        at += wide(word_in(bytes, at));
     }
     true
 }
 
 // The CLASS record breaks none of rules 3, 4 and 6, where m are the class's overlay markers.
-fn head_fine(bytes: &[u8], m: u8) -> bool
-    requires { 13 ≤ length bytes.now }
-    ensures { result ≡ not (head_fails bytes.now m) }
+fn head_fine(head: &Head, m: u8) -> bool
+    ensures { result ≡ not (head_by head.now.flags head.now.markers m) }
 {
-    if reserved(bytes[MARKERS_AT]) {
-        return false;
-    }
-    if clash(m) {
-        return false;
-    }
-    !lets_out(word_in(bytes, FLAGS_AT))
+    !(reserved(head.markers) || clash(m) || lets_out(head.flags))
+}
+
+// The class breaks none of them.
+fn early_fine(judging: &Judging, group: &Group, head: &Head, m: u8) -> bool
+    requires { All (Refers (count judging.now.formed.now.sheets) (groups judging.now.formed.now.sheets)) group.now }
+    ensures { result ≡ not (head_by head.now.flags head.now.markers m
+        || any (record_breaks (library_count judging.now.formed.now.sheets) (groups judging.now.formed.now.sheets)) group.now) }
+{
+    head_fine(head, m) && records_fine(judging, group)
 }
 
 // ---- all ten
 
-// Whether user class c breaks no rule; the sets are filled by `passes`.
-pub fn clean<'a>(
-    library: &'a [u8],
-    user: &'a [u8],
-    starts: &[u16],
-    classes: Classes,
-    facts: &[u8],
-    c: usize,
-) -> bool
-    ghost g: { ℕ → Group }
-    requires groups { group_of library.now user.now ≡ g }
-    requires surveyed { Surveyed library.now user.now starts.now classes facts.now }
-    requires user_class { (classes.library ≤ c) × (c < classes.all) }
-    ensures { result ≡ is_clean (verdict_of classes.library g c) }
-{
-    let bytes = class_bytes(library, user, starts, classes, c);
-    let markers = &facts[0..BANS_AT];
-    let banned = &facts[BANS_AT..SETS_AT];
-    let sets = &facts[SETS_AT..FACTS];
-    let m = markers[c];
-    if !head_fine(bytes, m) {
-        return false;
+impl<'a> Survey<'a> {
+    /// Fills the sets.
+    pub fn new(judging: Judging<'a>) -> Survey<'a>
+        ensures { result.judging ≡ judging.entry }
+    {
+        let sets = passes(&judging);
+        Survey { judging, sets }
     }
-    if !records_fine(library, user, starts, classes, markers, banned, bytes) {
-        return false;
+
+    /// Whether user class c breaks no rule.
+    pub fn clean(&self, c: usize) -> bool
+        requires user_class { (library_count self.now.judging.formed.now.sheets ≤ c) × (c < count self.now.judging.formed.now.sheets) }
+        ensures { result ≡ is_clean (verdict_of (library_count self.now.judging.formed.now.sheets) (groups self.now.judging.formed.now.sheets) c) }
+    {
+        let judging = &self.judging;
+        let group = judging.formed.sheets.group(c);
+        let head = group.head();
+        let m = judging.markers[c];
+        early_fine(judging, &group, &head, m) && late_fine(m, self.sets[c], &head, &judging.markers)
     }
-    if word_in(bytes, FLAGS_AT) % 2 == 1 {
-        return true;
-    }
-    if base_lacks(m, bytes, markers) {
-        return false;
-    }
-    covers(m, sets[c])
 }

@@ -18,12 +18,12 @@ use Rattle.theory.proofs.Answers.{first_some, skip_none, first_none}
 use Rattle.theory.proofs.Accept.{Sound, sound}
 use Rattle.theory.proofs.Cut.{IsGroup, sheet_grouped, sheet_groups}
 use Rattle.theory.proofs.New.{new_sheets, added_count}
+use Rattle.theory.proofs.Unrefused.{present_facts}
 use Rattle.view.specs.declared.Cut.{Cut}
 use Rattle.view.specs.View.{Sits, spliced}
 use Rattle.view.proofs.Splice.{added}
 use Rattle.admit.specs.Admitting.{admit_refusal, Plain}
 use Rattle.theory.proofs.Promised.{answer_refused, answer_fine, told_fine, told_refused}
-use Rattle.form.proofs.Unrefused.{used_there, some_row}
 use Rattle.verifier.specs.Changing.{touches, putting, Puts}
 use Rattle.verifier.proofs.Editing.{edit_refused, makes_as}
 
@@ -54,7 +54,7 @@ module _ (library user : List ℕ) (used : ℕ) (verdicts scratch g : List ℕ) 
         record {
           ordered = omega arith;
           within = omega arith;
-          there = used_there library user used o;
+          there = (present_facts library user used o).in_buffer;
           around = record {
             earlier = map concat (groups_of s);
             later = [];
@@ -74,7 +74,7 @@ module _ (library user : List ℕ) (used : ℕ) (verdicts scratch g : List ℕ) 
 
     pub add_puts : Puts library user used g end last
     add_puts = record {
-      small = (some_row library user used o).library_size;
+      small = (present_facts library user used o).library_size;
       sits = add_sits;
       used_is = refl;
       plain = added_plain;

@@ -11,21 +11,19 @@ use lib.ListN.{length, get_or, take, drop, replicate}
 use lib.Seq.{take_at}
 use borrow.Author.Tests.{ne_eqb, le-ltb, ltb-true, ltb-false}
 use Rattle.spec.specs.Lists.{count, span}
-use Rattle.spec.specs.Sheet.{class_count, total, group}
-use Rattle.spec.specs.Rules.{Verdict, verdict_of}
-use Rattle.spec.specs.Verdicts.{flat_lines, flat_rewritten, flat, depends_on}
+use Rattle.spec.specs.Sheet.{class_count, total}
+use Rattle.spec.specs.Rules.{Verdict}
+use Rattle.spec.specs.Verdicts.{user_verdict, flat_lines, flat_rewritten, flat, depends_on}
 use Rattle.spec.specs.Refusals.{Refusal}
 use Rattle.spec.specs.Promises.{Answer, answer_of, afterwards, refused, accepted, cleared, buffer_with, State, Edit, edited, Makes}
 use Rattle.theory.proofs.FlatRow.{rewritten_same}
 use Rattle.laws.proofs.Count.{count_same}
 use Rattle.view.specs.View.{spliced}
 use Rattle.admit.specs.Admitting.{admit_refusal}
-use Rattle.admit.proofs.Turning.{Admitted}
 use Rattle.flat.specs.Row.{chosen, marked_in}
 use Rattle.theory.proofs.Promised.{kept_refused, new_fine, changes_refused, changes_made}
 use Rattle.view.specs.declared.Cut.{Cut}
 use Rattle.verifier.specs.Changing.{touches, Touched, putting}
-use Rattle.verifier.proofs.Verdicts.{changed_row}
 
 -- ---- any edit that is lent a scratch
 
@@ -40,29 +38,30 @@ module _ (e : Edit) (before : State flat) (scratch : List ℕ) where
 
 -- ---- a group put in
 
-module _ (library new : List ℕ) (cut : Cut) (c : ℕ) {n : ℕ} (en : n ≡ total library new) (there : c < n) {marks : List ℕ} (t : Touched library new cut c marks) where
+module _ (library new : List ℕ) (cut : Cut) (c : ℕ) (there : c < total library new) {marks : List ℕ} (t : Touched library new cut c marks) where
   -- nothing past the last class is touched
-  untouched : (d : ℕ) → n ≤ d → touches library new cut c d ≡ false
+  untouched : (d : ℕ) → total library new ≤ d → touches library new cut c d ≡ false
   unfolding touches depends_on
   untouched d h = go (eqb cut.from cut.used) refl
     where
       go : (b : Bool) → eqb cut.from cut.used ≡ b → touches library new cut c d ≡ false
       go true e = rw (e, touches) (ne_eqb d c (λ q. omega arith))
-      go false e = rw (e, touches, le-ltb d (total library new) (omega arith))
+      go false e = rw (e, touches, le-ltb d (total library new) h)
 
-  pub touched_chosen : (nlib i : ℕ) → chosen nlib n marks i ≡ touches library new cut c (nlib + i)
+  touched_chosen : (i : ℕ) → chosen (class_count library) (total library new) marks i ≡ touches library new cut c (class_count library + i)
   unfolding chosen
-  touched_chosen nlib i = go (ltb (nlib + i) n) refl
+  touched_chosen i = go (ltb d (total library new)) refl
     where
-      go : (b : Bool) → ltb (nlib + i) n ≡ b → (b && eqb (get_or marks (nlib + i) 0) 0) ≡ touches library new cut c (nlib + i)
-      go true e = t.is (nlib + i) (omega (arith, ltb-true (nlib + i) n e))
-      go false e = sym (untouched (nlib + i) (ltb-false (nlib + i) n e))
+      d : ℕ
+      d = class_count library + i
 
-  pub touched_counted : {m : ℕ} → m ≡ marked_in marks n → m ≡ count (touches library new cut c) (span 0 (total library new))
+      go : (b : Bool) → ltb d (total library new) ≡ b → (b && eqb (get_or marks d 0) 0) ≡ touches library new cut c d
+      go true e = t.is d (ltb-true d (total library new) e)
+      go false e = sym (untouched d (ltb-false d (total library new) e))
+
+  touched_counted : marked_in marks (total library new) ≡ count (touches library new cut c) (span 0 (total library new))
   unfolding marked_in
-  touched_counted e =
-      e ∙ count_same (λ d. eqb (get_or marks d 0) 0) (touches library new cut c) n (λ d h. t.is d (omega arith))
-      ∙ ap (λ (k : ℕ). count (touches library new cut c) (span 0 k)) en
+  touched_counted = count_same (λ d. eqb (get_or marks d 0) 0) (touches library new cut c) (total library new) (λ d h. t.is d h)
 
 -- the sheet stands at the front of the buffer that was written
 pub written_sheet : (new user : List ℕ) (used : ℕ) {user' : List ℕ} {size : ℕ} → user' ≡ buffer_with new user used → size ≡ length new → take size user' ≡ new
@@ -83,17 +82,18 @@ module _ (library user : List ℕ) (used : ℕ) (verdicts scratch g : List ℕ) 
   unfolding putting
   put_refused e = edit_refused put held scratch e
 
-  module _ {nlib n : ℕ} {row memo : List ℕ} (a : Admitted library user g new (flat_lines verdicts) (length scratch) nlib n row memo) (eu : cut.used ≡ used) (there : c < n) where
-    pub put_made : {marks : List ℕ} → Touched library new cut c marks → {value used' : ℕ} {user' verdicts' cleaned : List ℕ} → value ≡ marked_in marks n
+  module _ (o : admit_refusal library user g new (flat_lines verdicts) (length scratch) ≡ none) (eu : cut.used ≡ used) (there : c < total library new) where
+    pub put_made : {marks : List ℕ} → Touched library new cut c marks → {value used' : ℕ} {user' verdicts' cleaned : List ℕ} → value ≡ marked_in marks (total library new)
         → user' ≡ buffer_with new user cut.used → used' ≡ length new
-        → verdicts' ≡ flat_rewritten (chosen nlib n marks) (λ i. verdict_of nlib (group library new) (nlib + i)) verdicts → cleaned ≡ cleared scratch
+        → verdicts' ≡ flat_rewritten (chosen (class_count library) (total library new) marks) (user_verdict library new) verdicts → cleaned ≡ cleared scratch
         → Makes flat put held scratch (accepted value) (record { user = user'; used = used'; verdicts = verdicts' }) cleaned
     unfolding putting
     put_made {marks} t ev ew en er es =
-        edit_made put held scratch a.unrefused
-        (touched_counted library new cut c a.n_is there t ev) (ew ∙ ap (buffer_with new user) eu) en
-        (changed_row library new n a.nlib_is verdicts marks (λ i. touches library new cut c (class_count library + i))
-        (λ i. touched_chosen library new cut c a.n_is there t nlib i ∙ ap (λ (m : ℕ). touches library new cut c (m + i)) a.nlib_is) er) es
+        edit_made put held scratch o
+        (ev ∙ touched_counted library new cut c there t) (ew ∙ ap (buffer_with new user) eu) en
+        (er ∙ rewritten_same (user_verdict library new) verdicts (chosen (class_count library) (total library new) marks) (λ i. touches library new cut c (class_count library + i))
+        (touched_chosen library new cut c there t))
+        es
 
 -- ---- one edit for another
 

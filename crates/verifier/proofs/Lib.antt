@@ -1,6 +1,6 @@
+pub mod Exchange
+pub mod Touching
 pub mod Verdicts
 pub mod Editing
 pub mod Adding
-pub mod Exchange
 pub mod Replacing
-pub mod Touching

@@ -1,95 +1,36 @@
 -- Replace: a group put in the place of a user class's; and the row of dependents.
 -- Assumes nothing.
 use mathlib.Core.Path.{◌≡◌, refl, sym, ap, ap₂, ◌∙◌}
-use mathlib.Core.Logic.{◌⊎◌, inl, inr}
-use mathlib.Core.Bool.{Bool, true, false, ◌||◌}
+use mathlib.Core.Bool.{◌||◌}
 use mathlib.Core.List.{List, [], ◌∷◌, ◌++◌, map}
 use mathlib.Core.Option.{Option, none, some}
 use Prim.Native.Nat.{ℕ, suc, ◌+◌, ◌-◌, ◌≤◌, ◌<◌}
 use native.Mathlib.Omega.{arith}
-use lib.Dec.{eqb, leb, ltb, nltb→le, nleb→lt}
-use lib.ListN.{length, get_or, take, drop, length-take, get_or-append}
+use lib.Dec.{leb, ltb, nltb→le, nleb→lt}
+use lib.ListN.{length, get_or, take, drop, length-take}
 use lib.Seq.{take-take}
-use borrow.Author.Tests.{ne_eqb, lt-ltb, le-ltb, le-leb, lt-leb}
+use borrow.Author.Tests.{ne_eqb}
 use Rattle.spec.specs.Lists.{first_of, concat, count, span}
 use Rattle.spec.specs.Sheet.{groups_of, class_count, group_start, total}
 use Rattle.spec.specs.Verdicts.{user_verdict, flat_lines, flat, depends_on, dependent_count}
 use Rattle.spec.specs.Refusals.{Refusal, refuse_if, refuse_plain, present_refusal, no_user_refusal, replaced_sheet, replace_refusal}
 use Rattle.spec.specs.Promises.{Answer, answer_of, refused, State, Edit, Makes, replacement}
-use Rattle.laws.proofs.Rows.{length_values, get_or_values}
 use Rattle.laws.proofs.Count.{count_same}
 use Rattle.theory.proofs.Answers.{first_none, skip_none, first_some, first_append, plain_none}
 use Rattle.laws.proofs.Bools.{not_or_l, not_or_r}
 use Rattle.theory.proofs.Cut.{IsGroup}
 use Rattle.theory.proofs.New.{new_sheets, replaced_count}
+use Rattle.theory.proofs.Unrefused.{present_facts}
 use Rattle.view.specs.declared.Cut.{Cut}
 use Rattle.view.specs.View.{Sits, spliced}
-use Rattle.groups.specs.Groups.{Indexed, start_of, end_of}
+use Rattle.groups.specs.Groups.{Indexed, end_of}
 use Rattle.groups.proofs.Held.{Held, in_user, group_tiled, class_there}
-use Rattle.groups.proofs.Few.{classes_ordered}
-use Rattle.reach.specs.Reach.{dependent_row}
 use Rattle.admit.specs.Admitting.{admit_refusal}
-use Rattle.form.proofs.Unrefused.{used_there, some_row}
-use Rattle.form.specs.declared.Refusal.{Refusal as Turned}
-use Rattle.form.specs.Form.{refusal_of}
-use Rattle.verifier.specs.declared.Found.TheVariants.{At, Refused}
-use Rattle.verifier.specs.Changing.{touches, putting, Puts, cut_at, found_of, CutOf}
+use Rattle.sheets.proofs.Indexes.{row_of, indexed}
+use Rattle.sheets.proofs.Present.{present_passed}
+use Rattle.verifier.specs.Changing.{touches, putting, Puts, cut_at}
 use Rattle.verifier.proofs.Editing.{edit_refused, makes_as}
 use Rattle.verifier.proofs.Exchange.{earlier_is, later_is, earlier_whole, later_whole, replaced_parts}
-
--- ---- the row of dependents has 0 at just the classes that depend on c
-
-module _ (library new : List ℕ) (c : ℕ) (row : List ℕ) {n : ℕ} (en : n ≡ total library new) (few : n ≤ 256) where
-  mark : ℕ → ℕ
-  mark d = elim (depends_on library new c d) as (λ (b : Bool). ℕ) [ true ↦ 0 | false ↦ 255 ]
-
-  marked_is : (b : Bool) → eqb (elim b as (λ (x : Bool). ℕ) [ true ↦ 0 | false ↦ 255 ]) 0 ≡ b
-  marked_is true = refl
-  marked_is false = refl
-
-  pub mark_at : (k : ℕ) → k < n → eqb (get_or (dependent_row library new c row) k 0) 0 ≡ depends_on library new c k
-  unfolding dependent_row mark
-  mark_at k h =
-      ap (λ (x : ℕ). eqb x 0) (get_or-append (map mark (span 0 256)) (drop 256 row) 0 k (omega (arith, length_values mark 256)) ∙ get_or_values mark 256 0 k (omega arith))
-      ∙ marked_is (depends_on library new c k)
-
--- ---- what was found
-
-pub found_none : (o : Option Refusal) {cut cut' : Cut} → At cut ≡ found_of o cut' → (o ≡ none) × (cut ≡ cut')
-found_none none e = (refl, cc)
-found_none (some r) e = absurd (let z : ◌≡◌ {A = ℕ} 0 1 = cc in omega arith)
-
-pub found_some : (o : Option Refusal) (cut : Cut) {r : Turned} → Refused r ≡ found_of o cut → o ≡ some (refusal_of r)
-found_some none cut e = absurd (let z : ◌≡◌ {A = ℕ} 0 1 = cc in omega arith)
-found_some (some r) cut {r = r'} e = let q : r' ≡ record { number = r.number; sheet = r.sheet; byte = r.byte } = cc in rw q
-
--- what is answered is what was found
-pub found_refused : (library user : List ℕ) (used c : ℕ) {r : Refusal} → present_refusal library user used ≡ some r
-    → CutOf library user used c (Refused (record { number = r.number; sheet = r.sheet; byte = r.byte }))
-found_refused library user used c o =
-    record { is = sym (ap (λ (w : Option Refusal). found_of w (cut_at library (take used user) used c)) (first_some _ o)) }
-
-module _ (library user : List ℕ) (used c : ℕ) (o : present_refusal library user used ≡ none) {nlib n : ℕ} {row : List ℕ}
-    (x : Indexed library (take used user) nlib n row) where
-  gone : (c < nlib) ⊎ (n ≤ c) → no_user_refusal library (take used user) c ≡ some (record { number = 13; sheet = 0; byte = 0 })
-  gone (inl l) = unfold no_user_refusal refuse_plain refuse_if in rw (lt-ltb c (class_count library) (omega (arith, x.nlib_is)))
-  gone (inr l) =
-      unfold no_user_refusal refuse_plain refuse_if in
-      rw (le-ltb c (class_count library) (omega (arith, x.nlib_is, classes_ordered x)), le-leb (total library (take used user)) c (omega (arith, x.n_is)))
-
-  pub found_missing : (c < nlib) ⊎ (n ≤ c) → CutOf library user used c (Refused (record { number = 13; sheet = 0; byte = 0 }))
-  found_missing h =
-      record { is = sym (ap (λ (w : Option Refusal). found_of w (cut_at library (take used user) used c)) (skip_none _ _ o ∙ first_some _ (gone h))) }
-
-  pub found_at_lem : nlib ≤ c → c < n → {from to : ℕ} → from ≡ start_of library (take used user) c → to ≡ end_of library (take used user) c
-      → CutOf library user used c (At (record { from = from; to = to; used = used }))
-  unfolding first_of
-  found_at_lem hl hn ef et = record { is = rw (o, there, ef, et) refl }
-    where
-      there : no_user_refusal library (take used user) c ≡ none
-      there =
-          unfold no_user_refusal refuse_plain refuse_if in
-          rw (le-ltb c (class_count library) (omega (arith, x.nlib_is)), lt-leb (total library (take used user)) c (omega (arith, x.n_is)))
 
 -- ---- the promise
 
@@ -113,18 +54,14 @@ module _ (library user : List ℕ) (used c : ℕ) (verdicts scratch g : List ℕ
       (first_append (present_refusal library user used ∷ no_user_refusal library (take used user) c ∷ []) _ ∙ first_some _ o)
 
   module _ (o : why ≡ none) where
-    present : present_refusal library user used ≡ none
-    present = (first_none _ o).0
+    fine : present_refusal library user used ≡ none
+    fine = (first_none _ o).0
 
     there : no_user_refusal library (take used user) c ≡ none
     there = (first_none _ o).1.0
 
-    row : List ℕ
-    row = map (start_of library (take used user)) (span 0 256)
-
-    x : Indexed library (take used user) (class_count library) (total library (take used user)) row
-    unfolding row
-    x = some_row library user used present
+    x : Indexed library (take used user) (class_count library) (total library (take used user)) (row_of (record { library = library; user = take used user }))
+    x = indexed (present_passed library user used fine)
 
     own : class_count library ≤ c
     unfolding no_user_refusal refuse_plain refuse_if
@@ -162,7 +99,7 @@ module _ (library user : List ℕ) (used c : ℕ) (verdicts scratch g : List ℕ
     replaced_sits = record {
       ordered = omega arith;
       within = end_within;
-      there = used_there library user used present;
+      there = (present_facts library user used fine).in_buffer;
       around = record {
         earlier = map concat (take i (groups_of s));
         later = map concat (drop (suc i) (groups_of s));
@@ -184,7 +121,7 @@ module _ (library user : List ℕ) (used c : ℕ) (verdicts scratch g : List ℕ
       small = x.library_size;
       sits = replaced_sits;
       used_is = refl;
-      plain = rw replaced_is (record { is = λ t. (new_sheets library user used present g t).1 c });
+      plain = rw replaced_is (record { is = λ t. (new_sheets library user used fine g t).1 c });
       there = λ t. rw replaced_is (unfold total IsGroup in omega (arith, below, replaced_count x.user_clear g t library c));
     }
 
@@ -192,7 +129,7 @@ module _ (library user : List ℕ) (used c : ℕ) (verdicts scratch g : List ℕ
     refusal_is : replace_refusal library user used c g (flat_lines verdicts) (length scratch) ≡ admit_refusal library user g (spliced user g cut) (flat_lines verdicts) (length scratch)
     unfolding replace_refusal admit_refusal
     refusal_is =
-        skip_none _ _ present ∙ skip_none _ _ there ∙ ap (λ (s : List ℕ). admit_refusal library user g s (flat_lines verdicts) (length scratch)) (sym replaced_is)
+        skip_none _ _ fine ∙ skip_none _ _ there ∙ ap (λ (s : List ℕ). admit_refusal library user g s (flat_lines verdicts) (length scratch)) (sym replaced_is)
 
     -- a group is taken out, so its class's dependents are touched
     touched : (d : ℕ) → touches library (spliced user g cut) cut c d ≡ depends_on library (spliced user g cut) c d

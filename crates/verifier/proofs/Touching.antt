@@ -1,20 +1,41 @@
 -- The marks of the classes that an edit touches.
 -- Assumes nothing.
 use mathlib.Core.Path.{◌≡◌, refl, sym, ap, ◌∙◌}
-use mathlib.Core.List.{List}
+use mathlib.Core.Bool.{Bool, true, false}
+use mathlib.Core.List.{List, map}
 use Prim.Native.Nat.{ℕ, ◌≤◌, ◌<◌}
 use native.Mathlib.Decide.{ℕ_discrete}
 use native.Mathlib.Omega.{arith}
 use lib.Dec.{eqb}
-use lib.ListN.{length, get_or, set, replicate, length-set, length-replicate}
+use lib.ListN.{length, get_or, set, replicate, drop, length-set, length-replicate, get_or-append}
 use lib.Seq.{get_or-set_same, get_or-set_other}
 use borrow.Author.Tests.{eq-eqb, ne_eqb}
+use Rattle.spec.specs.Lists.{span}
 use Rattle.spec.specs.Sheet.{total}
+use Rattle.spec.specs.Verdicts.{depends_on}
+use Rattle.laws.proofs.Rows.{length_values, get_or_values}
 use Rattle.view.specs.declared.Cut.{Cut}
 use Rattle.std.proofs.lemmas.List.{get_or-replicate}
 use Rattle.reach.specs.Reach.{dependent_row}
 use Rattle.verifier.specs.Changing.{touches, Touched}
-use Rattle.verifier.proofs.Replacing.{mark_at}
+
+-- ---- the row of dependents has 0 at just the classes that depend on c
+
+module _ (library new : List ℕ) (c : ℕ) (row : List ℕ) {n : ℕ} (en : n ≡ total library new) (few : n ≤ 256) where
+  mark : ℕ → ℕ
+  mark d = elim (depends_on library new c d) as (λ (b : Bool). ℕ) [ true ↦ 0 | false ↦ 255 ]
+
+  marked_is : (b : Bool) → eqb (elim b as (λ (x : Bool). ℕ) [ true ↦ 0 | false ↦ 255 ]) 0 ≡ b
+  marked_is true = refl
+  marked_is false = refl
+
+  pub mark_at : (k : ℕ) → k < n → eqb (get_or (dependent_row library new c row) k 0) 0 ≡ depends_on library new c k
+  unfolding dependent_row mark
+  mark_at k h =
+      ap (λ (x : ℕ). eqb x 0) (get_or-append (map mark (span 0 256)) (drop 256 row) 0 k (omega (arith, length_values mark 256)) ∙ get_or_values mark 256 0 k (omega arith))
+      ∙ marked_is (depends_on library new c k)
+
+-- ---- what is touched
 
 module _ (library new : List ℕ) (cut : Cut) (c : ℕ) {n : ℕ} (en : n ≡ total library new) (few : n ≤ 256) {marks : List ℕ} (em : marks ≡ replicate 256 255) where
   long : length marks ≡ 256

@@ -1,10 +1,7 @@
--- The numbers and values that document 01 gives for the answer of a judging.
+-- What the counts of a judging stand for.
 -- Assumes nothing.
-use Rattle.spec.specs.Promises.{Answer, refused, accepted, Counts}
-use Rattle.form.specs.Form.{refusal_of}
-use Rattle.verifier.specs.declared.Judged.{Judged}
-use Rattle.verifier.specs.declared.Judged.TheVariants as J
+use Rattle.spec.specs.Promises as spec
+use Rattle.verifier.specs.declared.Counts.{Counts}
 
-abbrev pub judged_answer : Judged → Answer Counts
-judged_answer (J.Fine n m) = accepted (record { classes = n; faulted = m })
-judged_answer (J.Refused r) = refused (refusal_of r)
+abbrev pub counts_in : Counts → spec.Counts
+counts_in c = record { classes = c.classes; faulted = c.faulted }

@@ -1,8 +1,7 @@
 -- A group put in where a cut of the user sheet stands: what is required, which classes it touches, and the edit that it is.
 -- Assumes nothing.
-use Rattle.std.specs.Prelude.{◌≡◌, Bool, true, false, List, [], ◌∷◌, ℕ, ◌+◌, ◌≤◌, ◌<◌, T, eqb, length, get_or, take}
-use Rattle.std.proofs.Math.Option.{Option, none, some}
-use Rattle.spec.specs.Lists.{first_of, count, span}
+use Rattle.std.specs.Prelude.{◌≡◌, Bool, true, false, List, ℕ, ◌+◌, ◌≤◌, ◌<◌, T, eqb, length, get_or}
+use Rattle.spec.specs.Lists.{count, span}
 use Rattle.spec.specs.Sheet.{class_count, total}
 use Rattle.spec.specs.Verdicts.{user_verdict, flat, flat_lines, depends_on}
 use Rattle.spec.specs.Refusals as spec
@@ -11,8 +10,6 @@ use Rattle.groups.specs.Groups.{start_of, end_of}
 use Rattle.view.specs.declared.Cut.{Cut}
 use Rattle.view.specs.View.{Sits, spliced}
 use Rattle.admit.specs.Admitting.{admit_refusal, Plain}
-use Rattle.verifier.specs.declared.Found.{Found}
-use Rattle.verifier.specs.declared.Found.TheVariants.{At, Refused}
 
 -- ---- the classes that are touched
 
@@ -50,12 +47,3 @@ pub record Puts (library user : List ℕ) (used : ℕ) (g : List ℕ) (cut : Cut
 
 abbrev pub cut_at : List ℕ → List ℕ → ℕ → ℕ → Cut
 cut_at library sheet used c = record { from = start_of library sheet c; to = end_of library sheet c; used = used }
-
-abbrev pub found_of : Option spec.Refusal → Cut → Found
-found_of none cut = At cut
-found_of (some r) cut = Refused (record { number = r.number; sheet = r.sheet; byte = r.byte })
-
--- the cut that takes the class out, or why there is none
-pub record CutOf (library user : List ℕ) (used c : ℕ) (found : Found) : Type 0 where
-  pub is : found
-      ≡ found_of (first_of (spec.present_refusal library user used ∷ spec.no_user_refusal library (take used user) c ∷ [])) (cut_at library (take used user) used c)

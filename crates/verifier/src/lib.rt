@@ -1,93 +1,74 @@
 // The operations over flat rows of numbers: the public interface.
 #![tactic(auto)]
 
-ghost use Rattle.std.specs.Prelude.{◌≡◌, ◌<◌, length, take, replicate};
-ghost use Rattle.std.proofs.Math.Option.{none};
-ghost use Rattle.spec.specs.Sheet.{class_count, total};
+ghost use Rattle.std.specs.Prelude.{◌≡◌, ◌<◌, [], ◌∷◌, length, replicate, take};
+ghost use Rattle.spec.specs.Lists.{first_of};
 ghost use Rattle.spec.specs.Promises.{Judges, Adds, Replaces, Makes};
 ghost use Rattle.spec.specs.Verdicts.{flat};
-ghost use Rattle.spec.specs.Refusals.{present_refusal, form_refusal};
-ghost use Rattle.groups.specs.Groups.{Indexed};
-ghost use Rattle.form.specs.Form.{checked_of, outcome_answer};
-ghost use Rattle.verifier.specs.Answers.{judged_answer};
-ghost use Rattle.verifier.specs.Changing.{Touched, Puts, putting, CutOf};
+ghost use Rattle.spec.specs.Refusals.{present_refusal, no_user_refusal};
+ghost use Rattle.refusals.specs.Refusals.{Answers, answer_in};
+ghost use Rattle.sheets.specs.Sheets.{count};
+ghost use Rattle.verifier.specs.Answers.{counts_in};
+ghost use Rattle.verifier.specs.Changing.{Puts, Touched, cut_at, putting};
 
-use admit::{admit, short};
-pub use canonical::canonical;
 use edit::write;
-use flat::{faulted, marked, rejudge};
-pub use form::{Outcome, Refusal};
-use form::{Checked, UNASKED, plain, present};
-use groups::{Classes, group_end};
 use lanes::EMPTY;
-pub use queries::{Marked, Placed, marks, name, name_place};
+use records::{CLASS_LIMIT, VERDICT_BYTES};
+use refusals::{Reason, Refusal};
+use sheets::formed::Formed;
+use admit::{Room, admit};
+use flat::{faulted, marked, rejudge};
+use form::accepted::Accepted;
+use form::present;
 use reach::dependents;
-use records::{CLASS_LIMIT, wide};
-pub use records::{SCRATCH_BYTES, VERDICT_BYTES};
 use view::{Cut, view_len};
-pub use withdraw::withdraw;
 
-// How many user classes there are and how many are faulted, or the refusal.
-#[derive(Clone, Copy)]
-pub enum Judged {
-    Fine(usize, usize),
-    Refused(Refusal),
+/// How many user classes there are, and how many are faulted.
+#[derive(Clone, Copy, PartialEq, Eq, Debug)]
+pub struct Counts {
+    pub classes: usize,
+    pub faulted: usize,
 }
 
-// A verdict for each user class in the row: rule and record, 0 and 0 where it is clean.
+/// A verdict for each user class in the row: rule and record, 0 and 0 where it is clean.
 pub fn judge<'a>(
     library: &'a [u8],
     user: &'a [u8],
     used: usize,
     verdicts: &mut [u8],
     scratch: &mut [u8],
-) -> Judged
-    ensures { Judges flat library.now user.now used verdicts.old scratch.old
-        (judged_answer result) verdicts.new scratch.new }
+) -> Result<Counts, Refusal>
+    ensures { Judges flat library.now user.now used verdicts.old scratch.old (answer_in counts_in result) verdicts.new scratch.new }
 {
-    let mut starts = [0u16; CLASS_LIMIT];
-    let mut memo = [UNASKED; CLASS_LIMIT];
-    let checked = present(library, user, used, &mut starts, &mut memo);
-    match checked {
-        Checked::Refused(refusal) => Judged::Refused(refusal),
-        Checked::Fine(classes) => {
-            let lacks_room = short(classes, verdicts.len() / VERDICT_BYTES, scratch.len());
-            if lacks_room {
-                return Judged::Refused(plain(12));
-            }
-            let sheet = &user[0..used];
-            let marks = [0u8; CLASS_LIMIT];
-            rejudge(
-                library, sheet, &starts, classes, &mut memo, &marks, verdicts, scratch,
-            );
-            let own = classes.all - classes.library;
-            Judged::Fine(own, faulted(verdicts, own))
-        }
+    let accepted = present(library, user, used)?;
+    let sheets = &accepted.formed.sheets;
+    let classes = sheets.count() - sheets.library_count();
+    let room = Room {
+        lines: verdicts.len() / VERDICT_BYTES,
+        scratch: scratch.len(),
+    };
+    if room.lacks(classes) {
+        return Err(Refusal::from(Reason::TooShort));
     }
+    rejudge(&accepted, &[0; CLASS_LIMIT], verdicts, scratch);
+    Ok(Counts {
+        classes,
+        faulted: faulted(verdicts, classes),
+    })
 }
 
 // ---- operations that change the user sheet
 
 // Writes 0 at each class that an edit touches: an addition, which takes nothing out, touches its class alone; a replacement the classes that depend on it.
-fn touch<'a>(
-    library: &'a [u8],
-    user: &'a [u8],
-    starts: &[u16],
-    classes: Classes,
-    cut: Cut,
-    class: usize,
-    marks: &mut [u8],
-)
-    requires indexed { Indexed library.now user.now classes.library classes.all starts.now }
-    requires accepted { form_refusal library.now user.now ≡ none }
-    requires there { (class < classes.all) × (marks.old ≡ replicate 256 255) }
-    ensures { Touched library.now user.now cut class marks.new }
+fn touch(formed: &Formed, cut: Cut, class: usize, marks: &mut [u8])
+    requires { (class < count formed.now.sheets) × (marks.old ≡ replicate 256 255) }
+    ensures { Touched formed.now.sheets.library formed.now.sheets.user cut class marks.new }
 {
     if cut.from == cut.used {
         marks[class] = 0;
-        return;
+    } else {
+        dependents(formed, class, marks);
     }
-    dependents(library, user, starts, classes, class, marks);
 }
 
 // The frame of an operation that puts a group in: nothing is written until it is admitted; then the sheet is, and the classes that this touches are
@@ -101,55 +82,29 @@ fn change<'a>(
     class: usize,
     verdicts: &mut [u8],
     scratch: &mut [u8],
-) -> Outcome
+) -> Result<usize, Refusal>
     requires { Puts library.now user.old used.old group.now cut class }
     ensures { Makes flat
-        (putting library.now (record { user = user.old; used = used.old; verdicts = verdicts.old })
-        group.now cut class (length scratch.old))
-        (record { user = user.old; used = used.old; verdicts = verdicts.old }) scratch.old (outcome_answer result)
+        (putting library.now (record { user = user.old; used = used.old; verdicts = verdicts.old }) group.now cut class (length scratch.old))
+        (record { user = user.old; used = used.old; verdicts = verdicts.old }) scratch.old (answer_in (λ n. n) result)
         (record { user = user.new; used = used.new; verdicts = verdicts.new }) scratch.new }
 {
-    let mut starts = [0u16; CLASS_LIMIT];
-    let mut memo = [UNASKED; CLASS_LIMIT];
-    let lines = verdicts.len() / VERDICT_BYTES;
-    let admitted = admit(
-        library,
-        user,
-        group,
-        cut,
-        lines,
-        scratch.len(),
-        &mut starts,
-        &mut memo,
-    );
-    match admitted {
-        Checked::Refused(refusal) => Outcome::Refused(refusal),
-        Checked::Fine(classes) => {
-            let size = view_len(user, group, cut);
-            write(user, group, cut);
-            *used = size;
-            let sheet = &user[0..size];
-            let mut marks = [EMPTY; CLASS_LIMIT];
-            touch(library, sheet, &starts, classes, cut, class, &mut marks);
-            rejudge(
-                library, sheet, &starts, classes, &mut memo, &marks, verdicts, scratch,
-            );
-            Outcome::Fine(marked(&marks, classes.all))
-        }
-    }
+    let room = Room {
+        lines: verdicts.len() / VERDICT_BYTES,
+        scratch: scratch.len(),
+    };
+    let found = admit(library, user, group, cut, room)?.found();
+    let size = view_len(user, group, cut);
+    write(user, group, cut);
+    *used = size;
+    let accepted = Accepted::written(library, &user[..size], found);
+    let mut marks = [EMPTY; CLASS_LIMIT];
+    touch(&accepted.formed, cut, class, &mut marks);
+    rejudge(&accepted, &marks, verdicts, scratch);
+    Ok(marked(&marks, accepted.formed.sheets.count()))
 }
 
-// Whether the present sheets are accepted: the rows that this fills are not kept.
-fn accepted<'a>(library: &'a [u8], user: &'a [u8], used: usize) -> Checked
-    ensures { result ≡ checked_of (present_refusal library.now user.now used)
-        (class_count library.now) (total library.now (take used user.now)) }
-{
-    let mut starts = [0u16; CLASS_LIMIT];
-    let mut memo = [UNASKED; CLASS_LIMIT];
-    present(library, user, used, &mut starts, &mut memo)
-}
-
-// Puts a group after the user sheet's used bytes; the new class's verdict is written, and its number answered.
+/// Puts a group after the user sheet's used bytes; the new class's verdict is written, and its number answered.
 pub fn add<'a>(
     library: &'a [u8],
     user: &mut [u8],
@@ -157,63 +112,42 @@ pub fn add<'a>(
     group: &'a [u8],
     verdicts: &mut [u8],
     scratch: &mut [u8],
-) -> Outcome
+) -> Result<usize, Refusal>
     ensures { Adds flat library.now group.now
-        (record { user = user.old; used = used.old; verdicts = verdicts.old }) scratch.old (outcome_answer result)
+        (record { user = user.old; used = used.old; verdicts = verdicts.old }) scratch.old (answer_in (λ n. n) result)
         (record { user = user.new; used = used.new; verdicts = verdicts.new }) scratch.new }
 {
     let size = *used;
-    let checked = accepted(library, user, size);
-    match checked {
-        Checked::Refused(refusal) => Outcome::Refused(refusal),
-        Checked::Fine(classes) => {
-            let cut = Cut {
-                from: size,
-                to: size,
-                used: size,
-            };
-            let class = classes.all;
-            let changed = change(library, user, used, group, cut, class, verdicts, scratch);
-            match changed {
-                Outcome::Refused(refusal) => Outcome::Refused(refusal),
-                Outcome::Fine(_touched) => Outcome::Fine(class),
-            }
-        }
-    }
+    let class = present(library, user, size)?.formed.sheets.count();
+    let cut = Cut {
+        from: size,
+        to: size,
+        used: size,
+    };
+    change(library, user, used, group, cut, class, verdicts, scratch)?;
+    Ok(class)
 }
 
 // Where the group of a user class stands in the present sheets, as the cut that takes it out; or the refusal.
-#[derive(Clone, Copy)]
-enum Found {
-    At(Cut),
-    Refused(Refusal),
-}
-
-fn cut_of<'a>(library: &'a [u8], user: &'a [u8], used: usize, class: usize) -> Found
-    ensures { CutOf library.now user.now used class result }
+fn cut_of<'a>(library: &'a [u8], user: &'a [u8], used: usize, class: usize) -> Result<Cut, Refusal>
+    ensures { Answers (first_of (present_refusal library.now user.now used ∷ no_user_refusal library.now (take used user.now) class ∷ [])) result
+        (λ cut. cut ≡ cut_at library.now (take used user.now) used class) }
 {
-    let mut starts = [0u16; CLASS_LIMIT];
-    let mut memo = [UNASKED; CLASS_LIMIT];
-    let checked = present(library, user, used, &mut starts, &mut memo);
-    match checked {
-        Checked::Refused(refusal) => Found::Refused(refusal),
-        Checked::Fine(classes) => {
-            if class < classes.library {
-                return Found::Refused(plain(13));
-            }
-            if classes.all <= class {
-                return Found::Refused(plain(13));
-            }
-            Found::At(Cut {
-                from: wide(starts[class]),
-                to: group_end(&starts, classes, library.len(), used, class),
-                used: used,
-            })
-        }
+    let accepted = present(library, user, used)?;
+    let sheets = &accepted.formed.sheets;
+    let first = sheets.library_count();
+    let end = sheets.count();
+    if class < first || end <= class {
+        return Err(Refusal::from(Reason::NoSuchClass));
     }
+    Ok(Cut {
+        from: sheets.start(class),
+        to: sheets.end(class),
+        used,
+    })
 }
 
-// Puts a group in the place of a user class's; the verdicts of the classes that depend on it are rewritten, and how many those are is answered.
+/// Puts a group in the place of a user class's; the verdicts of the classes that depend on it are rewritten, and how many those are is answered.
 pub fn replace<'a>(
     library: &'a [u8],
     user: &mut [u8],
@@ -222,15 +156,11 @@ pub fn replace<'a>(
     group: &'a [u8],
     verdicts: &mut [u8],
     scratch: &mut [u8],
-) -> Outcome
+) -> Result<usize, Refusal>
     ensures { Replaces flat library.now class group.now
-        (record { user = user.old; used = used.old; verdicts = verdicts.old }) scratch.old (outcome_answer result)
+        (record { user = user.old; used = used.old; verdicts = verdicts.old }) scratch.old (answer_in (λ n. n) result)
         (record { user = user.new; used = used.new; verdicts = verdicts.new }) scratch.new }
 {
-    let size = *used;
-    let found = cut_of(library, user, size, class);
-    match found {
-        Found::Refused(refusal) => Outcome::Refused(refusal),
-        Found::At(cut) => change(library, user, used, group, cut, class, verdicts, scratch),
-    }
+    let cut = cut_of(library, user, *used, class)?;
+    change(library, user, used, group, cut, class, verdicts, scratch)
 }

@@ -1,16 +1,14 @@
 -- A class names another if one of its records does.
 -- Assumes nothing.
-use mathlib.Core.Path.{◌≡◌, ap, ◌∙◌}
+use mathlib.Core.Path.{◌≡◌}
 use mathlib.Core.Bool.{Bool}
 use mathlib.Core.List.{List}
 use Prim.Native.Nat.{ℕ}
 use lib.Dec.{eqb}
-use lib.ListN.{length}
 use Rattle.spec.specs.Lists.{any, elem}
 use Rattle.spec.specs.Record.{references}
 use Rattle.spec.specs.Sheet.{Group, group_references}
 use Rattle.theory.proofs.Somewhere.{any_gather}
-use Rattle.records.specs.Records.{between, Carries}
 
 abbrev pub record_names : ℕ → List ℕ → Bool
 record_names t r = elem t (references r)
@@ -18,7 +16,3 @@ record_names t r = elem t (references r)
 pub class_names : (t : ℕ) (h : Group) → elem t (group_references h) ≡ any (record_names t) h
 unfolding elem group_references
 class_names t h = any_gather (eqb t) references h
-
--- the class's bytes are its records
-pub bytes_name : {bytes : List ℕ} {h : Group} → Carries bytes h → (t : ℕ) {b : Bool} → b ≡ elem t (group_references (between bytes 0 (length bytes))) → b ≡ elem t (group_references h)
-bytes_name k t e = e ∙ ap (λ (h : Group). elem t (group_references h)) k.records

@@ -1,119 +1,97 @@
 // Taking the last user class back out. No other class names it, so no other verdict changes.
 #![tactic(auto)]
 
-ghost use Rattle.std.specs.Prelude.{◌≡◌, ℕ, ◌≤◌, ◌<◌, length, take, replicate};
+ghost use Rattle.std.specs.Prelude.{◌≡◌, ◌<◌, ℕ, take};
 ghost use Rattle.spec.specs.Lists.{any, elem, span};
-ghost use Rattle.spec.specs.Sheet.{Group, group as group_of, group_references};
+ghost use Rattle.spec.specs.Sheet.{group_references};
 ghost use Rattle.spec.specs.Refusals.{withdraw_refusal};
 ghost use Rattle.spec.specs.Verdicts.{flat};
 ghost use Rattle.spec.specs.Promises.{Withdraws};
-ghost use Rattle.records.specs.Records.{between, AtRecord};
-ghost use Rattle.groups.specs.Groups.{Indexed};
-ghost use Rattle.form.specs.Form.{Checks, outcome_answer};
+ghost use Rattle.refusals.specs.Refusals.{Answers, answer_in};
+ghost use Rattle.sheets.specs.Sheets.{count, groups};
+ghost use Rattle.withdraw.specs.Last.{IsLast};
 
-pub use form::Outcome;
-use form::{Checked, UNASKED, plain, present};
-use groups::{Classes, class_bytes};
+use records::VERDICT_BYTES;
+use records::group::Group;
+use refusals::{Reason, Refusal};
+use sheets::Sheets;
+use form::present;
 use named::names;
-use records::{CLASS_LIMIT, VERDICT_BYTES, wide, word_in};
 
-// Whether a class, whose bytes these are, names class t.
-fn class_names(bytes: &[u8], t: usize) -> bool
-    requires at_record { AtRecord bytes.now (length bytes.now) 0 }
-    requires number { t < 65535 }
-    ensures { result ≡ elem t (group_references (between bytes.now 0 (length bytes.now))) }
+// The last class: its number, the byte where its group begins, and its line of the verdict row.
+#[derive(Clone, Copy)]
+struct Last {
+    class: usize,
+    start: usize,
+    line: usize,
+}
+
+// Whether a class names class t.
+fn class_names(group: &Group, t: usize) -> bool
+    ensures { result ≡ elem t (group_references group.now) }
 {
-    let mut at = 0;
-    while at < bytes.len() {
-        if names(bytes, at, t) {
+    for record in group.records() {
+        if names(&record, t) {
             return true;
         }
-        at += wide(word_in(bytes, at));
     }
     false
 }
 
 // Whether a class below the last names it: all others are below.
-fn last_named<'a>(
-    library: &'a [u8],
-    user: &'a [u8],
-    starts: &[u16],
-    classes: Classes,
-    last: usize,
-) -> bool
-    ghost g: { ℕ → Group }
-    requires groups { group_of library.now user.now ≡ g }
-    requires indexed { Indexed library.now user.now classes.library classes.all starts.now }
-    requires there { last < classes.all }
-    ensures { result ≡ any (λ c. elem last (group_references (g c))) (span 0 last) }
+fn last_named(sheets: &Sheets, last: usize) -> bool
+    requires { last < count sheets.now }
+    ensures { result ≡ any (λ c. elem last (group_references (groups sheets.now c))) (span 0 last) }
 {
-    let mut c = 0;
-    while c < last {
-        if class_names(class_bytes(library, user, starts, classes, c), last) {
+    for class in 0..last {
+        if class_names(&sheets.group(class), last) {
             return true;
         }
-        c += 1;
     }
     false
 }
 
-// The classes of accepted sheets, if the last one may go and a row of so many lines has its own; else the refusal.
-fn removable<'a>(
-    library: &'a [u8],
-    user: &'a [u8],
-    used: usize,
-    lines: usize,
-    starts: &mut [u16],
-    memo: &mut [u16],
-) -> Checked
-    requires { (length starts.old ≡ 256) × (memo.old ≡ replicate 256 65535) }
-    ensures { Checks (withdraw_refusal library.now user.now used lines)
-        library.now (take used user.now) result starts.new memo.new }
+// The last class of accepted sheets, if it may go and a row of so many lines has its own.
+fn removable(library: &[u8], user: &[u8], used: usize, lines: usize) -> Result<Last, Refusal>
+    ensures { Answers (withdraw_refusal library.now user.now used lines) result (IsLast library.now (take used user.now)) }
 {
-    let checked = present(library, user, used, starts, memo);
-    let Checked::Fine(classes) = checked else {
-        return checked;
-    };
-    let own = classes.all - classes.library;
+    let accepted = present(library, user, used)?;
+    let sheets = &accepted.formed.sheets;
+    let all = sheets.count();
+    let own = all - sheets.library_count();
     if own == 0 {
-        return Checked::Refused(plain(13));
+        return Err(Refusal::from(Reason::NoSuchClass));
     }
-    let sheet = &user[0..used];
-    if last_named(library, sheet, starts, classes, classes.all - 1) {
-        return Checked::Refused(plain(17));
+    let class = all - 1;
+    if last_named(sheets, class) {
+        return Err(Refusal::from(Reason::Named));
     }
     if lines < own {
-        return Checked::Refused(plain(12));
+        return Err(Refusal::from(Reason::TooShort));
     }
-    checked
+    Ok(Last {
+        class,
+        start: sheets.start(class),
+        line: own - 1,
+    })
 }
 
-// Makes the last user class's bytes zero and its verdict clean; the used length falls to where it began. The class's number is answered.
-pub fn withdraw<'a>(
-    library: &'a [u8],
+/// Makes the last user class's bytes zero and its verdict clean; the used length falls to where it began. The class's number is answered.
+pub fn withdraw(
+    library: &[u8],
     user: &mut [u8],
     used: &mut usize,
     verdicts: &mut [u8],
-) -> Outcome
+) -> Result<usize, Refusal>
     ensures { Withdraws flat library.now
-        (record { user = user.old; used = used.old; verdicts = verdicts.old }) (outcome_answer result)
+        (record { user = user.old; used = used.old; verdicts = verdicts.old }) (answer_in (λ n. n) result)
         (record { user = user.new; used = used.new; verdicts = verdicts.new }) }
 {
-    let mut starts = [0u16; CLASS_LIMIT];
-    let mut memo = [UNASKED; CLASS_LIMIT];
-    let size = *used;
     let lines = verdicts.len() / VERDICT_BYTES;
-    let checked = removable(library, user, size, lines, &mut starts, &mut memo);
-    match checked {
-        Checked::Refused(refusal) => Outcome::Refused(refusal),
-        Checked::Fine(classes) => {
-            let last = classes.all - 1;
-            let start = wide(starts[last]);
-            user[start..size].fill(0);
-            *used = start;
-            let line = VERDICT_BYTES * (last - classes.library);
-            verdicts[line..line + VERDICT_BYTES].fill(0);
-            Outcome::Fine(last)
-        }
-    }
+    let last = removable(library, user, *used, lines)?;
+    user[last.start..*used].fill(0);
+    *used = last.start;
+    let line = VERDICT_BYTES * last.line;
+    verdicts[line..line + VERDICT_BYTES].fill(0);
+    Ok(last.class)
 }

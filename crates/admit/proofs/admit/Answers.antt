@@ -1,52 +1,52 @@
 -- Test after test: the group, the sheet that it makes, the lines and the scratch.
-use Rattle.std.proofs.Common.{ap, length, ◌∙◌, arith}
-use Rattle.form.proofs.Accepting.{ordered}
-use Rattle.admit.proofs.Turning.{group_fits, not_whole, over_buffer, over_limit, sheet_refused, too_short, admitted}
+use mathlib.Core.Path.{sym, ap, ◌∙◌}
+use mathlib.Core.Option.{some}
+use native.Mathlib.Omega.{arith}
+use Rattle.std.proofs.lemmas.Result.{err_from_is_err_and}
+use Rattle.refusals.specs.declared.Refusal.{Refusal}
+use Rattle.refusals.specs.Refusals.{refusal_of}
+use Rattle.overlay.proofs.Memos.{library_low}
+use Rattle.admit.proofs.Turning.{group_fits, own_is, not_whole, no_room, sheet_refused, too_short, admitted}
 use Rattle.admit.proofs.admit.Goals as goal
 
 pub returns-then-not-whole_group : goal.returns-then-not-whole_group
-returns-then-not-whole_group g c = rw c.plain.ensures (not_whole _ _ _ _ _ _ c.requires.1.1.1.0 c.whole_group.ensures c.if-not-whole_group.true)
+returns-then-not-whole_group c = not_whole _ _ _ _ _ _ c.whole_group.ensures c.if-not-whole_group.true ∙ ap (λ (r : Refusal). some (refusal_of r)) (sym c.from.ensures)
 
-pub view_len-size-requires : goal.view_len-size-requires
-view_len-size-requires g c = group_fits c.requires.1.0 c.whole_group.ensures c.if-not-whole_group.false
+pub view_len-requires : goal.view_len-requires
+view_len-requires c = group_fits c.requires.sits c.whole_group.ensures c.if-not-whole_group.false
 
-pub returns-then-user-size : goal.returns-then-user-size
-returns-then-user-size g c =
-    let s = c.view_len-size.ensures ∙ ap length c.requires.0 in
-    rw c.plain-then-user-size.ensures
-    (over_buffer _ _ _ _ _ _ c.whole_group.ensures c.if-not-whole_group.false c.requires.1.1.1.0 s (omega arith))
+pub returns-then-min-view_len : goal.returns-then-min-view_len
+returns-then-min-view_len c =
+    no_room _ _ _ _ _ _ c.whole_group.ensures c.if-not-whole_group.false c.view_len.ensures (omega (arith, c.if-min-view_len.true, c.min.ensures))
+    ∙ ap (λ (r : Refusal). some (refusal_of r)) (sym c.from-then-min-view_len.ensures)
 
-pub returns-then-size-gt-SHEET_LIMIT : goal.returns-then-size-gt-SHEET_LIMIT
-returns-then-size-gt-SHEET_LIMIT g c =
-    let s = c.view_len-size.ensures ∙ ap length c.requires.0 in
-    rw c.plain-then-size-gt-SHEET_LIMIT.ensures
-    (over_limit _ _ _ _ _ _ c.whole_group.ensures c.if-not-whole_group.false c.requires.1.1.1.0 s (omega arith) (omega arith))
+pub check-requires-clause-fits : goal.check-requires-clause-fits
+check-requires-clause-fits c = group_fits c.requires.sits c.whole_group.ensures c.if-not-whole_group.false
 
-pub check-checked-requires : goal.check-checked-requires
-check-checked-requires g c =
-    let s = c.view_len-size.ensures ∙ ap length c.requires.0 in (
-      c.requires.0,
-      (group_fits c.requires.1.0 c.whole_group.ensures c.if-not-whole_group.false, ((c.requires.1.1.0, omega arith), c.requires.1.1.1.0)),
-    )
+pub check-requires-clause-short : goal.check-requires-clause-short
+check-requires-clause-short c = (c.requires.short, omega (arith, c.if-min-view_len.false, c.min.ensures, c.view_len.ensures))
 
-pub returns-in_default : goal.returns-in_default
-returns-in_default g c =
-    let s = c.view_len-size.ensures ∙ ap length c.requires.0 in
-    sheet_refused _ _ _ _ _ _ c.whole_group.ensures c.if-not-whole_group.false s (omega arith) (omega arith) c.requires.1.1.1.1
-    c.check-checked.ensures c.in_default.is
+pub returns-in_err-accepted : goal.returns-in_err-accepted
+returns-in_err-accepted c =
+    let p = err_from_is_err_and c.from_residual.result c.from_residual.ensures.1 in
+    rw (p.1, p.2)
+    (sheet_refused _ _ _ _ _ _ c.whole_group.ensures c.if-not-whole_group.false c.view_len.ensures (omega (arith, c.if-min-view_len.false, c.min.ensures)) c.requires.plain
+    c.in_err-accepted.ensures)
 
-pub short-requires : goal.short-requires
-short-requires g c = ordered c.check-checked.ensures c.in-Fine.is
+pub overflow_sub-count : goal.overflow_sub-count
+overflow_sub-count c = omega (arith, c.count.ensures.count, c.library_count.ensures, library_low c.in_ok-accepted.accepted.formed.sheets)
 
-pub returns-then-short : goal.returns-then-short
-returns-then-short g c =
-    let s = c.view_len-size.ensures ∙ ap length c.requires.0 in
-    rw c.plain-then-short.ensures
-    (too_short _ _ _ _ _ _ c.whole_group.ensures c.if-not-whole_group.false s (omega arith) (omega arith) c.requires.1.1.1.1
-    c.check-checked.ensures c.in-Fine.is c.short.ensures c.if-short.true)
+pub returns-then-lacks : goal.returns-then-lacks
+returns-then-lacks c =
+    let a = c.in_ok-accepted.ensures in
+    too_short _ _ _ _ _ _ c.whole_group.ensures c.if-not-whole_group.false c.view_len.ensures (omega (arith, c.if-min-view_len.false, c.min.ensures)) c.requires.plain
+    a.0 (own_is a.1 c.count.ensures.count c.library_count.ensures) c.lacks.ensures c.if-lacks.true
+    ∙ ap (λ (r : Refusal). some (refusal_of r)) (sym c.from-then-lacks.ensures)
 
 pub returns : goal.returns
-returns g c =
-    let s = c.view_len-size.ensures ∙ ap length c.requires.0 in
-    admitted _ _ _ _ _ _ c.whole_group.ensures c.if-not-whole_group.false s (omega arith) (omega arith) c.requires.1.1.1.1
-    c.check-checked.ensures c.in-Fine.is c.short.ensures c.if-short.false
+returns c =
+    let a = c.in_ok-accepted.ensures in (
+      admitted _ _ _ _ _ _ c.whole_group.ensures c.if-not-whole_group.false c.view_len.ensures (omega (arith, c.if-min-view_len.false, c.min.ensures)) c.requires.plain
+          a.0 (own_is a.1 c.count.ensures.count c.library_count.ensures) c.lacks.ensures c.if-lacks.false,
+      a.1,
+    )

@@ -1,17 +1,12 @@
--- `captured::captures`: the search along BUILDS from what each class itself uses.
-use Rattle.std.proofs.Common.{refl, arith}
+-- The search along BUILDS from what each class itself uses.
 use Rattle.reach.proofs.Depending.{emptied}
-use Rattle.captured.proofs.Seeding.{captures_fit, captures_end}
+use Rattle.captured.proofs.Meaning.{captures_fit, captures_end}
 use Rattle.captured.proofs.captures.Goals as goal
 
-pub close-requires : goal.close-requires
-close-requires g c =
-    let p = c.requires in
-    let e = emptied _ (c.fill.ensures.after (λ y e. e)) p.1.1.1.1 in
-    let f = c.seed.ensures in
-    (refl, (p.1.0, (record { few = p.1.0.few; long = omega (arith, p.1.1.1.1, e.long, f.long) }, captures_fit p.1.0 p.1.1.0 e f)))
+pub close-requires-clause-seeds_fit : goal.close-requires-clause-seeds_fit
+close-requires-clause-seeds_fit c =
+    captures_fit c.count-passed.ensures.passed c.args.formed.now.formed (emptied _ (c.fill.ensures.after (λ y e. e)) c.requires.long) c.seed.ensures
 
 pub returns : goal.returns
-returns g c =
-    let p = c.requires in
-    rw (← p.0) (captures_end p.1.0 p.1.1.0 (emptied _ (c.fill.ensures.after (λ y e. e)) p.1.1.1.1) c.seed.ensures c.close.ensures c.close.auto.row)
+returns c =
+    captures_end c.count-passed.ensures.passed c.args.formed.now.formed (emptied _ (c.fill.ensures.after (λ y e. e)) c.requires.long) c.seed.ensures c.close.ensures c.close.auto.row

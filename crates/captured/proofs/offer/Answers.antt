@@ -1,7 +1,15 @@
--- `captured::offer`: lane after lane.
 use Rattle.std.proofs.Common.{arith}
-use Rattle.captured.proofs.Seeding.{offer_next}
+use Rattle.std.proofs.lemmas.List.{drop_more}
+use lib.ListN.{drop_of_length-le}
+use Rattle.captured.specs.declared.Lane.TheVariants.{Immutable}
+use Rattle.captured.proofs.Lowering.{all_lanes, left_next, left_none, not_offered, all_offered}
 use Rattle.captured.proofs.offer.Goals as goal
 
-pub loop-k-preserved : goal.loop-k-preserved
-loop-k-preserved c = record { few = omega arith; lowered = offer_next c.if-marks-d-ne1.false c.loop-k.invariant.lowered c.lower_lane.ensures }
+pub returns-then-marks-d-ne1 : goal.returns-then-marks-d-ne1
+returns-then-marks-d-ne1 c = not_offered _ c.if-marks-d-ne1.true
+
+pub loop-lane-preserved : goal.loop-lane-preserved
+loop-lane-preserved c = left_next c.loop-lane.invariant (drop_more all_lanes c.loop-lane.lane-index Immutable (omega arith)) c.lower_lane.ensures
+
+pub returns : goal.returns
+returns c = all_offered c.if-marks-d-ne1.false (left_none c.loop-lane.invariant (drop_of_length-le all_lanes (omega arith)))

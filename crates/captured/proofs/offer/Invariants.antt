@@ -1,10 +1,8 @@
--- Lane after lane.
-use Rattle.std.proofs.Common.{◌-◌, ◌≤◌}
-use Rattle.captured.specs.Seeds.{Lowering, InLanes}
+-- The lanes that are left make all.
+use Rattle.std.proofs.Common.{drop}
+use Rattle.captured.specs.Seeds.{InLane}
+use Rattle.captured.proofs.Lowering.{Left}
 use Rattle.captured.proofs.offer.Given as goal
 
-abbrev pub invariant-loop-k : goal.invariant-loop-k
-invariant-loop-k l = record { few : l.k ≤ 3; lowered : Lowering (InLanes l.marks l.set l.k l.m l.d) l.initial.row l.row }
-
-abbrev pub decreases-loop-k : goal.decreases-loop-k
-decreases-loop-k l = 3 - l.k
+abbrev pub invariant-loop-lane : goal.invariant-loop-lane
+invariant-loop-lane l = Left (InLane l.set l.m l.d) l.lane-items l.fn.row l.row (drop l.lane-index l.lane-items)

@@ -1,8 +1,8 @@
--- `captured::seed_class`: a class that uses nothing, or its records.
-use Rattle.spec.specs.Record.{USES}
-use Rattle.reach.proofs.Scanning.{none_there}
-use Rattle.captured.proofs.Seeding.{seed_none}
+use mathlib.Core.Path.{sym, ap, ◌∙◌}
+use Rattle.spec.specs.Lists.{any}
+use Rattle.spec.specs.Record.{is_kind, USES}
+use Rattle.captured.proofs.Seeding.{class_other}
 use Rattle.captured.proofs.seed_class.Goals as goal
 
-pub returns-then-nth_in-bytes : goal.returns-then-nth_in-bytes
-returns-then-nth_in-bytes g c = seed_none _ _ (none_there c.class_bytes-bytes.ensures USES c.nth_in.ensures c.if-nth_in-bytes.true) _
+pub returns-else-has : goal.returns-else-has
+returns-else-has c = class_other (ap (any (is_kind USES)) (sym c.group-group.ensures) ∙ sym c.has.ensures ∙ c.if-has.false) _

@@ -1,81 +1,53 @@
--- `captured::seed_records`: record after record.
-use Rattle.std.proofs.Common.{◌∙◌, refl, arith}
-use Rattle.spec.specs.Record.{USES}
-use Rattle.records.proofs.Between.{tiled_room}
-use Rattle.records.proofs.Walks.{walk_on}
-use Rattle.records.proofs.Positions.{walk_sized, room_of}
+use mathlib.Core.Path.{sym, ◌∙◌, subst}
+use Prim.Native.Nat.{◌<◌}
+use native.Mathlib.Omega.{arith}
+use Rattle.laws.proofs.All.{All}
+use Rattle.theory.proofs.Accept.{RecordFits, form_fits}
+use Rattle.sheets.specs.Sheets.{count, groups, library_count}
 use Rattle.lanes.proofs.Marking.{marks_enclosers}
-use Rattle.captured.proofs.Seeding.{record_other, owner_there, variable_there, record_uses, seed_member, seed_next, seed_end}
+use Rattle.captured.proofs.Lowering.{left_all, left_next, left_none}
+use Rattle.captured.proofs.Seeding.{record_other, variable_markers, owner_there, variable_there, record_uses}
 use Rattle.captured.proofs.seed_records.Goals as goal
-use Rattle.captured.proofs.seed_records.Goals.{then-word_in-eq-USES, else-word_in-eq-USES}
 
-pub word_in-requires : goal.word_in-requires
-word_in-requires g c = omega (arith, tiled_room c.loop-at.invariant.place.tiled c.loop-at-test.true)
+pub loop-record-init : goal.loop-record-init
+loop-record-init c =
+    let e = c.into_iter-record-iterator.ensures.into_iter_gives ∙ c.records-record-items.ensures.records ∙ c.requires.group in
+    let p = c.args.formed.now.sheets in
+    (tt, tt, subst (All (RecordFits (library_count p) (count p) (groups p) c.args.m)) (sym e) (form_fits p.library p.user c.args.formed.now.formed c.args.m), left_all e)
 
-pub word_in-requires-in-loop-at : goal.word_in-requires-in-loop-at
-word_in-requires-in-loop-at g c = omega (arith, tiled_room c.loop-at.invariant.place.tiled c.loop-at-test.true)
+pub group-requires : goal.group-requires
+group-requires c =
+    let fits = rw c.in-Some.ensures.steps at c.loop-record.invariant.2 in
+    owner_there c.args.formed.now.sheets fits.0 (rw c.in-Uses.is at c.body.ensures)
 
-pub word_in-requires-then-word_in-eq-USES : goal.word_in-requires-then-word_in-eq-USES
-word_in-requires-then-word_in-eq-USES g c =
-    let z = walk_sized c.loop-at.invariant.place c.loop-at-test.true in
-    omega (arith, room_of z c.word_in-in-loop-at.ensures USES c.if-word_in-eq-USES.true)
-
-pub word_in-requires-then-word_in-eq-USES-2 : goal.word_in-requires-then-word_in-eq-USES-2
-word_in-requires-then-word_in-eq-USES-2 g c =
-    let z = walk_sized c.loop-at.invariant.place c.loop-at-test.true in
-    omega (arith, room_of z c.word_in-in-loop-at.ensures USES c.if-word_in-eq-USES.true)
-
-pub variable_markers-set-requires : goal.variable_markers-set-requires
-variable_markers-set-requires g c =
-    let p = c.requires in
-    let known = rw (← p.0) at p.1.1.1.0 in
-    let z = walk_sized c.loop-at.invariant.place c.loop-at-test.true in
-    let e = seed_member c.loop-at.invariant c.loop-at-test.true in
-    let kind = c.word_in-in-loop-at.ensures in
-    let uses = c.if-word_in-eq-USES.true in
-    let class = c.word_in-then-word_in-eq-USES.ensures in (
-      refl,
-      (
-        p.1.0,
-        (
-          known,
-          (
-            owner_there p.1.0 p.1.1.0 c.args.m z e kind uses c.wide-d.ensures.0 class,
-            variable_there p.1.0 p.1.1.0 c.args.m z e kind uses c.wide-d.ensures.0 class c.wide-i.ensures.0 c.word_in-then-word_in-eq-USES-2.ensures,
-          ),
-        ),
-      ),
-    )
+pub variable_type-ty-requires : goal.variable_type-ty-requires
+variable_type-ty-requires c =
+    let fits = rw c.in-Some.ensures.steps at c.loop-record.invariant.2 in
+    rw c.group.ensures (variable_there c.args.formed.now.sheets fits.0 (rw c.in-Uses.is at c.body.ensures))
 
 pub offer-requires : goal.offer-requires
-offer-requires g c =
-    let p = c.requires in
-    let z = walk_sized c.loop-at.invariant.place c.loop-at-test.true in
-    let e = seed_member c.loop-at.invariant c.loop-at-test.true in
-    let owner = owner_there p.1.0 p.1.1.0 c.args.m z e c.word_in-in-loop-at.ensures c.if-word_in-eq-USES.true c.wide-d.ensures.0 c.word_in-then-word_in-eq-USES.ensures in
-    omega (arith, p.1.1.1.1.1, p.1.0.few, c.enclosers.auto.marks, c.loop-at.invariant.lowered.long, owner)
+offer-requires c =
+    let fits = rw c.in-Some.ensures.steps at c.loop-record.invariant.2 in
+    let owner : c.in-Uses.class < count c.args.formed.now.sheets = owner_there c.args.formed.now.sheets fits.0 (rw c.in-Uses.is at c.body.ensures) in
+    omega (arith, c.args.formed.now.few, c.requires.there, c.enclosers.auto.marks, c.loop-record.auto.row)
 
-pub loop-at-smaller : goal.loop-at-smaller
-loop-at-smaller g c = omega (arith, (walk_on c.loop-at.invariant.place c.loop-at-test.true).0)
+pub loop-record-preserved-in-Uses : goal.loop-record-preserved-in-Uses
+loop-record-preserved-in-Uses c =
+    let p = c.args.formed.now.sheets in
+    let fits = rw c.in-Some.ensures.steps at c.loop-record.invariant.2 in
+    let w = rw c.in-Uses.is at c.body.ensures in
+    let right = marks_enclosers 256 (omega (arith, c.requires.there, c.args.formed.now.few)) c.enclosers.ensures in (
+      tt,
+      tt,
+      fits.1,
+      left_next c.loop-record.invariant.3 c.in-Some.ensures.steps
+          (record_uses p fits.0 w (variable_markers c.requires.known c.type_markers.ensures (rw c.group.ensures at c.variable_type-ty.ensures)) right c.offer.ensures),
+    )
 
-pub loop-at-preserved : goal.loop-at-preserved
-loop-at-preserved g c =
-    let p = c.requires in
-    let f = c.loop-at.invariant in
-    let low = c.loop-at-test.true in
-    let z = walk_sized f.place low in
-    let e = seed_member f low in
-    let size = c.wide-size.ensures.0 ∙ c.word_in.ensures in
-    let kind = c.word_in-in-loop-at.ensures in
-    let right = marks_enclosers 256 (omega (arith, p.1.1.1.1.1.0, p.1.0.few)) c.enclosers.ensures in
-    elim c.if-word_in-eq-USES.branch [
-      | then-word_in-eq-USES u ↦
-          seed_next f low
-          (record_uses p.1.0 p.1.1.0 c.args.m z e kind u.if-word_in-eq-USES.true u.wide-d.ensures.0 u.word_in-then-word_in-eq-USES.ensures
-          u.wide-i.ensures.0 u.word_in-then-word_in-eq-USES-2.ensures u.variable_markers-set.ensures right u.offer.ensures)
-          u.row-is size
-      | else-word_in-eq-USES u ↦ seed_next f low (record_other p.1.0 p.1.1.0 c.args.m z e kind u.if-word_in-eq-USES.false _) u.row-is size
-    ]
+pub loop-record-preserved : goal.loop-record-preserved
+loop-record-preserved c =
+    let fits = rw c.in-Some.ensures.steps at c.loop-record.invariant.2 in
+    (tt, tt, fits.1, left_next c.loop-record.invariant.3 c.in-Some.ensures.steps (record_other c.body.result c.body.ensures c.in_default.not-Uses _))
 
 pub returns : goal.returns
-returns g c = rw (← c.requires.0) (seed_end c.loop-at.invariant c.loop-at-test.false)
+returns c = left_none c.loop-record.invariant.3 c.in-None.ensures.steps.0

@@ -1,17 +1,14 @@
--- Record after record.
-use Rattle.std.proofs.Common.{◌-◌, length}
-use Rattle.spec.specs.Sheet.{group as group_of}
-use Rattle.captured.proofs.Seeding.{SeedAt}
+-- The records that are left make all, and each fits.
+use Rattle.laws.proofs.All.{All}
+use Rattle.theory.proofs.Accept.{RecordFits}
+use Rattle.sheets.specs.Sheets.{count, groups, library_count}
+use Rattle.captured.specs.Seeds.{ByRecord}
+use Rattle.captured.proofs.Lowering.{Left}
 use Rattle.captured.proofs.seed_records.Given as goal
 
-abbrev pub ghost-enclosers : goal.ghost-enclosers
-ghost-enclosers g a = group_of a.library.now a.user.now
-
-abbrev pub ghost-variable_markers : goal.ghost-variable_markers
-ghost-variable_markers g a = group_of a.library.now a.user.now
-
-abbrev pub invariant-loop-at : goal.invariant-loop-at
-invariant-loop-at g l = SeedAt (group_of l.library l.user) l.m l.initial.row l.row l.bytes l.at
-
-abbrev pub decreases-loop-at : goal.decreases-loop-at
-decreases-loop-at g l = length l.initial.bytes - l.at
+abbrev pub invariant-loop-record : goal.invariant-loop-record
+invariant-loop-record l =
+    (goal.iterator-loop-record).can_next l.record-iterator
+    × (goal.iterator-loop-record).is_finite l.record-iterator
+    × All (RecordFits (library_count l.fn.formed.sheets) (count l.fn.formed.sheets) (groups l.fn.formed.sheets) l.fn.m) l.record-iterator
+    × Left (ByRecord (groups l.fn.formed.sheets) l.fn.m) (groups l.fn.formed.sheets l.fn.m) l.fn.row l.row l.record-iterator

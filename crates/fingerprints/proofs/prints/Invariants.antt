@@ -1,14 +1,8 @@
--- In the loop the entries below c are there, those from n on as they were. The measure is the number of classes left.
-use Rattle.std.proofs.Common.{◌-◌}
+-- The entries below c are there, those past the last class as they were.
 use Rattle.laws.proofs.Rows.{Filling}
-use Rattle.fingerprints.proofs.Rows.{print_at}
+use Rattle.sheets.specs.Sheets.{count, groups}
+use Rattle.fingerprints.proofs.Telling.{print_at}
 use Rattle.fingerprints.proofs.prints.Given as goal
 
-abbrev pub ghost-class_print : goal.ghost-class_print
-ghost-class_print g a = g.g
-
 abbrev pub invariant-loop-c : goal.invariant-loop-c
-invariant-loop-c g l = Filling (print_at g.g) l.n l.initial.row l.row l.c
-
-abbrev pub decreases-loop-c : goal.decreases-loop-c
-decreases-loop-c g l = l.n - l.c
+invariant-loop-c l = Filling (print_at (groups l.sheets)) (count l.sheets) l.initial.row l.row l.c

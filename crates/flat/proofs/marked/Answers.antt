@@ -1,18 +1,18 @@
--- `flat::marked`.
-use borrow.Author.Tests.{eq-eqb, ne_eqb}
-use Rattle.flat.proofs.Counting.{count_start, count_no, count_yes, count_end, marked_is}
+-- The chain counts the marks of the first n classes.
+use mathlib.Core.Path.{◌≡◌, ◌∙◌}
+use lib.ListN.{take, length}
+use borrow.Author.Tests.{tests}
+use Rattle.std.proofs.Common.{rules}
+use Rattle.std.specs.List.{filter}
+use Rattle.std.proofs.lemmas.Iterator.{YieldsList-from_slice}
+use Rattle.std.proofs.lemmas.Iterator.Consumers.{YieldsList-at, YieldsList-from_filter, count_from_yields_List}
+use Rattle.flat.proofs.Counting.{is_marked, marked_is}
 use Rattle.flat.proofs.marked.Goals as goal
-use Rattle.flat.proofs.marked.Goals.{then-marks-i-eq0, else-marks-i-eq0}
-
-pub loop-i-init : goal.loop-i-init
-loop-i-init c = count_start _ _
-
-pub loop-i-preserved : goal.loop-i-preserved
-loop-i-preserved c =
-    elim c.if-marks-i-eq0.branch [
-      | then-marks-i-eq0 w ↦ count_yes c.loop-i.invariant c.loop-i-test.true (eq-eqb _ _ w.if-marks-i-eq0.true) w.m-is
-      | else-marks-i-eq0 w ↦ count_no c.loop-i.invariant c.loop-i-test.true (ne_eqb _ _ w.if-marks-i-eq0.false) w.m-is
-    ]
 
 pub returns : goal.returns
-returns c = marked_is _ _ (count_end c.loop-i.invariant c.loop-i-test.false)
+returns c =
+    let row = take c.args.n c.args.marks.now in
+    let counted : c.count.result ≡ length (filter is_marked row) =
+    count_from_yields_List c.filter.result _ c.count.ensures.ran
+    (YieldsList-from_filter _ is_marked (YieldsList-at c.filter.ensures.source (YieldsList-from_slice row c.iter.ensures.rest)) c.filter.ensures.closure (λ x r q k. search (rules, tests))) in
+    counted ∙ marked_is c.args.marks.now c.args.n c.requires

@@ -1,32 +1,38 @@
--- In the loop the verdicts of the marked classes below c are written, and `kept` is right.
-use Rattle.std.proofs.Common.{◌≡◌, ℕ, ◌+◌, ◌-◌, sym, ap, ◌∙◌, subst, arith}
-use Rattle.spec.specs.Rules.{Verdict, verdict_of}
-use Rattle.groups.proofs.Few.{classes_ordered}
-use Rattle.rules.specs.Walk.{Kept}
-use Rattle.rules.proofs.Keeping.{kept_none}
-use Rattle.flat.proofs.Rewriting.{rewrite_start, rewrite_passed, rewrite_put, rewrite_end, lines_same}
+-- A clean class, or what the walk finds, class by class.
+use Rattle.std.proofs.Common.{◌<◌, sym, ap, ◌∙◌, arith}
+use Rattle.sheets.specs.Sheets.{Pair, count}
+use Rattle.overlay.proofs.Memos.{library_low}
+use Rattle.survey.proofs.Verdicts.{clean_both}
+use Rattle.rules.specs.Line.{line_of}
+use Rattle.flat.proofs.Rewriting.{rewrite_start, rewrite_passed, rewrite_put, lines_same, own_verdict}
 use Rattle.flat.proofs.rewrite.Goals as goal
-use Rattle.flat.proofs.rewrite.Goals.{then-marks-c-eq0, else-marks-c-eq0}
+use Rattle.flat.proofs.rewrite.Goals.{then-marks-c-eq0, then-clean, else-clean, else-marks-c-eq0}
 
 pub loop-c-init : goal.loop-c-init
-loop-c-init g c = let x = c.requires.1.0.indexed in (rewrite_start _ _ _ _ _ (classes_ordered x), kept_none x.few)
+loop-c-init c = (rw c.library_count-first.ensures (rewrite_start _ _ _ _ _ (library_low c.args.survey.now.judging.formed.now.sheets)), ap (λ b. b.now) c.new-walk.ensures)
 
 pub put-requires : goal.put-requires
-put-requires g c = omega (arith, lines_same c.loop-c.invariant.0 c.requires.1.1.1.1, c.loop-c.invariant.0.low, c.loop-c-test.true)
+put-requires c =
+    omega (arith, lines_same c.loop-c.invariant.0 c.requires.lines, c.loop-c.invariant.0.low, c.loop-c-test.true, c.loop-c.auto.c-end, c.count-c-end.ensures.count, c.library_count-first.ensures)
 
 pub loop-c-preserved : goal.loop-c-preserved
-loop-c-preserved g c =
+loop-c-preserved c =
     let inv = c.loop-c.invariant in
-    let low = c.loop-c-test.true in
-    let own : c.loop-c.c ≡ c.args.classes.library + (c.loop-c.c - c.args.classes.library) = omega (arith, inv.0.low) in
-    let v : ℕ → Verdict = verdict_of c.args.classes.library g.g in
+    let p : Pair = c.args.survey.now.judging.formed.now.sheets in
+    let low : c.loop-c.c < count p = omega (arith, c.loop-c-test.true, c.loop-c.auto.c-end, c.count-c-end.ensures.count) in
     elim c.if-marks-c-eq0.branch [
       | then-marks-c-eq0 w ↦ (
-        rewrite_put inv.0 low w.if-marks-c-eq0.true c.requires.1.1.1.1 (w.judged-verdict.ensures.verdict ∙ ap v own) (w.verdicts-is ∙ w.put.ensures),
-        subst (Kept _ _ _) (sym w.kept-is) w.judged-verdict.ensures.kept,
+        rewrite_put inv.0 low w.if-marks-c-eq0.true c.requires.lines
+            (elim w.if-clean.branch [
+              | then-clean v ↦ ap line_of v.verdict-is ∙ sym (clean_both _ (sym w.clean.ensures ∙ v.if-clean.true)) ∙ own_verdict p inv.0.low
+              | else-clean v ↦ ap line_of v.verdict-is ∙ (rw inv.1 at v.verdict_of-verdict.ensures.verdict) ∙ own_verdict p inv.0.low
+            ])
+            (rw c.library_count-first.ensures at (w.verdicts-is ∙ w.put.ensures)),
+        ap (λ b. b.judging.now) w.walk-is
+            ∙ elim w.if-clean.branch [
+              | then-clean v ↦ ap (λ b. b.judging.now) v.walk-is ∙ inv.1
+              | else-clean v ↦ ap (λ b. b.judging.now) v.walk-is ∙ ap (λ b. b.now) v.verdict_of-verdict.ensures.judging ∙ inv.1
+            ],
       )
-      | else-marks-c-eq0 w ↦ (rewrite_passed inv.0 low w.if-marks-c-eq0.false w.verdicts-is, subst (Kept _ _ _) (sym w.kept-is) inv.1)
+      | else-marks-c-eq0 w ↦ (rewrite_passed inv.0 low w.if-marks-c-eq0.false w.verdicts-is, ap (λ b. b.judging.now) w.walk-is ∙ inv.1)
     ]
-
-pub returns : goal.returns
-returns g c = rewrite_end c.loop-c.invariant.0 c.loop-c-test.false

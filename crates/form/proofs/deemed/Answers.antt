@@ -1,23 +1,44 @@
 -- In the loop no lower class was refused, and the memo knows the lower classes.
-use Rattle.std.proofs.Common.{arith}
+use mathlib.Core.Path.{◌≡◌, ap, ◌∙◌}
+use Prim.Native.Nat.{◌+◌, ◌≤◌, ◌<◌, min}
+use native.Mathlib.Nat.{le_refl}
+use Rattle.sheets.specs.Sheets.{groups, library_count}
+use Rattle.overlay.specs.Memo.{memo_of}
+use native.Mathlib.Omega.{arith}
+use Rattle.overlay.proofs.Memos.{library_low}
+use Rattle.form.proofs.Accepting.{deemed_found, deemed_none}
 use Rattle.form.proofs.Deeming.{deem_begin, deem_asks, deem_stop, deem_on, deem_end}
 use Rattle.form.proofs.deemed.Goals as goal
 
 pub loop-c-init : goal.loop-c-init
-loop-c-init g c = deem_begin c.requires.1.1.1
+loop-c-init c = deem_begin c.requires.memo
 
-pub overlay-m-requires : goal.overlay-m-requires
-overlay-m-requires g c =
-    (c.requires.0, (c.requires.1.0, (c.requires.1.1.0, (omega arith, deem_asks c.loop-c.invariant (omega (arith, c.requires.1.0.few))))))
+pub overlay-requires-clause-there : goal.overlay-requires-clause-there
+overlay-requires-clause-there c = omega (arith, c.loop-c-test.true, c.library_count-c-end.ensures, library_low c.args.formed.now.sheets)
+
+pub overlay-requires-clause-knows : goal.overlay-requires-clause-knows
+overlay-requires-clause-knows c =
+    deem_asks c.loop-c.invariant (omega (arith, c.loop-c-test.true, c.library_count-c-end.ensures, library_low c.args.formed.now.sheets, c.args.formed.now.few))
+
+pub start-requires : goal.start-requires
+start-requires c = omega (arith, c.loop-c-test.true, c.library_count-c-end.ensures, library_low c.args.formed.now.sheets)
 
 pub returns-then-deemed_breaks : goal.returns-then-deemed_breaks
-returns-then-deemed_breaks g c =
-    let r = deem_stop c.loop-c.invariant c.requires.1.0.few c.loop-c-test.true c.overlay-m.ensures.markers c.deemed_breaks.ensures c.overlay-m.ensures.memo c.if-deemed_breaks.true in
-    record { class = r.0; memo = r.1 }
+returns-then-deemed_breaks c =
+    let low : c.loop-c.c < library_count c.args.formed.now.sheets = omega (arith, c.loop-c-test.true, c.library_count-c-end.ensures) in
+    let few : library_count c.args.formed.now.sheets ≤ 256 = omega (arith, library_low c.args.formed.now.sheets, c.args.formed.now.few) in
+    let r = deem_stop c.loop-c.invariant few low c.overlay.ensures.markers c.deemed_breaks.ensures c.overlay.ensures.memo c.if-deemed_breaks.true in
+    record { answer = deemed_found c.count-passed.ensures.passed r.0 low c.start.ensures }
 
 pub loop-c-preserved : goal.loop-c-preserved
-loop-c-preserved g c =
-    deem_on c.loop-c.invariant c.requires.1.0.few c.loop-c-test.true c.overlay-m.ensures.markers c.deemed_breaks.ensures c.overlay-m.ensures.memo c.if-deemed_breaks.false
+loop-c-preserved c =
+    deem_on c.loop-c.invariant (omega (arith, library_low c.args.formed.now.sheets, c.args.formed.now.few)) (omega (arith, c.loop-c-test.true, c.library_count-c-end.ensures))
+    c.overlay.ensures.markers c.deemed_breaks.ensures c.overlay.ensures.memo c.if-deemed_breaks.false
 
 pub returns : goal.returns
-returns g c = let r = deem_end c.loop-c.invariant (omega arith) in record { class = r.0; memo = r.1 }
+returns c =
+    let n = library_count c.args.formed.now.sheets in
+    let past : c.loop-c.c < n → ⊥ = λ h. omega (arith, c.loop-c-test.false, c.library_count-c-end.ensures) in
+    let r = deem_end c.loop-c.invariant past in
+    let k : min n (n + 1) ≡ n = omega arith in
+    record { answer = (deemed_none c.count-passed.ensures.passed r.0 (le_refl n), r.1 ∙ ap (memo_of (groups c.args.formed.now.sheets)) k) }

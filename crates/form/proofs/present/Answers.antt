@@ -1,23 +1,21 @@
--- The lengths first, then the sheets.
-use Rattle.std.proofs.Common.{refl, ap, length, length-take, arith}
-use Rattle.view.proofs.Splice.{plain, plain_fits}
-use Rattle.form.proofs.Accepting.{library_long, used_long, used_past, present_is}
+use mathlib.Core.Path.{ap}
+use native.Mathlib.Omega.{arith}
+use lib.ListN.{length, length-take}
+use Rattle.std.proofs.lemmas.Result.{err_from_is_err_and}
+use Rattle.form.proofs.Accepting.{sizes_told, used_fits, used_is, present_stops, present_is}
 use Rattle.form.proofs.present.Goals as goal
 
-pub returns-then-library-gt-SHEET_LIMIT : goal.returns-then-library-gt-SHEET_LIMIT
-returns-then-library-gt-SHEET_LIMIT c = rw c.plain.ensures (library_long _ _ _ c.requires (omega arith))
+pub returns-in_err-lengths : goal.returns-in_err-lengths
+returns-in_err-lengths c =
+    let p = err_from_is_err_and c.from_residual.result c.from_residual.ensures.1 in rw (p.1, p.2) (present_stops c.args.library.now c.args.user.now c.args.used c.in_err-lengths.ensures)
 
-pub returns-then-used-gt-SHEET_LIMIT : goal.returns-then-used-gt-SHEET_LIMIT
-returns-then-used-gt-SHEET_LIMIT c = used_long _ _ _ (omega arith) c.requires (omega arith)
+pub check-requires-clause-fits : goal.check-requires-clause-fits
+check-requires-clause-fits c = used_fits (sizes_told _ _ _ c.in_ok-lengths.ensures.0).in_buffer
 
-pub returns-then-user-used : goal.returns-then-user-used
-returns-then-user-used c = used_past _ _ _ (omega arith) (omega arith) c.requires (omega arith)
-
-pub check-requires : goal.check-requires
-check-requires c =
-    let u = c.args.user.now in
-    let k = c.args.used in
-    (refl, (plain_fits _ _ (omega arith), ((omega arith, omega (arith, ap length (plain u k), length-take k u)), c.requires)))
+pub check-requires-clause-short : goal.check-requires-clause-short
+check-requires-clause-short c =
+    let s = sizes_told _ _ _ c.in_ok-lengths.ensures.0 in
+    (s.library_size, omega (arith, s.used_size, ap length (used_is c.args.user.now c.args.used), length-take c.args.used c.args.user.now))
 
 pub returns : goal.returns
-returns c = present_is _ _ _ (omega arith) (omega arith) (omega arith) _ (plain c.args.user.now c.args.used) c.check.ensures
+returns c = rw (present_is c.args.library.now c.args.user.now c.args.used c.in_ok-lengths.ensures.0, ← used_is c.args.user.now c.args.used) c.check.ensures

@@ -1,72 +1,74 @@
 -- Each call asks lower numbers only, which the memo knows: so just the class that is asked is put into it.
-use Rattle.std.proofs.Common.{◌∙◌, List, ℕ, ap₂, set, arith}
-use Rattle.spec.specs.Record.{u8, own_markers}
-use Rattle.theory.proofs.Form.{group_one_class}
-use Rattle.records.proofs.Between.{tiled_room}
-use Rattle.groups.proofs.Held.{class_long}
-use Rattle.records.proofs.Carried.{class_within, class_byte_in, class_word_in}
-use Rattle.records.proofs.Walks.{walk_on}
-use Rattle.overlay.proofs.Recursion.{lower_none, lower_is, raw_is}
-use Rattle.overlay.proofs.Walking.{walk_begin, asks_room, walk_asks, walk_passes, walk_end}
+use Rattle.std.proofs.Common.{◌≡◌, ◌∙◌, Option, Some, refl, sym, ap₂, arith, List, ℕ, set}
+use Rattle.spec.specs.Lists.{keep}
+use Rattle.spec.specs.Sheet.{of_kind}
+use Rattle.spec.specs.Markers.{union_all}
+use Rattle.spec.specs.Classes.{targets}
+use Rattle.overlay.specs.Memo.{with_interfaces}
+use Rattle.overlay.proofs.Memos.{knows_lower, set_lower}
+use Rattle.overlay.proofs.Recursion.{lists, lists_none, interfaces_lower, superclass_lower, raw_above, raw_alone}
+use Rattle.overlay.proofs.Unions.{union_assoc, union_zero}
 use Rattle.overlay.proofs.+supertypes.Goals as goal
-use Rattle.overlay.proofs.+supertypes.Goals.{interfaces-then-kind-eq-IMPLEMENTS, interfaces-else-kind-eq-IMPLEMENTS}
+use Rattle.overlay.proofs.+supertypes.Goals.{gathered-in-Some-superclass, gathered-in_default-superclass}
 
-pub gathered-bounds-bytes-6 : goal.gathered-bounds-bytes-6
-gathered-bounds-bytes-6 t c = omega (arith, class_within c.bytes_of-bytes.ensures (class_long c.requires.indexed c.requires.there))
+pub gathered-bounds : goal.gathered-bounds
+gathered-bounds t c = omega (arith, c.requires.there, c.requires.knows.long, c.args.formed.now.few)
 
-pub gathered-word_in-requires : goal.gathered-word_in-requires
-gathered-word_in-requires t c = omega (arith, class_within c.bytes_of-bytes.ensures (class_long c.requires.indexed c.requires.there))
+pub gathered-gathered-requires : goal.gathered-gathered-requires
+gathered-gathered-requires t c =
+    let low = superclass_lower _ c.args.formed.now.formed _ c.requires.there c.group.ensures c.head-head.ensures c.in-Some-superclass.is in
+    (omega (arith, low), (omega (arith, low, c.requires.there), knows_lower c.requires.knows low))
 
 pub gathered-returns-clause-markers : goal.gathered-returns-clause-markers
-unfolding own_markers u8
 gathered-returns-clause-markers t c =
-    let p = c.requires in
-    let bytes = c.bytes_of-bytes.ensures in
-    let long = class_long p.indexed p.there in
-    raw_is _ p.falls _ (omega arith) (group_one_class _ _ _ (omega (arith, p.there, p.indexed.n_is)))
-    (class_byte_in bytes long 6 (omega arith))
-    (c.wide-above.ensures.0 ∙ c.word_in.ensures ∙ class_word_in bytes long 8 (omega arith))
-    c.lower-up.ensures.markers c.union.ensures c.interfaces-m.ensures.markers
+    let formed = c.args.formed.now.formed in
+    elim c.match-head.branch [
+      | gathered-in-Some-superclass w ↦
+          raw_above _ formed _ c.requires.there c.group.ensures c.head-head.ensures w.in-Some-superclass.is
+          w.gathered.ensures.markers (w.mine-is ∙ w.union-mine.ensures) c.interfaces-markers.ensures.markers
+      | gathered-in_default-superclass w ↦
+          raw_alone _ formed _ c.requires.there c.group.ensures c.head-head.ensures w.in_default-superclass.is w.mine-is c.interfaces-markers.ensures.markers
+    ]
 
 pub gathered-returns-clause-memo : goal.gathered-returns-clause-memo
 gathered-returns-clause-memo t c =
-    ap₂ (λ (m : List ℕ) (v : ℕ). set m c.args.c v) (c.interfaces-m.ensures.memo ∙ c.lower-up.ensures.memo) (gathered-returns-clause-markers t c)
+    let kept : c.match-head.memo ≡ c.args.memo.now = elim c.match-head.branch [
+      | gathered-in-Some-superclass w ↦
+          let low = superclass_lower _ c.args.formed.now.formed _ c.requires.there c.group.ensures c.head-head.ensures w.in-Some-superclass.is in
+          w.memo-is ∙ w.gathered.ensures.memo ∙ set_lower c.requires.knows low
+      | gathered-in_default-superclass w ↦ w.memo-is
+    ] in
+    ap₂ (λ (m : List (Option ℕ)) (v : ℕ). set m c.args.c (Some v)) (c.interfaces-markers.ensures.memo ∙ kept) (gathered-returns-clause-markers t c)
 
-pub interfaces-loop-at-init : goal.interfaces-loop-at-init
-interfaces-loop-at-init t c = walk_begin _ _ _ c.bytes_of-bytes.ensures
+pub interfaces-loop-record-init : goal.interfaces-loop-record-init
+unfolding with_interfaces
+interfaces-loop-record-init t c =
+    let e = c.into_iter-record-iterator.ensures.into_iter_gives ∙ c.records-record-items.ensures.records ∙ c.group.ensures in
+    rw e (tt, tt, refl, interfaces_lower _ c.args.formed.now.formed _, refl)
 
-pub interfaces-word_in-requires : goal.interfaces-word_in-requires
-interfaces-word_in-requires t c = omega (arith, tiled_room c.loop-at.invariant.place.tiled c.loop-at-test.true)
+pub interfaces-gathered-requires : goal.interfaces-gathered-requires
+interfaces-gathered-requires t c =
+    let inv = c.loop-record.invariant in
+    let lows = rw (lists c.in-Some.ensures.steps _ c.body.ensures c.in-Implements.is) at inv.3 in
+    (omega (arith, lows.0), (omega (arith, lows.0, c.requires.there), rw inv.2 (knows_lower c.requires.knows lows.0)))
 
-pub interfaces-word_in-kind-requires : goal.interfaces-word_in-kind-requires
-interfaces-word_in-kind-requires t c = omega (arith, tiled_room c.loop-at.invariant.place.tiled c.loop-at-test.true)
+pub interfaces-loop-record-preserved-in-Implements :
+    goal.interfaces-loop-record-preserved-in-Implements
+unfolding union_all
+interfaces-loop-record-preserved-in-Implements t c =
+    let inv = c.loop-record.invariant in
+    let e = lists c.in-Some.ensures.steps _ c.body.ensures c.in-Implements.is in
+    let lows = rw e at inv.3 in
+    let rest = rw e at inv.4 in
+    let memo = rw inv.2 at c.gathered.ensures.memo in
+    (tt, tt, memo ∙ set_lower c.requires.knows lows.0, lows.1, rw (c.union-markers.ensures, c.gathered.ensures.markers) (union_assoc _ _ _ ∙ rest))
 
-pub interfaces-word_in-requires-then-kind-eq-IMPLEMENTS :
-    goal.interfaces-word_in-requires-then-kind-eq-IMPLEMENTS
-interfaces-word_in-requires-then-kind-eq-IMPLEMENTS t c =
-    omega (arith, asks_room c.loop-at.invariant c.loop-at-test.true c.word_in-kind.ensures c.if-kind-eq-IMPLEMENTS.true)
-
-pub interfaces-loop-at-smaller : goal.interfaces-loop-at-smaller
-interfaces-loop-at-smaller t c = omega (arith, (walk_on c.loop-at.invariant.place c.loop-at-test.true).0)
-
-pub interfaces-loop-at-preserved : goal.interfaces-loop-at-preserved
-interfaces-loop-at-preserved t c =
-    let inv = c.loop-at.invariant in
-    let low = c.loop-at-test.true in
-    let size = c.wide-size.ensures.0 ∙ c.word_in.ensures in
-    let kind = c.word_in-kind.ensures in
-    elim c.if-kind-eq-IMPLEMENTS.branch [
-      | interfaces-then-kind-eq-IMPLEMENTS w ↦
-          walk_asks inv low size kind w.if-kind-eq-IMPLEMENTS.true (w.wide-i.ensures.0 ∙ w.word_in-then-kind-eq-IMPLEMENTS.ensures)
-          w.lower.ensures.markers w.lower.ensures.memo w.memo-is (w.m-is ∙ w.union-m.ensures)
-      | interfaces-else-kind-eq-IMPLEMENTS w ↦ walk_passes inv low size kind w.if-kind-eq-IMPLEMENTS.false w.m-is w.memo-is
-    ]
+pub interfaces-loop-record-preserved : goal.interfaces-loop-record-preserved
+interfaces-loop-record-preserved t c =
+    let e = lists_none c.in-Some.ensures.steps _ c.body.ensures c.in_default.not-Implements in
+    rw (← e) c.loop-record.invariant
 
 pub interfaces-returns-clause-markers : goal.interfaces-returns-clause-markers
-interfaces-returns-clause-markers t c = walk_end c.loop-at.invariant c.loop-at-test.false
-
-pub lower-returns-then-c-i-clause-markers : goal.lower-returns-then-c-i-clause-markers
-lower-returns-then-c-i-clause-markers t c = lower_none _ _ _ c.if-c-i.true
-
-pub lower-returns-clause-markers : goal.lower-returns-clause-markers
-lower-returns-clause-markers t c = c.gathered.ensures.markers ∙ lower_is _ _ _ (omega arith)
+unfolding targets of_kind keep union_all
+interfaces-returns-clause-markers t c =
+    let rest = rw c.in-None.ensures.steps.0 at c.loop-record.invariant.4 in sym (union_zero _) ∙ rest

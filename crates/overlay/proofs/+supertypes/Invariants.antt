@@ -1,20 +1,24 @@
 -- Each call asks lower numbers only, which the memo knows: so just the class that is asked is put into it.
-use Rattle.std.proofs.Common.{◌+◌, ◌*◌, ◌-◌, length}
-use Rattle.spec.specs.Sheet.{group as group_of}
-use Rattle.overlay.proofs.Walking.{Walking}
+use Rattle.std.proofs.Common.{◌≡◌, ◌+◌, ◌*◌, ◌<◌, map}
+use Rattle.spec.specs.Record.{IMPLEMENTS}
+use Rattle.spec.specs.Markers.{union, union_all}
+use Rattle.spec.specs.Classes.{targets}
+use Rattle.laws.proofs.All.{All}
+use Rattle.sheets.specs.Sheets.{groups}
+use Rattle.overlay.specs.Memo.{raw, with_interfaces}
 use Rattle.overlay.proofs.+supertypes.Given as goal
 
 abbrev pub decreases-gathered : goal.decreases-gathered
-decreases-gathered l = 3 * l.c + 2
+decreases-gathered l = 2 * l.c + 1
 
 abbrev pub decreases-interfaces : goal.decreases-interfaces
-decreases-interfaces l = 3 * l.c + 1
+decreases-interfaces l = 2 * l.c
 
-abbrev pub decreases-lower : goal.decreases-lower
-decreases-lower l = 3 * l.c
-
-abbrev pub invariant-interfaces-loop-at : goal.invariant-interfaces-loop-at
-invariant-interfaces-loop-at l = Walking (group_of l.library l.user) l.c l.mine l.bytes l.initial.memo l.memo l.at l.m
-
-abbrev pub decreases-interfaces-loop-at : goal.decreases-interfaces-loop-at
-decreases-interfaces-loop-at l = length l.initial.bytes - l.at
+-- the set so far, joined with what the interfaces that are left give, is the whole
+abbrev pub invariant-interfaces-loop-record : goal.invariant-interfaces-loop-record
+invariant-interfaces-loop-record l =
+    (goal.iterator-interfaces-loop-record).can_next l.record-iterator
+    × (goal.iterator-interfaces-loop-record).is_finite l.record-iterator
+    × (l.memo ≡ l.fn.memo)
+    × All (λ e. e < l.fn.c) (targets IMPLEMENTS l.record-iterator)
+    × (union l.markers (union_all (map (raw (groups l.fn.formed.sheets)) (targets IMPLEMENTS l.record-iterator))) ≡ with_interfaces (groups l.fn.formed.sheets) l.fn.c l.fn.mine)

@@ -7,4 +7,4 @@ use Rattle.overlay.proofs.overlay.Goals as goal
 
 pub returns-clause-markers : goal.returns-clause-markers
 unfolding overlay raw
-returns-clause-markers g c = let e = rw c.requires.0 at c.gathered-open.ensures.markers in c.closure-closed.ensures ∙ ap closure e
+returns-clause-markers c = c.closure.ensures ∙ ap closure c.gathered-open.ensures.markers

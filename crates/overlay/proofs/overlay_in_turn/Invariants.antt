@@ -1,13 +1,9 @@
--- In the loop the classes below d are known.
-use Rattle.std.proofs.Common.{◌-◌}
-use Rattle.overlay.proofs.Turns.{InTurn}
+-- The classes below the next one are known, and those of the library.
+use Rattle.std.proofs.Common.{◌≡◌, ◌≤◌, max}
+use Rattle.sheets.specs.Sheets.{groups, library_count}
+use Rattle.overlay.specs.Memo.{memo_of}
 use Rattle.overlay.proofs.overlay_in_turn.Given as goal
 
-abbrev pub ghost-overlay : goal.ghost-overlay
-ghost-overlay g a = g.g
-
-abbrev pub invariant-loop-d : goal.invariant-loop-d
-invariant-loop-d g l = InTurn g.g l.classes.library l.c l.memo l.d
-
-abbrev pub decreases-loop-d : goal.decreases-loop-d
-decreases-loop-d g l = l.c - l.d
+abbrev pub invariant-loop-below : goal.invariant-loop-below
+invariant-loop-below l =
+    (l.below ≤ max (library_count l.fn.formed.sheets) l.fn.c) × (l.memo ≡ memo_of (groups l.fn.formed.sheets) (max (library_count l.fn.formed.sheets) l.below))

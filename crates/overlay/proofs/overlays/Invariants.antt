@@ -1,13 +1,11 @@
--- In the loop the entries below c are right, and the memo knows the classes below c beside those of the library.
-use Rattle.std.proofs.Common.{◌-◌}
-use Rattle.overlay.proofs.Types.{Filling}
+-- The entries below the next class are right; the classes below it are known, and those of the library.
+use Rattle.std.proofs.Common.{◌≡◌, ◌<◌, ℕ, max, get_or}
+use Rattle.spec.specs.Classes.{overlay}
+use Rattle.sheets.specs.Sheets.{groups, library_count}
+use Rattle.overlay.specs.Memo.{memo_of}
 use Rattle.overlay.proofs.overlays.Given as goal
 
-abbrev pub ghost-overlay_or_none : goal.ghost-overlay_or_none
-ghost-overlay_or_none g a = g.g
-
 abbrev pub invariant-loop-c : goal.invariant-loop-c
-invariant-loop-c g l = Filling g.g l.classes.library l.classes.all l.memo l.row l.c
-
-abbrev pub decreases-loop-c : goal.decreases-loop-c
-decreases-loop-c g l = 256 - l.c
+invariant-loop-c l =
+    ((i : ℕ) → i < l.c → get_or l.there i 0 ≡ overlay (groups l.fn.formed.sheets) i)
+    × (l.memo ≡ memo_of (groups l.fn.formed.sheets) (max (library_count l.fn.formed.sheets) l.c))

@@ -1,47 +1,57 @@
--- In the loop the records before `at` have passed, and the row holds their starts.
-use Rattle.std.proofs.Common.{sym, ◌∙◌, refl, arith}
-use Rattle.pass.proofs.Going.{Passed, passed, begin, ends, stops, torn_ends, class_on, other_on}
+-- In the loop the records before the place have passed, and the row holds their starts.
+use Rattle.std.proofs.Common.{◌≡◌, ◌<◌, ◌-◌, length, take, drop, length-drop, le_refl, sym, ap, ◌∙◌, arith, rules}
+use Rattle.std.proofs.lemmas.Result.{err_from_is_err_and}
+use Rattle.std.proofs.lemmas.Slice.{between_to_end}
+use borrow.Author.Tests.{tests}
+use Rattle.pass.proofs.Tests.{class_room}
+use Rattle.pass.proofs.Going.{begin, within, ends, ends_row, stops, stops_row, goes_on}
 use Rattle.pass.proofs.first_pass.Goals as goal
-use Rattle.pass.proofs.first_pass.Goals.{Else-number-ne0, then-kind-eq-CLASS, else-kind-eq-CLASS}
+use Rattle.pass.proofs.first_pass.Goals.{After-is_class, then-is_class, else-is_class}
 
-pub loop-at-init : goal.loop-at-init
-loop-at-init c = begin _ _ _ _ _ (omega arith)
+pub loop-rest-init : goal.loop-rest-init
+loop-rest-init c = begin c.start-place.result c.args.bytes.now c.args.starts.now c.start-place.ensures.place c.start-place.ensures.group
 
-pub returns-then-number-ne0 : goal.returns-then-number-ne0
-returns-then-number-ne0 c =
-    let e = stops c.loop-at.invariant c.record_number-number.ensures (omega arith) c.if-number-ne0.true in
-    record { answer = e.0; starts = e.1 }
+pub returns-in_err-record-clause-answer : goal.returns-in_err-record-clause-answer
+returns-in_err-record-clause-answer c =
+    let p = err_from_is_err_and c.from_residual.result c.from_residual.ensures.1 in
+    let h : 0 < length c.loop-rest.rest.now = search (rules, tests) in
+    rw (p.1, p.2) (stops c.loop-rest.invariant h c.in_err-record.ensures.blames)
 
--- the record at hand is not refused
-fine : (c : Else-number-ne0) → Passed c.args.bytes.now c.loop-at.at c.loop-at.c c.loop-at.k
-fine c = passed _ _ _ _ _ _ (sym c.record_number-number.ensures ∙ c.if-number-ne0.false)
+pub returns-in_err-record-clause-starts : goal.returns-in_err-record-clause-starts
+returns-in_err-record-clause-starts c =
+    let h : 0 < length c.loop-rest.rest.now = search (rules, tests) in
+    stops_row c.loop-rest.invariant h c.in_err-record.ensures.blames
 
-pub bounds-starts-c : goal.bounds-starts-c
-bounds-starts-c c =
-    let room = (fine (goal.at.bounds-starts-c c).Else-number-ne0).class_room (sym c.word_in-kind.ensures ∙ c.if-kind-eq-CLASS.true) in
-    omega (arith, c.loop-at.invariant.long)
+pub bounds-starts-place : goal.bounds-starts-place
+bounds-starts-place c = omega (arith, class_room c.loop-rest.place _ c.in_ok-record.ensures.passes.fine (sym c.is_class.ensures ∙ c.if-is_class.true), c.loop-rest.invariant.long)
 
-pub loop-at-smaller : goal.loop-at-smaller
-loop-at-smaller c = omega (arith, (fine (goal.at.loop-at-smaller c).Else-number-ne0).here)
+pub slice_bounds-rest-count : goal.slice_bounds-rest-count
+slice_bounds-rest-count c = (within c.in_ok-record.ensures.passes).1
 
-pub loop-at-preserved : goal.loop-at-preserved
-loop-at-preserved c =
-    let g = c.loop-at.invariant in
-    let e = c.record_number-number.ensures in
-    let z = c.if-number-ne0.false in
-    let el = c.word_in-len.ensures in
-    let ek = c.word_in-kind.ensures in
-    elim c.if-kind-eq-CLASS.branch [
-      | then-kind-eq-CLASS w ↦ class_on g e z el ek refl w.if-kind-eq-CLASS.true w.starts-is w.c-is w.k-is
-      | else-kind-eq-CLASS w ↦ other_on g e z el ek refl w.if-kind-eq-CLASS.false w.starts-is w.c-is w.k-is
+pub slice_bounds-rest-start : goal.slice_bounds-rest-start
+slice_bounds-rest-start c = (within c.in_ok-record.ensures.passes).1
+
+-- what is left after the record
+left : (c : After-is_class) → let rest = c.loop-rest.rest.now in let n = length c.in_ok-record.record.bytes.now in take (length rest - n) (drop n rest) ≡ drop n rest
+left c = between_to_end c.loop-rest.rest.now (length c.in_ok-record.record.bytes.now) _ (le_refl _)
+
+pub loop-rest-smaller : goal.loop-rest-smaller
+loop-rest-smaller c =
+    let n = length c.in_ok-record.record.bytes.now in
+    omega (arith, within c.in_ok-record.ensures.passes, ap length (left (goal.at.loop-rest-smaller c).After-is_class), length-drop n c.loop-rest.rest.now)
+
+pub loop-rest-preserved : goal.loop-rest-preserved
+loop-rest-preserved c =
+    let g = c.loop-rest.invariant in
+    let w = c.in_ok-record.ensures.passes in
+    let d = left (goal.at.loop-rest-preserved c).After-is_class in
+    elim c.if-is_class.branch [
+      | then-is_class b ↦ rw b.place-is (goes_on g w b.opened-place.ensures (rw (sym c.is_class.ensures ∙ b.if-is_class.true) b.starts-is) d)
+      | else-is_class b ↦ rw b.place-is (goes_on g w b.joined-place.ensures (rw (sym c.is_class.ensures ∙ b.if-is_class.false) b.starts-is) d)
     ]
 
-pub returns-then-at-end : goal.returns-then-at-end
-returns-then-at-end c =
-    let e = torn_ends c.loop-at.invariant (omega arith) (omega arith) in
-    record { answer = e.0; starts = e.1 }
+pub returns-clause-answer : goal.returns-clause-answer
+returns-clause-answer c = let z : length c.loop-rest.rest.now ≡ 0 = search (rules, tests) in ends c.loop-rest.invariant z
 
-pub returns : goal.returns
-returns c =
-    let e = ends c.loop-at.invariant (omega arith) in
-    record { answer = e.0; starts = e.1 }
+pub returns-clause-starts : goal.returns-clause-starts
+returns-clause-starts c = let z : length c.loop-rest.rest.now ≡ 0 = search (rules, tests) in ends_row c.loop-rest.invariant z

@@ -1,13 +1,20 @@
--- What `present` tells of the sheets, then whether the class is there.
-use Rattle.std.proofs.Common.{arith}
-use Rattle.queries.proofs.Asking.{sheets_refused, class_unused, class_used}
+use Rattle.std.proofs.Common.{rules}
+use borrow.Author.Tests.{tests}
+use Rattle.std.proofs.lemmas.Result.{err_from_is_err_and}
+use Rattle.spec.specs.Lists.{first_of}
+use Rattle.spec.specs.Refusals.{refuse_if, refuse_plain, unused_refusal, query_refusal}
+use Rattle.theory.proofs.Answers.{first_some}
 use Rattle.queries.proofs.asked.Goals as goal
 
-pub returns-in_default : goal.returns-in_default
-returns-in_default c = sheets_refused _ _ _ _ c.present-checked.ensures c.in_default.is
+pub returns-in_err-accepted : goal.returns-in_err-accepted
+unfolding query_refusal
+returns-in_err-accepted c =
+    let p = err_from_is_err_and c.from_residual.result c.from_residual.ensures.1 in rw (p.1, p.2) (first_some _ c.in_err-accepted.ensures)
 
-pub returns-then-classes-class : goal.returns-then-classes-class
-returns-then-classes-class c = rw c.plain.ensures (class_unused _ _ _ _ c.present-checked.ensures c.in-Fine.is (omega arith))
+pub returns-then-count-class : goal.returns-then-count-class
+unfolding query_refusal unused_refusal refuse_plain refuse_if first_of
+returns-then-count-class c = search (rules, tests)
 
 pub returns : goal.returns
-returns c = class_used _ _ _ _ c.present-checked.ensures c.in-Fine.is (omega arith)
+unfolding query_refusal unused_refusal refuse_plain refuse_if first_of
+returns c = search (rules, tests)

@@ -1,13 +1,18 @@
--- `reach::enclosers`: the walk up, an encloser at a time.
-use Rattle.lanes.proofs.Marking.{mark_start, mark_next, mark_end}
-use Rattle.reach.proofs.Scanning.{outer_is}
+-- The walk up, an encloser at a time.
+use mathlib.Core.Path.{sym, ◌∙◌, refl, subst}
+use Prim.Native.Nat.{ℕ}
+use lib.ListN.{set}
+use native.Mathlib.Omega.{arith}
+use Rattle.sheets.specs.Sheets.{groups}
+use Rattle.reach.specs.Reach.{outer_of}
+use Rattle.lanes.proofs.Marking.{MarkAt, mark_next, mark_end}
+use Rattle.reach.proofs.Encloser.{some_outer, none_outer}
 use Rattle.reach.proofs.enclosers.Goals as goal
 
-pub loop-e-init : goal.loop-e-init
-loop-e-init g c = mark_start _ (outer_is _ _ c.wide-e.ensures.0 c.class_word.ensures)
-
 pub loop-e-preserved : goal.loop-e-preserved
-loop-e-preserved g c = mark_next c.loop-e.invariant c.loop-e-test.true (outer_is _ _ c.wide-e-in-loop-e.ensures.0 c.class_word-in-loop-e.ensures)
+loop-e-preserved c = let e = some_outer _ _ (sym c.in-Some.is ∙ c.outer.ensures) in
+    subst (λ (x : ℕ). MarkAt (outer_of (groups c.args.sheets.now)) c.args.m c.args.marks.now (set c.loop-e.marks x 1) x (outer_of (groups c.args.sheets.now) x)) (sym e.0)
+    (mark_next c.loop-e.invariant (omega (arith, e)) refl)
 
 pub returns : goal.returns
-returns g c = mark_end c.loop-e.invariant c.loop-e-test.false
+returns c = mark_end c.loop-e.invariant (none_outer _ _ (sym c.in_default.is ∙ c.outer.ensures))

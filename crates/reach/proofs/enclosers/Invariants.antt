@@ -1,13 +1,11 @@
--- `reach::enclosers`: the walk up, an encloser at a time. The class that the walk stands at is the measure.
+-- The walk up, an encloser at a time. The class that the walk stands at is the measure.
 use Rattle.lanes.proofs.Marking.{MarkAt}
+use Rattle.sheets.specs.Sheets.{groups}
 use Rattle.reach.specs.Reach.{outer_of}
 use Rattle.reach.proofs.enclosers.Given as goal
 
 abbrev pub invariant-loop-e : goal.invariant-loop-e
-invariant-loop-e g l = MarkAt (outer_of g.g) l.m l.fn.marks l.marks l.c l.e
+invariant-loop-e l = MarkAt (outer_of (groups l.sheets)) l.m l.fn.marks l.marks l.c (outer_of (groups l.sheets) l.c)
 
 abbrev pub decreases-loop-e : goal.decreases-loop-e
-decreases-loop-e g l = l.c
-
-abbrev pub ghost-class_word : goal.ghost-class_word
-ghost-class_word g a = g.g
+decreases-loop-e l = l.c

@@ -1,41 +1,35 @@
--- `reach::scan`: what is left of the bytes is what is left to draw.
-use Rattle.std.proofs.Common.{refl, ◌∙◌, arith}
-use Rattle.records.proofs.Between.{tiled_room}
-use Rattle.records.proofs.Walks.{walk_on}
-use Rattle.records.proofs.Positions.{walk_sized}
-use Rattle.reach.proofs.Scanning.{scan_start, scan_next, scan_zero, scan_end}
+-- What is left of the records is what is left to draw.
+use mathlib.Core.Path.{subst, sym, ◌∙◌}
+use mathlib.Core.Bool.{false}
+use mathlib.Core.List.{List}
+use Prim.Native.Nat.{ℕ}
+use native.Mathlib.Omega.{arith}
+use Rattle.reach.proofs.Scanning.{ScanAt, scan_start, scan_next, scan_zero, scan_end}
 use Rattle.reach.proofs.scan.Goals as goal
 
-pub loop-at-init : goal.loop-at-init
-loop-at-init c = scan_start _ _ _ _ _ c.requires.at_record c.requires.room c.requires.marks
+pub loop-record-init : goal.loop-record-init
+loop-record-init c = (
+  tt,
+  tt,
+  subst (λ (left : List (List ℕ)). ScanAt c.args.group.now c.args.marks.now c.args.along c.args.n c.args.lanes c.args.m c.args.row.now c.args.row.now false left)
+      (sym (c.into_iter-record-iterator.ensures.into_iter_gives ∙ c.records-record-items.ensures.records)) (scan_start _ _ _ _ _ _ c.requires.room c.requires.marks),
+)
 
-pub first_named-t-requires-clause-sized : goal.first_named-t-requires-clause-sized
-first_named-t-requires-clause-sized c = walk_sized c.loop-at.invariant.place c.loop-at-test.true
-
-pub second_named-u-requires-clause-sized : goal.second_named-u-requires-clause-sized
-second_named-u-requires-clause-sized c = walk_sized c.loop-at.invariant.place c.loop-at-test.true
-
--- the length of this record is not read yet
 pub returns-then-row-m-eq0 : goal.returns-then-row-m-eq0
 returns-then-row-m-eq0 c =
-    let first = c.draw_lanes-added in
-    let second = c.draw_lanes-added-in-loop-at in
-    let next = scan_next c.loop-at.invariant c.loop-at-test.true c.first_named-t.ensures (first.ensures.row, first.ensures.answer) first.auto.row
-    c.second_named-u.ensures (second.ensures.row, second.ensures.answer) second.auto.row refl in
-    scan_zero next c.if-lanes-eq1.true (omega (arith, next.long)) c.if-row-m-eq0.true
+    let next = scan_next c.loop-record.invariant.2 c.named_along-targets.result c.draw_named-added.new.row c.draw_named-added.result c.draw_named-added-in-loop-record.result
+    c.in-Some.ensures.steps c.named_along-targets.ensures c.draw_named-added.ensures c.draw_named-added.auto.row c.draw_named-added-in-loop-record.ensures
+    c.draw_named-added-in-loop-record.auto.row in
+    scan_zero next c.if-lanes-eq1.true (omega (arith, next.long, c.requires.room.long, c.requires.marks)) c.if-row-m-eq0.true
 
-pub word_in-requires : goal.word_in-requires
-word_in-requires c = omega (arith, tiled_room c.loop-at.invariant.place.tiled c.loop-at-test.true)
-
-pub loop-at-smaller : goal.loop-at-smaller
-loop-at-smaller c = omega (arith, (walk_on c.loop-at.invariant.place c.loop-at-test.true).0)
-
-pub loop-at-preserved : goal.loop-at-preserved
-loop-at-preserved c =
-    let first = c.draw_lanes-added in
-    let second = c.draw_lanes-added-in-loop-at in
-    scan_next c.loop-at.invariant c.loop-at-test.true c.first_named-t.ensures (first.ensures.row, first.ensures.answer) first.auto.row
-    c.second_named-u.ensures (second.ensures.row, second.ensures.answer) second.auto.row (c.wide-at.ensures.0 ∙ c.word_in.ensures)
+pub loop-record-preserved : goal.loop-record-preserved
+loop-record-preserved c = (
+  tt,
+  tt,
+  scan_next c.loop-record.invariant.2 c.named_along-targets.result c.draw_named-added.new.row c.draw_named-added.result c.draw_named-added-in-loop-record.result
+      c.in-Some.ensures.steps c.named_along-targets.ensures c.draw_named-added.ensures c.draw_named-added.auto.row c.draw_named-added-in-loop-record.ensures
+      c.draw_named-added-in-loop-record.auto.row,
+)
 
 pub returns : goal.returns
-returns c = scan_end c.loop-at.invariant c.loop-at-test.false
+returns c = scan_end c.loop-record.invariant.2 c.in-None.ensures.steps.0

@@ -1,16 +1,34 @@
--- `rules::first_only`.
-use Rattle.std.proofs.Common.{sym}
-use Rattle.rules.proofs.Stepping.{only_library, only_three, only_four, only_last}
+use mathlib.Core.Path.{◌≡◌, refl, sym, ap}
+use mathlib.Core.Bool.{Bool, true, false, ◌||◌}
+use mathlib.Core.Logic.{◌⊎◌, inl, inr}
+use lib.Dec.{ltb}
+use Rattle.breaks.specs.declared.rule.Rule.{Rule}
+use Rattle.breaks.specs.declared.rule.Rule.TheVariants.{Classes, Members, Reserved, Clash, Statics, LetsOut, Late}
+use Rattle.breaks.specs.Breaking.{asks_first}
+use Rattle.rules.specs.Walk.{only_first}
 use Rattle.rules.proofs.first_only.Goals as goal
 
-pub returns-then-t-nlib : goal.returns-then-t-nlib
-returns-then-t-nlib c = sym (only_library _ _ _ c.if-t-nlib.true)
+-- rules 3, 4 and 6
+first : (rule : Rule) → (rule ≡ Reserved) ⊎ ((rule ≡ Clash) ⊎ (rule ≡ LetsOut)) → asks_first rule ≡ true
+first rule (inl e) = ap asks_first e
+first rule (inr (inl e)) = ap asks_first e
+first rule (inr (inr e)) = ap asks_first e
 
-pub returns-then-rule-eq3 : goal.returns-then-rule-eq3
-returns-then-rule-eq3 c = sym (only_three _ _ _ c.if-rule-eq3.true)
+pub returns-in-Reserved : goal.returns-in-Reserved
+unfolding only_first
+returns-in-Reserved c = ap (λ (b : Bool). b || ltb c.args.t c.args.nlib) (sym (first c.args.rule c.in-Reserved.is))
 
-pub returns-then-rule-eq4 : goal.returns-then-rule-eq4
-returns-then-rule-eq4 c = sym (only_four _ _ _ c.if-rule-eq4.true)
+-- the other rules ask all records
+others : (rule : Rule) → (rule ≡ Reserved → ⊥) → (rule ≡ Clash → ⊥) → (rule ≡ LetsOut → ⊥) → asks_first rule ≡ false
+others Classes a b d = refl
+others Members a b d = refl
+others Reserved a b d = absurd (a refl)
+others Clash a b d = absurd (b refl)
+others Statics a b d = refl
+others LetsOut a b d = absurd (d refl)
+others (Late l) a b d = refl
 
-pub returns : goal.returns
-returns c = only_last _ _ _ c.if-t-nlib.false c.if-rule-eq3.false c.if-rule-eq4.false
+pub returns-in_default : goal.returns-in_default
+unfolding only_first
+returns-in_default c =
+    ap (λ (b : Bool). b || ltb c.args.t c.args.nlib) (sym (others c.args.rule c.in_default.not-Reserved c.in_default.not-Clash c.in_default.not-LetsOut))

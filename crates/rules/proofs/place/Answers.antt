@@ -1,9 +1,12 @@
--- `rules::place`.
-use Rattle.rules.proofs.Stepping.{place_here, place_there}
+use Rattle.std.proofs.Common.{rules}
+use borrow.Author.Tests.{tests}
+use Rattle.spec.specs.Rules.{place_in}
 use Rattle.rules.proofs.place.Goals as goal
 
 pub returns-then-t-c : goal.returns-then-t-c
-returns-then-t-c c = place_here _ _ _ c.if-t-c.true
+unfolding place_in
+returns-then-t-c c = search (rules, tests)
 
 pub returns-else-t-c : goal.returns-else-t-c
-returns-else-t-c c = place_there _ _ _ c.if-t-c.false
+unfolding place_in
+returns-else-t-c c = search (rules, tests)

@@ -1,27 +1,14 @@
--- At each class what is left comes to the refusals of the whole sheet.
-use Rattle.second.proofs.Sheets.{passes_start, passes_low, passes_stop, passes_on, passes_end}
+use Rattle.std.proofs.Common.{arith}
+use Rattle.std.proofs.lemmas.Result.{err_from_is_err_and}
+use Rattle.second.proofs.Passing.{class_refused, none_refused}
 use Rattle.second.proofs.second_pass.Goals as goal
 
-pub loop-c-init : goal.loop-c-init
-loop-c-init g c = let p = c.requires.1 in passes_start p.0.indexed p.1.1.1 c.classes_start-c.ensures
-
-pub class_pass-passed-requires : goal.class_pass-passed-requires
-class_pass-passed-requires g c =
-    let p = c.requires in
-    (p.0, (p.1.0, (p.1.1.0, (p.1.1.1.0, passes_low c.loop-c.invariant c.classes_end-end.ensures c.loop-c-test.true))))
-
-pub returns-in-Refused : goal.returns-in-Refused
-returns-in-Refused g c =
-    let p = c.requires in
-    let e = rw (← p.0) at c.class_pass-passed.ensures in
-    rw (← p.0) (passes_stop c.loop-c.invariant c.classes_end-end.ensures c.loop-c-test.true e c.in-Refused.is _)
-
-pub loop-c-preserved : goal.loop-c-preserved
-loop-c-preserved g c =
-    let e = rw (← c.requires.0) at c.class_pass-passed.ensures in
-    passes_on c.loop-c.invariant c.classes_end-end.ensures c.loop-c-test.true e c.in_default.is
+pub returns-in_err-class_pass : goal.returns-in_err-class_pass
+returns-in_err-class_pass c =
+    let p = err_from_is_err_and c.from_residual.result c.from_residual.ensures.1 in
+    let e = rw c.new-lookup.ensures at c.in_err-class_pass.ensures in
+    rw (p.1, p.2) (class_refused c.count-n.ensures.passed _ (omega arith) (λ d h. rw c.new-lookup.ensures at (c.loop-c.invariant d h)) e)
 
 pub returns : goal.returns
-returns g c =
-    let p = c.requires in
-    rw (← p.0) (passes_end c.loop-c.invariant c.classes_end-end.ensures c.loop-c-test.false)
+returns c =
+    (none_refused c.count-n.ensures.passed (λ d h. rw c.new-lookup.ensures at (c.loop-c.invariant d (omega arith))), tt)

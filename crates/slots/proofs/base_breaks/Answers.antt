@@ -1,12 +1,16 @@
 -- The superclass is Selfless, or is class 0 and the flags are right.
+use mathlib.Core.Path.{ap, ◌∙◌}
+use mathlib.Core.Bool.{not}
+use borrow.Author.Tests.{ne_eqb}
 use Rattle.slots.proofs.Base.{base_selfless, base_other, base_zero}
 use Rattle.slots.proofs.base_breaks.Goals as goal
 
 pub returns-then-has : goal.returns-then-has
-returns-then-has c = base_selfless _ _ c.wide-s.ensures.0 c.word_in.ensures c.known.ensures c.has.ensures c.if-has.true
+returns-then-has c = base_selfless c.args.head.now c.args.markers.now c.in-Some.is c.known.ensures c.has.ensures c.if-has.true
 
 pub returns-then-s-ne0 : goal.returns-then-s-ne0
-returns-then-s-ne0 c = base_other _ _ c.wide-s.ensures.0 c.word_in.ensures c.known.ensures c.has.ensures c.if-has.false c.if-s-ne0.true
+returns-then-s-ne0 c =
+    ap not (ne_eqb _ _ c.if-s-ne0.true) ∙ base_other c.args.head.now c.args.markers.now c.in-Some.is c.known.ensures c.has.ensures c.if-has.false c.if-s-ne0.true
 
-pub returns : goal.returns
-returns c = base_zero _ _ c.wide-s.ensures.0 c.word_in.ensures c.known.ensures c.has.ensures c.if-has.false c.if-s-ne0.false c.word_in-2.ensures
+pub returns-else-s-ne0 : goal.returns-else-s-ne0
+returns-else-s-ne0 c = base_zero c.args.head.now c.args.markers.now c.in-Some.is c.known.ensures c.has.ensures c.if-has.false c.if-s-ne0.false

@@ -3,6 +3,4 @@ use Rattle.slots.proofs.Sets.{lanes_pass}
 use Rattle.slots.proofs.captured_set.Goals as goal
 
 pub returns : goal.returns
-returns c =
-    lanes_pass _ _ c.lacking.ensures c.lacking-2.ensures c.lacking-3.ensures _ _ _ _ c.all_or-a.ensures c.all_or-b.ensures c.all_or-c.ensures
-    c.common.ensures c.common-2.ensures
+returns c = lanes_pass _ _ c.common.result c.lane_set-a.ensures c.lane_set-b.ensures c.lane_set-c.ensures c.common.ensures c.common-2.ensures

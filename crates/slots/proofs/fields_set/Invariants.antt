@@ -1,10 +1,9 @@
--- In the loop the set has only markers whose rules the fields passed do not break. The measure is what is left of the bytes.
-use Rattle.std.proofs.Common.{◌-◌, length}
-use Rattle.slots.proofs.FieldSets.{Fielding}
+-- The set has only markers whose rules the fields passed do not break.
+use Rattle.slots.proofs.Fields.{Fielding}
 use Rattle.slots.proofs.fields_set.Given as goal
 
-abbrev pub invariant-loop-at : goal.invariant-loop-at
-invariant-loop-at l = Fielding l.bytes l.markers l.at l.set
-
-abbrev pub decreases-loop-at : goal.decreases-loop-at
-decreases-loop-at l = length l.bytes - l.at
+abbrev pub invariant-loop-record : goal.invariant-loop-record
+invariant-loop-record l =
+    (goal.iterator-loop-record).can_next l.record-iterator
+    × (goal.iterator-loop-record).is_finite l.record-iterator
+    × Fielding l.fn.markers l.fn.group l.set l.record-iterator

@@ -1,46 +1,54 @@
 -- A root, an interface, or a class with its superclass.
-use Rattle.std.proofs.Common.{arith}
-use Rattle.records.proofs.Carried.{class_within}
-use Rattle.groups.proofs.Held.{class_long}
-use Rattle.survey.proofs.Lines.{class_library, class_interface, above_low, class_user}
+use Rattle.std.proofs.Common.{◌≡◌, ◌∙◌, ap, arith, false}
+use Rattle.spec.specs.Sheet.{Group, class_record}
+use Rattle.records.specs.Kinds.{head_of}
+use Rattle.sheets.specs.Sheets.{groups, library_count}
+use Rattle.slots.specs.Slots.{HeadSet}
+use Rattle.survey.proofs.Lines.{Concrete, class_library, interface_is, class_interface, above_there, above_low, class_user}
 use Rattle.survey.proofs.class_set.Goals as goal
+use Rattle.survey.proofs.class_set.Goals.{After-head_set-first, After-is_interface}
 
-pub head_set-head-requires : goal.head_set-head-requires
-head_set-head-requires g c =
-    let p = c.requires in
-    (class_within c.class_bytes-bytes.ensures (class_long p.1.0.indexed p.1.1.0), omega (arith, p.1.1.0, p.1.0.indexed.few))
+head_is : (c : After-head_set-first) → c.head-head.result ≡ head_of (class_record (groups c.args.judging.now.formed.now.sheets c.args.t))
+head_is c = c.head-head.ensures ∙ ap (λ (h : Group). head_of (class_record h)) c.group-group.ensures
 
-pub returns-then-t-classes : goal.returns-then-t-classes
-returns-then-t-classes g c =
-    let p = c.requires in
-    let j = p.1.0 in
-    rw (← p.0) (class_library j.indexed j.formed c.if-t-classes.true j.facts.known c.head_set-head.ensures)
+first_is : (c : After-head_set-first) → let j = c.args.judging.now in HeadSet j.markers j.lanes.now c.head-head.result (library_count j.formed.now.sheets) c.args.t c.head_set-first.result
+first_is c = rw c.library_count-nlib.ensures at c.head_set-first.ensures
 
-pub word_in-requires : goal.word_in-requires
-word_in-requires g c = let p = c.requires in omega (arith, class_within c.class_bytes-bytes.ensures (class_long p.1.0.indexed p.1.1.0))
+concrete : (c : After-is_interface) → c.head-head.result ≡ head_of (class_record (groups c.args.judging.now.formed.now.sheets c.args.t)) → c.is_interface.result ≡ false
+    → Concrete c.args.judging.now.formed.now.sheets c.args.t c.head-head.result
+concrete c e i = record {
+  passed = c.requires.passed;
+  user_class = omega (arith, c.if-t-nlib.false, c.library_count-nlib.ensures);
+  there = c.requires.there;
+  says = e;
+  concrete = interface_is _ _ e c.is_interface.ensures ∙ i;
+}
 
-pub returns-then-word_in-eq1 : goal.returns-then-word_in-eq1
-returns-then-word_in-eq1 g c =
-    let p = c.requires in
-    let j = p.1.0 in
-    rw (← p.0) (class_interface j.indexed j.formed c.if-t-classes.false p.1.1.0 c.class_bytes-bytes.ensures c.word_in.ensures c.if-word_in-eq1.true)
+pub returns-then-t-nlib : goal.returns-then-t-nlib
+returns-then-t-nlib c =
+    let j = c.args.judging.now in
+    class_library _ j.formed.now.formed (omega (arith, c.if-t-nlib.true, c.library_count-nlib.ensures)) j.known (first_is (goal.at.returns-then-t-nlib c).After-head_set-first)
 
-pub word_in-requires-2 : goal.word_in-requires-2
-word_in-requires-2 g c = let p = c.requires in omega (arith, class_within c.class_bytes-bytes.ensures (class_long p.1.0.indexed p.1.1.0))
+pub returns-then-is_interface : goal.returns-then-is_interface
+returns-then-is_interface c =
+    let e = head_is (goal.at.returns-then-is_interface c).After-head_set-first in
+    class_interface _ _ (interface_is _ _ e c.is_interface.ensures ∙ c.if-is_interface.true)
 
--- the superclass is lower
+pub unreachable-requires : goal.unreachable-requires
+unreachable-requires c =
+    let at = goal.at.unreachable-requires c in
+    above_there _ c.args.judging.now.formed.now.formed (concrete at.After-is_interface (head_is at.After-head_set-first) c.if-is_interface.false) c.in_default.is
+
 pub bounds-sets-above : goal.bounds-sets-above
-bounds-sets-above g c =
-    let p = c.requires in
-    let j = p.1.0 in
-    let low = above_low j.indexed j.formed c.if-t-classes.false p.1.1.0 c.class_bytes-bytes.ensures c.word_in.ensures c.if-word_in-eq1.false
-    c.wide-above.ensures.0 c.word_in-2.ensures in
-    omega (arith, low.1, p.1.1.1.long, j.indexed.few, p.1.1.0)
+bounds-sets-above c =
+    let f = c.args.judging.now.formed.now in
+    let at = goal.at.bounds-sets-above c in
+    let low = above_low _ f.formed (concrete at.After-is_interface (head_is at.After-head_set-first) c.if-is_interface.false) c.in-Some.is in
+    omega (arith, low, c.requires.passing.long, c.requires.there, f.few)
 
 pub returns : goal.returns
-returns g c =
-    let p = c.requires in
-    let j = p.1.0 in
-    let passing = rw (← p.0) at p.1.1.1 in
-    rw (← p.0) (class_user j.indexed j.formed c.if-t-classes.false p.1.1.0 c.class_bytes-bytes.ensures c.word_in.ensures c.if-word_in-eq1.false j.facts.known j.shown
-    c.head_set-head.ensures c.fields_set.ensures _ c.common-own.ensures c.wide-above.ensures.0 c.word_in-2.ensures passing c.common.result c.common.ensures)
+returns c =
+    let j = c.args.judging.now in
+    let at = goal.at.returns c in
+    class_user _ j.formed.now.formed (concrete at.After-is_interface (head_is at.After-head_set-first) c.if-is_interface.false) j.known j.shown (first_is at.After-head_set-first)
+    c.group-group.ensures c.fields_set.ensures c.common-own.result c.common-own.ensures c.in-Some.is c.requires.passing c.common.ensures

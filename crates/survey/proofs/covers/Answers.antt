@@ -1,20 +1,17 @@
--- The four markers one after the other.
-use Rattle.std.proofs.Common.{refl, sym, ap, ◌∙◌, not}
-use mathlib.Core.Bool.{or-false}
-use Rattle.survey.proofs.Covering.{met, past, covers_by}
+use Rattle.std.proofs.Common.{rules, ap, not, ◌&&◌}
+use Rattle.std.proofs.lemmas.Iterator.{YieldsList-from_slice}
+use Rattle.std.proofs.lemmas.Iterator.Search.{any_from_yields_List}
+use borrow.Author.Tests.{tests}
+use mathlib.Core.List.{[], ◌∷◌}
+use Rattle.spec.specs.Lists.{any}
+use Rattle.spec.specs.Record.{bit}
+use Rattle.slots.specs.declared.Late.TheVariants.{Immutable, Powerless, Selfless, DeepSelfless}
+use Rattle.slots.specs.Slots.{rule_marker}
+use Rattle.survey.specs.Survey.{any_late}
 use Rattle.survey.proofs.covers.Goals as goal
 
-pub returns-then-lacks : goal.returns-then-lacks
-returns-then-lacks c = ap not (sym (met c.if-lacks.true _ (covers_by _ _ c.lacks.ensures refl refl refl)))
-
-pub returns-then-lacks-2 : goal.returns-then-lacks-2
-returns-then-lacks-2 c = ap not (sym (met c.if-lacks-2.true _ (past c.if-lacks.false (covers_by _ _ c.lacks.ensures c.lacks-2.ensures refl refl))))
-
-pub returns-then-lacks-3 : goal.returns-then-lacks-3
-returns-then-lacks-3 c =
-    ap not (sym (met c.if-lacks-3.true _ (past c.if-lacks-2.false (past c.if-lacks.false (covers_by _ _ c.lacks.ensures c.lacks-2.ensures c.lacks-3.ensures refl)))))
-
 pub returns : goal.returns
+unfolding any any_late bit
 returns c =
-    let all = covers_by _ _ c.lacks.ensures c.lacks-2.ensures c.lacks-3.ensures c.lacks-4.ensures in
-    ap not (sym (past c.if-lacks-3.false (past c.if-lacks-2.false (past c.if-lacks.false all)) ∙ or-false c.lacks-4.result))
+    ap not (any_from_yields_List (λ rule. bit (rule_marker rule) c.args.m && not (bit (rule_marker rule) c.args.set)) _ _ c.any.result c.any.ensures.ran
+    (YieldsList-from_slice (Immutable ∷ Powerless ∷ Selfless ∷ DeepSelfless ∷ []) cc) (λ x b q k. search (rules, tests)))

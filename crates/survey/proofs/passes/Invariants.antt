@@ -1,13 +1,7 @@
--- In the loop the sets of the classes below c are right.
-use Rattle.std.proofs.Common.{◌-◌}
-use Rattle.survey.proofs.Lines.{Filling}
+use Rattle.sheets.specs.Sheets.{groups, library_count}
+use Rattle.survey.specs.Survey.{Passing}
 use Rattle.survey.proofs.passes.Given as goal
 
-abbrev pub ghost-class_set : goal.ghost-class_set
-ghost-class_set g a = g.g
-
+-- the sets of the classes below c
 abbrev pub invariant-loop-c : goal.invariant-loop-c
-invariant-loop-c g l = Filling l.classes.library l.classes.all g.g l.fn.facts l.facts l.c
-
-abbrev pub decreases-loop-c : goal.decreases-loop-c
-decreases-loop-c g l = l.classes.all - l.c
+invariant-loop-c l = Passing (library_count l.judging.formed.now.sheets) l.c (groups l.judging.formed.now.sheets) l.sets

@@ -1,9 +1,10 @@
 -- One mark, or those of a search.
+use Rattle.std.specs.Prelude.{refl}
 use Rattle.verifier.proofs.Touching.{touched_one, touched_all}
 use Rattle.verifier.proofs.touch.Goals as goal
 
 pub returns-then-cut : goal.returns-then-cut
-returns-then-cut c = let p = c.requires in touched_one _ _ _ _ p.indexed.n_is p.indexed.few p.there.1 c.if-cut.true
+returns-then-cut c = let p = c.requires in touched_one _ _ _ _ refl c.args.formed.now.few p.1 c.if-cut.true
 
-pub returns : goal.returns
-returns c = let p = c.requires in touched_all _ _ _ _ p.indexed.n_is p.indexed.few p.there.1 c.if-cut.false c.dependents.auto.row c.dependents.ensures
+pub returns-else-cut : goal.returns-else-cut
+returns-else-cut c = let p = c.requires in touched_all _ _ _ _ refl c.args.formed.now.few p.1 c.if-cut.false c.dependents.auto.row c.dependents.ensures

@@ -1,0 +1,98 @@
+-- Members that are allowed: one by its number, and those of a class without one that is not.
+-- Assumes nothing.
+use mathlib.Core.Path.{◌≡◌, refl, sym, ap, ◌∙◌}
+use mathlib.Core.Bool.{Bool, true, false, not, ◌&&◌, ◌||◌}
+use mathlib.Core.List.{List, [], ◌∷◌}
+use Prim.Native.Nat.{ℕ, zero, suc, ◌-◌, ◌<◌}
+use native.Mathlib.Nat.{not-suc-le-zero, le_of_suc-le-suc}
+use native.Mathlib.Omega.{arith}
+use lib.ListN.{length, get_or}
+use lib.Dec.{ltb}
+use Rattle.spec.specs.Lists.{any, keep}
+use Rattle.spec.specs.Record.{u16, bit, is_kind, MEMBER, REFERS, flags, target, index}
+use Rattle.spec.specs.Sheet.{Group, of_kind}
+use Rattle.spec.specs.Rules.{member_allowed}
+use Rattle.laws.proofs.Bools.{true_t}
+use Rattle.laws.proofs.All.{keep_yes, keep_no}
+use Rattle.breaks.specs.Bans.{closed_member, Bans, Partial, Refers}
+
+-- ---- members one after another
+
+module _ (r : List ℕ) (rs : Group) where
+  module _ (e : is_kind MEMBER r ≡ true) where
+    first : of_kind MEMBER (r ∷ rs) ≡ r ∷ of_kind MEMBER rs
+    unfolding of_kind
+    first = keep_yes (is_kind MEMBER) r rs e
+
+    pub member_here : get_or (of_kind MEMBER (r ∷ rs)) 0 [] ≡ r
+    member_here = ap (λ (h : Group). get_or h 0 []) first
+
+    pub member_next : (i : ℕ) → (i ≡ 0 → ⊥) → get_or (of_kind MEMBER (r ∷ rs)) i [] ≡ get_or (of_kind MEMBER rs) (i - 1) []
+    member_next i n = ap (λ (h : Group). get_or h i []) first ∙ later i n
+      where
+        later : (i : ℕ) → (i ≡ 0 → ⊥) → get_or (r ∷ of_kind MEMBER rs) i [] ≡ get_or (of_kind MEMBER rs) (i - 1) []
+        later zero n = absurd (n refl)
+        later (suc i) n = let z : suc i - 1 ≡ i = omega arith in ap (λ (k : ℕ). get_or (of_kind MEMBER rs) k []) (sym z)
+
+  pub member_other : is_kind MEMBER r ≡ false → (i : ℕ) → get_or (of_kind MEMBER (r ∷ rs)) i [] ≡ get_or (of_kind MEMBER rs) i []
+  unfolding of_kind
+  member_other e i = ap (λ (h : Group). get_or h i []) (keep_no (is_kind MEMBER) r rs e)
+
+pub no_member : (i : ℕ) → bit 0 (flags (get_or (of_kind MEMBER []) i [])) ≡ false
+unfolding of_kind keep flags u16 bit
+no_member i = refl
+
+-- ---- a member that is not allowed
+
+-- a class without one: each of its members is allowed
+pub open_at : (h : Group) (i : ℕ) → i < length (of_kind MEMBER h) → any closed_member h ≡ false → bit 0 (flags (get_or (of_kind MEMBER h) i [])) ≡ true
+unfolding of_kind keep any closed_member
+open_at [] i l e = absurd (not-suc-le-zero l)
+open_at (r ∷ h) i l e = go (is_kind MEMBER r) i l e (open_at h)
+  where
+    members : Bool → Group
+    members a = elim a as (λ (y : Bool). Group) [ true ↦ r ∷ keep (is_kind MEMBER) h | false ↦ keep (is_kind MEMBER) h ]
+
+    open_one : (b c : Bool) → (not b || c) ≡ false → b ≡ true
+    open_one true c e = refl
+    open_one false c e = absurd (true_t (sym e))
+
+    open_more : (b c : Bool) → (b || c) ≡ false → c ≡ false
+    open_more true c e = absurd (true_t (sym e))
+    open_more false c e = e
+
+    go : (a : Bool) (i : ℕ) → i < length (members a) → ((a && not (bit 0 (flags r))) || any closed_member h) ≡ false
+        → ((i : ℕ) → i < length (keep (is_kind MEMBER) h) → any closed_member h ≡ false → bit 0 (flags (get_or (keep (is_kind MEMBER) h) i [])) ≡ true)
+        → bit 0 (flags (get_or (members a) i [])) ≡ true
+    go true zero l e ih = open_one (bit 0 (flags r)) (any closed_member h) e
+    go true (suc i) l e ih = ih i (le_of_suc-le-suc l) (open_more (not (bit 0 (flags r))) (any closed_member h) e)
+    go false i l e ih = ih i l e
+
+-- ---- a REFERS record
+
+module _ {n : ℕ} {g : ℕ → Group} {r : List ℕ} (f : Refers n g r) (k : is_kind REFERS r ≡ true) where
+  by_kind : (b : Bool) → b ≡ not (member_allowed g (target r) (index r)) → b ≡ (is_kind REFERS r && not (member_allowed g (target r) (index r)))
+  by_kind b e = e ∙ sym (ap (λ (x : Bool). x && not (member_allowed g (target r) (index r))) k)
+
+  pub refers_told : {d i : ℕ} → d ≡ target r → i ≡ index r → {h : Group} → h ≡ g d → {b : Bool} → b ≡ bit 0 (flags (get_or (of_kind MEMBER h) i []))
+      → not b ≡ (is_kind REFERS r && not (member_allowed g (target r) (index r)))
+  unfolding member_allowed
+  refers_told ed ei eh eb = by_kind _ (ap not (eb ∙ rw (eh, ed, ei) refl))
+
+  -- of a class of the library without a member that is not allowed
+  pub refers_open : {nlib : ℕ} {row : List ℕ} {d : ℕ} → d ≡ target r → Bans nlib g row → {maybe : Bool} → Partial nlib row d maybe → not maybe ≡ true → false ≡ (is_kind REFERS r && not (member_allowed g (target r) (index r)))
+  unfolding member_allowed
+  refers_open {nlib} {d = d} ed b {maybe} o eo =
+      by_kind false (sym (ap not (open_at (g (target r)) (index r) (f.member (true_t k)) (ap (λ (c : ℕ). any closed_member (g c)) (sym ed) ∙ none_closed))))
+    where
+      none_closed : any closed_member (g d) ≡ false
+      none_closed = go maybe (not (ltb d nlib)) (any closed_member (g d)) eo (o.is g b)
+        where
+          go : (m a c : Bool) → not m ≡ true → m ≡ (a || c) → c ≡ false
+          go true a c e q = absurd (true_t e)
+          go false true c e q = absurd (true_t q)
+          go false false c e q = sym q
+
+-- any other record
+pub refers_other : (g : ℕ → Group) (r : List ℕ) → is_kind REFERS r ≡ false → false ≡ (is_kind REFERS r && not (member_allowed g (target r) (index r)))
+refers_other g r e = sym (ap (λ (x : Bool). x && not (member_allowed g (target r) (index r))) e)

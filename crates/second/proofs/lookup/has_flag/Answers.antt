@@ -1,0 +1,7 @@
+use Rattle.std.proofs.Common.{rules}
+use Rattle.spec.specs.Record.{bit}
+use Rattle.second.proofs.lookup.has_flag.Goals as goal
+
+pub returns : goal.returns
+unfolding bit
+returns c = search rules

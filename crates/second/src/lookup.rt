@@ -1,0 +1,111 @@
+// What records ask of the classes that they name: it stands in rows, so that no sheet is read for it again.
+ghost use Rattle.std.specs.Prelude.{◌≡◌, ◌<◌, replicate};
+ghost use Rattle.spec.specs.Record.{bit};
+ghost use Rattle.sheets.specs.Sheets.{Passed, count, groups};
+ghost use Rattle.fingerprints.specs.Fingerprints.{Printed};
+ghost use Rattle.second.specs.Second.{Heads, Enclosing, indexed_kind, asked_of};
+
+use records::CLASS_LIMIT;
+use records::kind::Kind;
+use refusals::Side;
+use sheets::Sheets;
+use fingerprints::prints;
+
+/// Flags of a CLASS, and of a FIELD.
+pub const INTERFACE: u32 = 0;
+
+pub const INNER: u32 = 1;
+
+pub const STATIC: u32 = 2;
+
+/// What records ask of a class: whether it is an interface, and how many records it has that others name by an index.
+#[derive(Clone, Copy)]
+pub struct Asked {
+    pub interface: bool,
+    pub indexed: u8,
+}
+
+/// Both sheets, with the fingerprint of each class's name and what records ask of each class.
+#[derive(Drop)]
+pub struct Lookup<'a> {
+    pub sheets: &'a Sheets<'a>,
+    pub prints: [u16; CLASS_LIMIT],
+    pub asked: [Asked; CLASS_LIMIT],
+    pub ghost printed: { Printed (groups sheets.now) (count sheets.now) prints },
+    pub ghost heads: { Heads sheets.now asked },
+}
+
+/// Whether flag number k is set.
+pub fn has_flag(flags: u16, k: u32) -> bool
+    requires { k < 16 }
+    ensures { result ≡ bit k flags }
+{
+    (flags >> k) % 2 == 1
+}
+
+// The kind of the records that others name by an index: MEMBER in the library, LOCAL in the user sheet.
+fn indexed_kind(side: Side) -> Kind
+    ensures { result ≡ indexed_kind side }
+{
+    match side {
+        Side::Library => Kind::Member,
+        Side::User => Kind::Local,
+    }
+}
+
+// What records ask of class c.
+fn asked_of(sheets: &Sheets, c: usize) -> Asked
+    requires passed { Passed sheets.now }
+    requires there { c < count sheets.now }
+    ensures { result ≡ asked_of sheets.now c }
+{
+    let group = sheets.group(c);
+    Asked {
+        interface: has_flag(group.head().flags, INTERFACE),
+        indexed: group.count(indexed_kind(sheets.side(c))) as u8,
+    }
+}
+
+impl<'a> Lookup<'a> {
+    /// Fills the rows.
+    pub fn new(sheets: &'a Sheets<'a>) -> Lookup<'a>
+        ensures { result.sheets.now ≡ sheets.now }
+    {
+        let n = sheets.count();
+        let mut row = [0; CLASS_LIMIT];
+        prints(sheets, &mut row);
+        let mut asked = [Asked {
+            interface: false,
+            indexed: 0,
+        }; CLASS_LIMIT];
+        for c in 0..n {
+            asked[c] = asked_of(sheets, c);
+        }
+        Lookup {
+            sheets,
+            prints: row,
+            asked,
+        }
+    }
+
+    /// Marks class c and its enclosers by 1 in a row of zeros, so that a USES asks by one comparison.
+    pub fn mark_enclosers(&self, c: usize, marks: &mut [u8; CLASS_LIMIT])
+        requires there { c < count self.now.sheets.now }
+        requires unmarked { marks.old ≡ replicate 256 0 }
+        ensures { Enclosing self.now.sheets.now c marks.new }
+    {
+        let sheets = self.sheets;
+        let n = sheets.count();
+        marks[c] = 1;
+        let mut at = c;
+        for _ in 0..c + 1 {
+            match sheets.group(at).head().encloser {
+                Some(up) if up < n => {
+                    marks[up] = 1;
+                    at = up;
+                }
+                _ => return,
+            }
+        }
+    }
+}

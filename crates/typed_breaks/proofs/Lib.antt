@@ -1,8 +1,0 @@
-pub mod Bits
-pub mod Banning
-pub mod Naming
-pub mod Statics
-pub mod Members
-pub mod Places
-pub mod Heads
-pub mod Lines

@@ -1,5 +1,0 @@
-use Rattle.typed_breaks.proofs.Banning.{ban_test}
-use Rattle.typed_breaks.proofs.bans.is_closed.Goals as goal
-
-pub returns : goal.returns
-returns c nlib g w = ban_test w _ c.known.ensures

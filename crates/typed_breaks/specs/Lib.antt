@@ -1,3 +1,0 @@
-pub mod Bans
-pub mod Breaking
-pub mod Steps

@@ -1,3 +1,0 @@
-pub mod Lowering
-pub mod Seeding
-pub mod Meaning

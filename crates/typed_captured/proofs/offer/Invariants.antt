@@ -1,8 +1,0 @@
--- The lanes that are left make all.
-use Rattle.std.proofs.Common.{drop}
-use Rattle.typed_captured.specs.Seeds.{InLane}
-use Rattle.typed_captured.proofs.Lowering.{Left}
-use Rattle.typed_captured.proofs.offer.Given as goal
-
-abbrev pub invariant-loop-lane : goal.invariant-loop-lane
-invariant-loop-lane l = Left (InLane l.set l.m l.d) l.lane-items l.fn.row l.row (drop l.lane-index l.lane-items)

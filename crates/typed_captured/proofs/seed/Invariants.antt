@@ -1,7 +1,0 @@
--- What the classes below the next one use.
-use Rattle.sheets.specs.Sheets.{groups}
-use Rattle.typed_captured.specs.Seeds.{Lowering, ByClasses}
-use Rattle.typed_captured.proofs.seed.Given as goal
-
-abbrev pub invariant-loop-m : goal.invariant-loop-m
-invariant-loop-m l = Lowering (ByClasses (groups l.fn.formed.sheets) l.m) l.fn.row l.row

@@ -1,2 +1,0 @@
-pub mod Captured
-pub mod Seeds

@@ -1,4 +1,0 @@
-pub mod Unions
-pub mod Memos
-pub mod Recursion
-pub mod Types

@@ -1,9 +1,0 @@
--- The classes below the next one are known, and those of the library.
-use Rattle.std.proofs.Common.{◌≡◌, ◌≤◌, max}
-use Rattle.sheets.specs.Sheets.{groups, library_count}
-use Rattle.typed_overlay.specs.Memo.{memo_of}
-use Rattle.typed_overlay.proofs.overlay_in_turn.Given as goal
-
-abbrev pub invariant-loop-below : goal.invariant-loop-below
-invariant-loop-below l =
-    (l.below ≤ max (library_count l.fn.formed.sheets) l.fn.c) × (l.memo ≡ memo_of (groups l.fn.formed.sheets) (max (library_count l.fn.formed.sheets) l.below))

@@ -1,2 +1,0 @@
-pub mod Memo
-pub mod Types

@@ -1,5 +1,0 @@
-use Rattle.typed_rules.proofs.Keeping.{kept_none}
-use Rattle.typed_rules.proofs.Walk.new.Goals as goal
-
-pub invariant_of-result : goal.invariant_of-result
-invariant_of-result c = record { is_kept = kept_none }

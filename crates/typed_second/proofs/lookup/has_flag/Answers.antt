@@ -1,7 +1,0 @@
-use Rattle.std.proofs.Common.{rules}
-use Rattle.spec.specs.Record.{bit}
-use Rattle.typed_second.proofs.lookup.has_flag.Goals as goal
-
-pub returns : goal.returns
-unfolding bit
-returns c = search rules

@@ -1,8 +1,0 @@
-use Rattle.std.proofs.Common.{◌≡◌, ℕ, ◌<◌}
-use mathlib.Core.Option.{none}
-use Rattle.typed_second.specs.Second.{class_refusal}
-use Rattle.typed_second.proofs.second_pass.Given as goal
-
--- no class below c is refused
-abbrev pub invariant-loop-c : goal.invariant-loop-c
-invariant-loop-c l = (d : ℕ) → d < l.c → class_refusal l.lookup.sheets.now d ≡ none

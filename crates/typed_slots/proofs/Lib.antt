@@ -1,4 +1,0 @@
-pub mod Sets
-pub mod Fields
-pub mod Base
-pub mod Heads

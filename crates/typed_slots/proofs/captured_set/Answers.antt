@@ -1,6 +1,0 @@
--- Each of the three lanes has its marker.
-use Rattle.typed_slots.proofs.Sets.{lanes_pass}
-use Rattle.typed_slots.proofs.captured_set.Goals as goal
-
-pub returns : goal.returns
-returns c = lanes_pass _ _ c.common.result c.lane_set-a.ensures c.lane_set-b.ensures c.lane_set-c.ensures c.common.ensures c.common-2.ensures

@@ -1,4 +1,0 @@
-pub mod Verdicts
-pub mod Lines
-pub mod Records
-pub mod Whole

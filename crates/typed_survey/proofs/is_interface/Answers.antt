@@ -1,6 +1,0 @@
-use Rattle.typed_breaks.proofs.Bits.{bit_zero}
-use Rattle.std.proofs.Common.{sym}
-use Rattle.typed_survey.proofs.is_interface.Goals as goal
-
-pub returns : goal.returns
-returns c = sym (bit_zero c.args.head.now.flags)

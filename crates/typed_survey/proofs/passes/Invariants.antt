@@ -1,7 +1,0 @@
-use Rattle.sheets.specs.Sheets.{groups, library_count}
-use Rattle.typed_survey.specs.Survey.{Passing}
-use Rattle.typed_survey.proofs.passes.Given as goal
-
--- the sets of the classes below c
-abbrev pub invariant-loop-c : goal.invariant-loop-c
-invariant-loop-c l = Passing (library_count l.judging.formed.now.sheets) l.c (groups l.judging.formed.now.sheets) l.sets

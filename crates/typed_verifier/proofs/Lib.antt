@@ -1,6 +1,0 @@
-pub mod Exchange
-pub mod Touching
-pub mod Verdicts
-pub mod Editing
-pub mod Adding
-pub mod Replacing
