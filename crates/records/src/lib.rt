@@ -4,6 +4,7 @@
 ghost use Rattle.std.specs.Prelude.{◌≡◌, ◌+◌, ◌-◌, ◌≤◌, ◌<◌, length};
 ghost use Rattle.spec.specs.Record.{u16};
 ghost use Rattle.spec.specs.Sheet.{of_kind};
+ghost use Rattle.records.specs.Kinds.{kind_number};
 ghost use Rattle.records.specs.Lengths.{whole_length};
 ghost use Rattle.records.specs.Records.{between, AtRecord, nth_byte};
 
@@ -11,22 +12,7 @@ pub mod group;
 pub mod kind;
 pub mod record;
 
-// The kinds of records.
-pub const CLASS: u16 = 1;
-
-pub const IMPLEMENTS: u16 = 2;
-
-pub const FIELD: u16 = 3;
-
-pub const LOCAL: u16 = 4;
-
-pub const USES: u16 = 5;
-
-pub const BUILDS: u16 = 6;
-
-pub const MEMBER: u16 = 7;
-
-pub const REFERS: u16 = 8;
+use kind::Kind;
 
 // The length and the kind that each record begins with.
 pub const HEAD_BYTES: usize = 4;
@@ -68,70 +54,55 @@ pub const INNER: u16 = 2;
 
 pub const ALLOWED: u16 = 256;
 
-// A sheet's longest length, the most classes of both sheets together, and the number that stands for no class.
+// A sheet's longest length, and the most classes of both sheets together.
 pub const SHEET_LIMIT: usize = 32768;
 
 pub const CLASS_LIMIT: usize = 256;
-
-pub const NONE: usize = 65535;
 
 // A verdict in the flat row, and the scratch that a call takes.
 pub const VERDICT_BYTES: usize = 2;
 
 pub const SCRATCH_BYTES: usize = 65536;
 
-fn low(x: u8) -> u16
-    ensures { (result ≡ x) × (result < 256) }
-{
-    x as u16
-}
-
 // The little-endian number at i of a slice.
 pub fn word_in(bytes: &[u8], i: usize) -> u16
     requires { i + 1 < length bytes.now }
     ensures { result ≡ u16 bytes.now i }
 {
-    low(bytes[i]) + 256 * low(bytes[i + 1])
-}
-
-// A number read from a sheet, as an index.
-pub fn wide(x: u16) -> usize
-    ensures { (result ≡ x) × (result < 65536) }
-{
-    x as usize
+    u16::from_le_bytes([bytes[i], bytes[i + 1]])
 }
 
 // How many records of a kind a class's bytes are.
-pub fn count_in(bytes: &[u8], kind: u16) -> usize
+pub fn count_in(bytes: &[u8], kind: Kind) -> usize
     requires { AtRecord bytes.now (length bytes.now) 0 }
-    ensures { result ≡ length (of_kind kind (between bytes.now 0 (length bytes.now))) }
+    ensures { result ≡ length (of_kind (kind_number kind) (between bytes.now 0 (length bytes.now))) }
 {
     let mut at = 0;
     let mut m = 0;
     while at < bytes.len() {
-        if word_in(bytes, at + KIND_AT) == kind {
+        if word_in(bytes, at + KIND_AT) == kind.number() {
             m += 1;
         }
-        at += wide(word_in(bytes, at));
+        at += usize::from(word_in(bytes, at));
     }
     m
 }
 
 // Where number i of a kind begins in a class's bytes; their end if there is none.
-pub fn nth_in(bytes: &[u8], kind: u16, i: usize) -> usize
+pub fn nth_in(bytes: &[u8], kind: Kind, i: usize) -> usize
     requires { AtRecord bytes.now (length bytes.now) 0 }
-    ensures { result ≡ nth_byte kind i 0 (between bytes.now 0 (length bytes.now)) }
+    ensures { result ≡ nth_byte (kind_number kind) i 0 (between bytes.now 0 (length bytes.now)) }
 {
     let mut at = 0;
     let mut left = i;
     while at < bytes.len() {
-        if word_in(bytes, at + KIND_AT) == kind {
+        if word_in(bytes, at + KIND_AT) == kind.number() {
             if left == 0 {
                 return at;
             }
             left -= 1;
         }
-        at += wide(word_in(bytes, at));
+        at += usize::from(word_in(bytes, at));
     }
     at
 }
@@ -147,7 +118,7 @@ pub fn whole_length(bytes: &[u8], at: usize) -> usize
     if left < HEAD_BYTES {
         return 0;
     }
-    let len = wide(word_in(bytes, at));
+    let len = usize::from(word_in(bytes, at));
     if len < HEAD_BYTES {
         return 0;
     }

@@ -3,13 +3,11 @@
 #![tactic(auto)]
 
 ghost use Rattle.std.specs.Prelude.{◌≡◌, ℕ, ◌<◌, length};
-ghost use Rattle.spec.specs.Record.{u16};
-ghost use Rattle.spec.specs.Sheet.{Group, group as group_of, class_record};
+ghost use Rattle.spec.specs.Sheet.{Group, group as group_of};
 ghost use Rattle.records.specs.Records.{Carries};
 ghost use Rattle.view.specs.View.{Fits, spliced, Views};
 
 use groups::{Classes, group_end};
-use records::{wide, word_in};
 
 // Where the buffer is cut.
 #[derive(Clone, Copy)]
@@ -51,7 +49,7 @@ pub fn view_bytes<'a>(
 {
     let cut = view.cut;
     let classes = view.classes;
-    let start = wide(starts[c]);
+    let start = usize::from(starts[c]);
     let end = group_end(
         starts,
         classes,
@@ -74,23 +72,4 @@ pub fn view_bytes<'a>(
     let at = to + (k - group.len());
     let after = at + (end - start);
     &user[at..after]
-}
-
-// The number at byte j of the CLASS record of class c: its flags, superclass, encloser.
-pub fn view_word<'a>(
-    library: &'a [u8],
-    user: &'a [u8],
-    group: &'a [u8],
-    starts: &[u16],
-    view: View,
-    c: usize,
-    j: usize,
-) -> u16
-    ghost g: { ℕ → Group }
-    requires groups { group_of library.now (spliced user.now group.now view.cut) ≡ g }
-    requires views { Views view library.now user.now group.now starts.now }
-    requires there { (c < view.classes.all) × (j < 12) }
-    ensures { result ≡ u16 (class_record (g c)) j }
-{
-    word_in(view_bytes(library, user, group, starts, view, c), j)
 }

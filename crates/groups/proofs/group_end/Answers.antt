@@ -11,5 +11,5 @@ returns-then-next-classes-2 c = record { is = λ l u x el eu. sym eu ∙ sym (us
 
 pub returns : goal.returns
 returns c = record {
-  is = λ l u x el eu. c.wide.ensures.0 ∙ x.starts _ (omega arith) ∙ next_start x (omega arith) c.if-next-classes.false (omega arith);
+  is = λ l u x el eu. c.from.ensures ∙ x.starts _ (omega arith) ∙ next_start x (omega arith) c.if-next-classes.false (omega arith);
 }

@@ -1,8 +1,8 @@
-use Rattle.std.proofs.Common.{refl, ◌∙◌, true, false, arith, eq-eqb}
+use Rattle.std.proofs.Common.{refl, sym, ◌∙◌, true, false, arith, eq-eqb}
 use borrow.Author.Tests.{ne_eqb}
 use Rattle.records.proofs.Between.{tiled_step, tiled_room, one_if, counted_start, counted_step, counted_end}
 use Rattle.records.proofs.count_in.Goals as goal
-use Rattle.records.proofs.count_in.Goals.{then-word_in-kind, else-word_in-kind}
+use Rattle.records.proofs.count_in.Goals.{then-word_in-number, else-word_in-number}
 
 pub loop-at-init : goal.loop-at-init
 loop-at-init c = counted_start _ c.requires.tiled refl c.requires.small
@@ -19,10 +19,10 @@ loop-at-smaller c = omega (arith, (tiled_step c.loop-at.invariant.tiled c.loop-a
 pub loop-at-preserved : goal.loop-at-preserved
 unfolding one_if
 loop-at-preserved c =
-    let next = counted_step c.loop-at.invariant c.loop-at-test.true (c.wide-at.ensures.0 ∙ c.word_in-in-loop-at.ensures) c.word_in.ensures in
-    elim c.if-word_in-kind.branch [
-      | then-word_in-kind w ↦ next true (eq-eqb _ _ w.if-word_in-kind.true) w.m-is
-      | else-word_in-kind w ↦ next false (ne_eqb _ _ w.if-word_in-kind.false) (omega arith)
+    let next = counted_step c.loop-at.invariant c.loop-at-test.true (c.from-at.ensures ∙ c.word_in-in-loop-at.ensures) c.word_in.ensures in
+    elim c.if-word_in-number.branch [
+      | then-word_in-number w ↦ next true (eq-eqb _ _ (w.if-word_in-number.true ∙ c.number.ensures)) w.m-is
+      | else-word_in-number w ↦ next false (ne_eqb _ _ (λ e. w.if-word_in-number.false (e ∙ sym c.number.ensures))) (omega arith)
     ]
 
 pub returns : goal.returns

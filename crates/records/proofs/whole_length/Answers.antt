@@ -16,4 +16,4 @@ pub returns-then-left-len : goal.returns-then-left-len
 returns-then-left-len c = (length_none _ _ (λ w. omega (arith, w)), omega arith)
 
 pub returns : goal.returns
-returns c = (length_is _ _ _ (record { size = c.wide-len.ensures.0 ∙ c.word_in.ensures; four = omega arith; ends = omega arith }), omega arith)
+returns c = (length_is _ _ _ (record { size = c.from-len.ensures ∙ c.word_in.ensures; four = omega arith; ends = omega arith }), omega arith)
