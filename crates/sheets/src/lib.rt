@@ -30,7 +30,7 @@ pub struct Sheets<'a> {
     user: &'a [u8],
     group: &'a [u8],
     cut: Cut,
-    index: Index,
+    index: &'a Index,
 }
 
 impl<'a> Model for Sheets<'a> {
@@ -41,7 +41,7 @@ impl<'a> Model for Sheets<'a> {
 
     ghost view = { λ s. record { library = s.library.now; user = spliced s.user.now s.group.now s.cut } };
 
-    ghost invariant = { λ s. Views (view_of s.cut s.index) s.library.now s.user.now s.group.now s.index.starts };
+    ghost invariant = { λ s. Views (view_of s.cut s.index.now) s.library.now s.user.now s.group.now s.index.now.starts };
 }
 
 impl<'a> Sheets<'a> {
@@ -51,9 +51,9 @@ impl<'a> Sheets<'a> {
         user: &'a [u8],
         group: &'a [u8],
         cut: Cut,
-        index: Index,
+        index: &'a Index,
     ) -> Sheets<'a>
-        requires { Views (view_of cut index) library.now user.now group.now index.starts }
+        requires { Views (view_of cut index.now) library.now user.now group.now index.now.starts }
         ensures { result ≡ record { library = library.now; user = spliced user.now group.now cut } }
     {
         Sheets {
@@ -66,8 +66,8 @@ impl<'a> Sheets<'a> {
     }
 
     /// A library sheet and a user sheet that is written.
-    pub fn written(library: &'a [u8], user: &'a [u8], index: Index) -> Sheets<'a>
-        requires { Indexed library.now user.now index.classes.library index.classes.all index.starts }
+    pub fn written(library: &'a [u8], user: &'a [u8], index: &'a Index) -> Sheets<'a>
+        requires { Indexed library.now user.now index.now.classes.library index.now.classes.all index.now.starts }
         ensures { result ≡ record { library = library.now; user = user.now } }
     {
         let used = user.len();
@@ -77,13 +77,6 @@ impl<'a> Sheets<'a> {
             used,
         };
         Sheets::new(library, user, &library[0..0], cut, index)
-    }
-
-    /// Where the classes begin.
-    pub fn index(&self) -> Index
-        ensures { Indexed self.now.library self.now.user result.classes.library result.classes.all result.starts }
-    {
-        self.index
     }
 
     /// How many classes the library has.

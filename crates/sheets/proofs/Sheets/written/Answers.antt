@@ -12,7 +12,7 @@ pub new-requires : goal.new-requires
 unfolding Seamed
 new-requires c = record {
   fits = record { ordered = omega arith; within = omega arith; there = omega arith; seams = inl (refl, refl) };
-  indexed = subst (λ (u : List ℕ). Indexed c.args.library.now u c.args.index.classes.library c.args.index.classes.all c.args.index.starts) (sym (written_lem c.args.user.now)) c.requires;
+  indexed = subst (λ (u : List ℕ). Indexed c.args.library.now u c.args.index.now.classes.library c.args.index.now.classes.all c.args.index.now.starts) (sym (written_lem c.args.user.now)) c.requires;
 }
 
 pub returns : goal.returns
