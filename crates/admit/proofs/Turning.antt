@@ -15,10 +15,10 @@ use Rattle.spec.specs.Refusals.{Refusal, refuse_if, refuse_plain, sheet_refusal,
 use Rattle.laws.proofs.Bools.{true_t, un_not, not_or_l, not_or_r}
 use Rattle.theory.proofs.Answers.{first_none, first_some, first_past, skip_none, plain_none}
 use Rattle.theory.proofs.Cut.{IsGroup}
+use Rattle.groups.specs.Groups.{Indexed}
 use Rattle.view.specs.declared.Cut.{Cut}
 use Rattle.view.specs.View.{Sits, Fits}
 use Rattle.view.proofs.Splice.{sits_fits}
-use Rattle.sheets.specs.Sheets.{Pair, count, library_count}
 use Rattle.admit.specs.Admitting.{admit_refusal, Plain}
 
 -- a whole group between whole groups can be read through the view
@@ -27,9 +27,9 @@ unfolding IsGroup
 group_fits s e t = sits_fits s (true_t (sym e ∙ t))
 
 -- the classes of the user sheet are what is not the library's
-pub own_is : {library user : List ℕ} {p : Pair} → p ≡ record { library = library; user = user } → {k n : ℕ} → n ≡ count p → k ≡ library_count p → n - k ≡ class_count user
+pub own_is : {library user row : List ℕ} {k n own : ℕ} → Indexed library user k n row → own ≡ n - k → own ≡ class_count user
 unfolding total
-own_is {p = p} e en ek = omega (arith, en, ek, ap (λ (q : Pair). class_count q.user) e)
+own_is x e = omega (arith, e, x.nlib_is, x.n_is)
 
 module _ (library user g new : List ℕ) (lines scratch : ℕ) where
   pub not_whole : {b : Bool} → b ≡ whole_group g → b ≡ false → admit_refusal library user g new lines scratch ≡ some (record { number = 14; sheet = 0; byte = 0 })

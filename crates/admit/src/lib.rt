@@ -5,11 +5,12 @@ ghost use Rattle.std.specs.Prelude.{◌≡◌, ◌||◌, ◌≤◌, ltb, length}
 ghost use Rattle.spec.specs.Refusals.{scratch_length};
 ghost use Rattle.view.specs.View.{Sits, spliced};
 ghost use Rattle.refusals.specs.Refusals.{Answers};
+ghost use Rattle.form.specs.Accepting.{FoundIn};
 ghost use Rattle.admit.specs.Admitting.{admit_refusal, Plain};
 
 use records::{SCRATCH_BYTES, SHEET_LIMIT};
 use refusals::{Reason, Refusal};
-use form::accepted::Accepted;
+use form::accepted::Found;
 use form::check;
 use view::{Cut, view_len};
 use whole::whole_group;
@@ -30,19 +31,20 @@ impl Room {
     }
 }
 
-/// The sheets as they would be, or why the group is turned away.
-pub fn admit<'a>(
-    library: &'a [u8],
-    user: &'a [u8],
-    group: &'a [u8],
+/// Why the group is turned away; else what is found of the sheets as they would be is left.
+pub fn admit(
+    library: &[u8],
+    user: &[u8],
+    group: &[u8],
     cut: Cut,
     room: Room,
-) -> Result<Accepted<'a>, Refusal>
+    found: &mut Found,
+) -> Result<(), Refusal>
     requires sits { Sits cut user.now }
     requires short { length library.now ≤ 32768 }
     requires plain { Plain library.now group.now (spliced user.now group.now cut) }
     ensures { Answers (admit_refusal library.now user.now group.now (spliced user.now group.now cut) room.lines room.scratch) result
-        (λ a. a.formed.sheets ≡ record { library = library.now; user = spliced user.now group.now cut }) }
+        (λ _. FoundIn (record { library = library.now; user = spliced user.now group.now cut }) found.new) }
 {
     if !whole_group(group) {
         return Err(Refusal::from(Reason::NoGroup));
@@ -50,10 +52,9 @@ pub fn admit<'a>(
     if user.len().min(SHEET_LIMIT) < view_len(user, group, cut) {
         return Err(Refusal::from(Reason::NoRoom));
     }
-    let accepted = check(library, user, group, cut)?;
-    let sheets = &accepted.formed.sheets;
-    if room.lacks(sheets.count() - sheets.library_count()) {
+    check(library, user, group, cut, found)?;
+    if room.lacks(found.user_count()) {
         return Err(Refusal::from(Reason::TooShort));
     }
-    Ok(accepted)
+    Ok(())
 }

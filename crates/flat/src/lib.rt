@@ -62,7 +62,7 @@ pub fn rejudge(accepted: &Accepted, marks: &[u8], verdicts: &mut [u8], scratch: 
     ensures scratch { scratch.new ≡ cleared scratch.old }
 {
     let formed = &accepted.formed;
-    let mut memo = accepted.memo;
+    let mut memo = accepted.memo();
     let mut markers = [0; CLASS_LIMIT];
     overlays(formed, &mut memo, &mut markers);
     let mut banned = [0; CLASS_LIMIT];

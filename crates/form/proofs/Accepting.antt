@@ -16,7 +16,10 @@ use Rattle.spec.specs.Refusals.{Refusal, refuse_if, refuse_record, deemed_tests,
 use Rattle.spec.specs.Refusals.{form_refusal, deemed_refusal, sheet_refusal, size_refusal, present_refusal}
 use Rattle.laws.proofs.Bools.{nltb}
 use Rattle.theory.proofs.Answers.{some≢none, first_some, first_only, first_past, first_append, keep_head, none_if, none_first, skip_none}
-use Rattle.groups.specs.Groups.{start_of}
+use Rattle.groups.specs.Groups.{start_of, Indexed}
+use Rattle.overlay.specs.Memo.{memo_of}
+use Rattle.form.specs.declared.accepted.Found.{Found}
+use Rattle.form.specs.Accepting.{FoundIn}
 use Rattle.groups.proofs.Held.{in_library}
 use Rattle.view.specs.View.{Seamed, Fits, spliced}
 use Rattle.sheets.specs.Sheets.{Pair, Passed, groups, library_count}
@@ -102,6 +105,16 @@ module _ {library user : List ℕ} {p : Pair} (e : p ≡ record { library = libr
 
     pub all_fine : deemed_refusal p.library p.user ≡ none → sheet_refusal library user ≡ none
     all_fine o = subst (λ (q : Pair). sheet_refusal q.library q.user ≡ none) e (sheet_parts p.library p.user ∙ none_first _ (passed, (g, (o, tt))))
+
+-- what was found of p is found of the two sheets that it stands for
+pub found_in : {p q : Pair} {found : Found} → p ≡ q → Indexed q.library q.user found.index.classes.library found.index.classes.all found.index.starts
+    → form_refusal p.library p.user ≡ none → deemed_refusal p.library p.user ≡ none → found.memo ≡ memo_of (groups p) (library_count p) → FoundIn q found
+found_in {found = found} e x f d k = record {
+  indexed = x;
+  formed = subst (λ (q : Pair). form_refusal q.library q.user ≡ none) e f;
+  deemed = subst (λ (q : Pair). deemed_refusal q.library q.user ≡ none) e d;
+  known = subst (λ (q : Pair). found.memo ≡ memo_of (groups q) (library_count q)) e k;
+}
 
 -- ---- 11
 

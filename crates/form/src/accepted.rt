@@ -1,52 +1,73 @@
-ghost use Rattle.std.specs.Prelude.{◌≡◌};
+ghost use Rattle.std.specs.Prelude.{◌≡◌, ◌≤◌, ◌-◌, None, replicate};
 ghost use Rattle.std.proofs.Math.Option.{none};
 ghost use Rattle.spec.specs.Refusals.{deemed_refusal};
 ghost use Rattle.sheets.specs.Sheets.{groups, library_count};
 ghost use Rattle.overlay.specs.Memo.{memo_of};
 
+use groups::Classes;
 use records::CLASS_LIMIT;
 use sheets::formed::Formed;
 use sheets::{Index, Sheets};
 
-/// Two sheets that nothing refuses, with what was asked on the way: the memo knows the markers of the library's classes.
+/// What acceptance finds of two sheets, in the caller's memory: where the classes begin, and the markers of the library's classes.
+#[derive(Clone, Copy)]
+pub struct Found {
+    pub(crate) index: Index,
+    pub(crate) memo: [Option<u8>; CLASS_LIMIT],
+}
+
+impl Found {
+    /// Nothing is found yet.
+    pub fn new() -> Found
+        ensures { result.memo ≡ replicate 256 None }
+    {
+        Found {
+            index: Index {
+                starts: [0; CLASS_LIMIT],
+                classes: Classes { library: 0, all: 0 },
+            },
+            memo: [None; CLASS_LIMIT],
+        }
+    }
+
+    /// How many classes the user sheet has.
+    pub fn user_count(&self) -> usize
+        requires { self.now.index.classes.library ≤ self.now.index.classes.all }
+        ensures { result ≡ self.now.index.classes.all - self.now.index.classes.library }
+    {
+        self.index.classes.all - self.index.classes.library
+    }
+}
+
+/// Two sheets that nothing refuses, with what was found of them.
 #[derive(Drop)]
 pub struct Accepted<'a> {
     pub formed: Formed<'a>,
-    pub memo: [Option<u8>; CLASS_LIMIT],
+    memo: &'a [Option<u8>; CLASS_LIMIT],
     pub ghost deemed: { deemed_refusal formed.sheets.library formed.sheets.user ≡ none },
-    pub ghost known: { memo ≡ memo_of (groups formed.sheets) (library_count formed.sheets) },
-}
-
-/// What was found of accepted sheets, kept while the user sheet is written.
-#[derive(Clone, Copy)]
-pub struct Found {
-    index: Index,
-    memo: [Option<u8>; CLASS_LIMIT],
+    pub ghost known: { memo.now ≡ memo_of (groups formed.sheets) (library_count formed.sheets) },
 }
 
 impl<'a> Accepted<'a> {
     ghost use Rattle.form.specs.Accepting.{FoundIn};
 
-    /// What was found, without the sheets.
-    pub fn found(&self) -> Found
-        ensures { FoundIn self.now.formed.sheets result }
+    /// The two sheets, the user sheet written.
+    pub fn new(library: &'a [u8], user: &'a [u8], found: &'a Found) -> Accepted<'a>
+        requires { FoundIn (record { library = library.now; user = user.now }) found.now }
+        ensures { result.formed.sheets ≡ record { library = library.now; user = user.now } }
     {
-        Found {
-            index: self.formed.sheets.index(),
-            memo: self.memo,
+        Accepted {
+            formed: Formed {
+                sheets: Sheets::written(library, user, &found.index),
+            },
+            memo: &found.memo,
         }
     }
 
-    /// The same sheets, once the user sheet is written.
-    pub fn written(library: &'a [u8], user: &'a [u8], found: Found) -> Accepted<'a>
-        requires { FoundIn (record { library = library.now; user = user.now }) found }
-        ensures { result.formed.sheets ≡ record { library = library.now; user = user.now } }
+    /// A memo that knows the markers of the library's classes.
+    pub fn memo(&self) -> [Option<u8>; CLASS_LIMIT]
+        ensures { result ≡ memo_of (groups self.now.formed.sheets) (library_count self.now.formed.sheets) }
     {
-        let Found { index, memo } = found;
-        let sheets = Sheets::written(library, user, index);
-        Accepted {
-            formed: Formed { sheets },
-            memo,
-        }
+        *self.memo
     }
 }

@@ -11,12 +11,14 @@ ghost use Rattle.view.specs.View.{Fits, spliced};
 ghost use Rattle.refusals.specs.Refusals.{Answers};
 ghost use Rattle.overlay.specs.Memo.{memo_of};
 ghost use Rattle.form.specs.Form.{deemed_breaks};
+ghost use Rattle.form.specs.Accepting.{FoundIn};
 
-use accepted::Accepted;
+use accepted::{Accepted, Found};
 use markers::clash;
 use passes::both_passes;
 use records::{CLASS_LIMIT, SHEET_LIMIT};
 use refusals::{Reason, Refusal, Side};
+use sheets::Sheets;
 use sheets::formed::Formed;
 use overlay::overlay;
 use second::second_pass;
@@ -48,23 +50,25 @@ fn deemed(formed: &Formed, memo: &mut [Option<u8>]) -> Result<(), Refusal>
 }
 
 /// All of 2 to 11 and 16 of a library sheet, and a user sheet that a buffer, a cut in it and a group stand for.
-pub fn check<'a>(
-    library: &'a [u8],
-    user: &'a [u8],
-    group: &'a [u8],
+pub fn check(
+    library: &[u8],
+    user: &[u8],
+    group: &[u8],
     cut: Cut,
-) -> Result<Accepted<'a>, Refusal>
+    found: &mut Found,
+) -> Result<(), Refusal>
     requires fits { Fits cut user.now group.now }
     requires short { (length library.now ≤ 32768) × (length (spliced user.now group.now cut) ≤ 32768) }
     ensures { Answers (sheet_refusal library.now (spliced user.now group.now cut)) result
-        (λ a. a.formed.sheets ≡ record { library = library.now; user = spliced user.now group.now cut }) }
+        (λ _. FoundIn (record { library = library.now; user = spliced user.now group.now cut }) found.new) }
 {
-    let sheets = both_passes(library, user, group, cut)?;
+    both_passes(library, user, group, cut, &mut found.index)?;
+    let sheets = Sheets::new(library, user, group, cut, &found.index);
     second_pass(&sheets)?;
     let formed = Formed { sheets };
-    let mut memo = [None; CLASS_LIMIT];
-    deemed(&formed, &mut memo)?;
-    Ok(Accepted { formed, memo })
+    found.memo = [None; CLASS_LIMIT];
+    deemed(&formed, &mut found.memo)?;
+    Ok(())
 }
 
 // The sheets' lengths: 1.
@@ -85,8 +89,13 @@ fn lengths(library: &[u8], user: &[u8], used: usize) -> Result<(), Refusal>
     })
 }
 
-/// All of 1 to 11 and 16 of the library sheet, the user buffer and its used length.
-pub fn present<'a>(library: &'a [u8], user: &'a [u8], used: usize) -> Result<Accepted<'a>, Refusal>
+/// The library sheet and the used bytes of the user buffer, if none of 1 to 11 and 16 refuses them.
+pub fn present<'a>(
+    library: &'a [u8],
+    user: &'a [u8],
+    used: usize,
+    found: &'a mut Found,
+) -> Result<Accepted<'a>, Refusal>
     ensures { Answers (present_refusal library.now user.now used) result
         (λ a. a.formed.sheets ≡ record { library = library.now; user = take used user.now }) }
 {
@@ -96,5 +105,6 @@ pub fn present<'a>(library: &'a [u8], user: &'a [u8], used: usize) -> Result<Acc
         to: used,
         used,
     };
-    check(library, user, &library[0..0], cut)
+    check(library, user, &library[0..0], cut, found)?;
+    Ok(Accepted::new(library, &user[..used], found))
 }

@@ -1,15 +1,15 @@
 // The first pass of both sheets.
 ghost use Rattle.std.specs.Prelude.{◌≡◌, ◌+◌, ◌≤◌, length};
 ghost use Rattle.spec.specs.Sheet.{class_count};
-ghost use Rattle.view.specs.View.{Fits, spliced};
+ghost use Rattle.view.specs.View.{Fits, spliced, Views};
+ghost use Rattle.sheets.specs.Sheets.{view_of};
 ghost use Rattle.refusals.specs.Refusals.{Answers};
 ghost use Rattle.pass.specs.Pass.{pass_refusal, Filled};
 ghost use Rattle.form.specs.Form.{passes_refusal};
 
 use groups::Classes;
-use records::CLASS_LIMIT;
 use refusals::{Reason, Refusal, Side};
-use sheets::{Index, Sheets};
+use sheets::Index;
 use pass::first_pass;
 use view::Cut;
 
@@ -39,20 +39,20 @@ fn view_pass(
     )
 }
 
-// 2 to 7 and 16.
-pub(crate) fn both_passes<'a>(
-    library: &'a [u8],
-    user: &'a [u8],
-    group: &'a [u8],
+// 2 to 7 and 16. Where the classes begin is left in the index.
+pub(crate) fn both_passes(
+    library: &[u8],
+    user: &[u8],
+    group: &[u8],
     cut: Cut,
-) -> Result<Sheets<'a>, Refusal>
+    index: &mut Index,
+) -> Result<(), Refusal>
     requires fits { Fits cut user.now group.now }
     requires short { (length library.now ≤ 32768) × (length (spliced user.now group.now cut) ≤ 32768) }
     ensures { Answers (passes_refusal library.now (spliced user.now group.now cut)) result
-        (λ s. s ≡ record { library = library.now; user = spliced user.now group.now cut }) }
+        (λ _. Views (view_of cut index.new) library.now user.now group.now index.new.starts) }
 {
-    let mut starts = [0; CLASS_LIMIT];
-    let first = first_pass(library, Side::Library, 0, 0, &mut starts)?;
+    let first = first_pass(library, Side::Library, 0, 0, &mut index.starts)?;
     if first == 0 {
         return Err(Refusal {
             reason: Reason::WrongCount,
@@ -60,13 +60,10 @@ pub(crate) fn both_passes<'a>(
             byte: library.len(),
         });
     }
-    let all = view_pass(user, group, cut, first, &mut starts)?;
-    let index = Index {
-        starts,
-        classes: Classes {
-            library: first,
-            all,
-        },
+    let all = view_pass(user, group, cut, first, &mut index.starts)?;
+    index.classes = Classes {
+        library: first,
+        all,
     };
-    Ok(Sheets::new(library, user, group, cut, index))
+    Ok(())
 }

@@ -1,6 +1,6 @@
 -- Where a name stands, as a part of the sheet that holds it: it lies inside that sheet.
 -- Assumes nothing.
-use mathlib.Core.Path.{◌≡◌}
+use mathlib.Core.Path.{◌≡◌, ap}
 use mathlib.Core.Bool.{Bool, true, false}
 use mathlib.Core.List.{List, []}
 use mathlib.Core.Option.{none}
@@ -46,6 +46,10 @@ module _ (library user : List ℕ) (used c : ℕ) where
   passed e =
       let q = first_none _ e in
       (present_passed library user used q.0, leb-false (total library (take used user)) c (t_false _ (plain_none (leb (total library (take used user)) c) 13 q.1.0)))
+
+  pub start_small : query_refusal library user used c ≡ none → start_of library (take used user) c ≤ 32768
+  start_small e =
+      let q = passed e in omega (arith, part_small q.0 q.1, ap (λ (n : Part). n.start) (part_is library (take used user) c))
 
   -- refused, there is no part
   pub no_name : {r : Refusal} → Places library user used c (refused r) → Names library user used c []

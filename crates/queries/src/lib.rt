@@ -11,7 +11,7 @@ ghost use Rattle.queries.specs.Answers.{part_of};
 
 use records::NAME_AT;
 use refusals::{Reason, Refusal, Side};
-use form::accepted::Accepted;
+use form::accepted::{Accepted, Found};
 use form::present;
 use overlay::overlay_in_turn;
 
@@ -29,11 +29,12 @@ fn asked<'a>(
     user: &'a [u8],
     used: usize,
     class: usize,
+    found: &'a mut Found,
 ) -> Result<Accepted<'a>, Refusal>
     ensures { Answers (query_refusal library.now user.now used class) result
         (λ a. (a.formed.sheets ≡ record { library = library.now; user = take used user.now }) × (class < count a.formed.sheets)) }
 {
-    let accepted = present(library, user, used)?;
+    let accepted = present(library, user, used, found)?;
     if accepted.formed.sheets.count() <= class {
         return Err(Refusal::from(Reason::NoSuchClass));
     }
@@ -44,15 +45,17 @@ fn asked<'a>(
 pub fn marks(library: &[u8], user: &[u8], used: usize, class: usize) -> Result<u8, Refusal>
     ensures { Marks library.now user.now used class (answer_in (λ m. m) result) }
 {
-    let Accepted { formed, mut memo } = asked(library, user, used, class)?;
-    Ok(overlay_in_turn(&formed, class, &mut memo))
+    let mut found = Found::new();
+    let accepted = asked(library, user, used, class, &mut found)?;
+    Ok(overlay_in_turn(&accepted.formed, class, &mut accepted.memo()))
 }
 
 /// Where a class's name stands: for a caller that wants the refusal, or cannot be handed a part of a slice.
 pub fn name_place(library: &[u8], user: &[u8], used: usize, class: usize) -> Result<Place, Refusal>
     ensures { Places library.now user.now used class (answer_in part_of result) }
 {
-    let accepted = asked(library, user, used, class)?;
+    let mut found = Found::new();
+    let accepted = asked(library, user, used, class, &mut found)?;
     let sheets = &accepted.formed.sheets;
     Ok(Place {
         sheet: sheets.side(class),

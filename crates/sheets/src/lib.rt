@@ -2,6 +2,7 @@
 #![tactic(auto)]
 
 ghost use Rattle.std.specs.Prelude.{◌≡◌, ◌≤◌, ◌<◌, length};
+ghost use Rattle.spec.specs.Sheet.{class_count};
 ghost use Rattle.groups.specs.Groups.{start_of, end_of, sheet_number, Indexed};
 ghost use Rattle.view.specs.View.{Views, spliced};
 ghost use Rattle.refusals.specs.Refusals.{sheet_number as side_number};
@@ -92,6 +93,13 @@ impl<'a> Sheets<'a> {
         ensures passed { Passed self.now }
     {
         self.index.classes.all
+    }
+
+    /// How many classes the user sheet has.
+    pub fn user_count(&self) -> usize
+        ensures { result ≡ class_count self.now.user }
+    {
+        self.index.classes.all - self.index.classes.library
     }
 
     /// The sheet that holds class c.

@@ -3,6 +3,7 @@
 
 ghost use Rattle.std.specs.Prelude.{◌≡◌, ◌<◌, [], ◌∷◌, length, replicate, take};
 ghost use Rattle.spec.specs.Lists.{first_of};
+ghost use Rattle.spec.specs.Sheet.{total};
 ghost use Rattle.spec.specs.Promises.{Judges, Adds, Replaces, Makes};
 ghost use Rattle.spec.specs.Verdicts.{flat};
 ghost use Rattle.spec.specs.Refusals.{present_refusal, no_user_refusal};
@@ -18,7 +19,7 @@ use refusals::{Reason, Refusal};
 use sheets::formed::Formed;
 use admit::{Room, admit};
 use flat::{faulted, marked, rejudge};
-use form::accepted::Accepted;
+use form::accepted::{Accepted, Found};
 use form::present;
 use reach::dependents;
 use view::{Cut, view_len};
@@ -40,7 +41,8 @@ pub fn judge<'a>(
 ) -> Result<Counts, Refusal>
     ensures { Judges flat library.now user.now used verdicts.old scratch.old (answer_in counts_in result) verdicts.new scratch.new }
 {
-    let accepted = present(library, user, used)?;
+    let mut found = Found::new();
+    let accepted = present(library, user, used, &mut found)?;
     let sheets = &accepted.formed.sheets;
     let classes = sheets.count() - sheets.library_count();
     let room = Room {
@@ -93,15 +95,26 @@ fn change<'a>(
         lines: verdicts.len() / VERDICT_BYTES,
         scratch: scratch.len(),
     };
-    let found = admit(library, user, group, cut, room)?.found();
+    let mut found = Found::new();
+    admit(library, user, group, cut, room, &mut found)?;
     let size = view_len(user, group, cut);
     write(user, group, cut);
     *used = size;
-    let accepted = Accepted::written(library, &user[..size], found);
+    let accepted = Accepted::new(library, &user[..size], &found);
     let mut marks = [EMPTY; CLASS_LIMIT];
     touch(&accepted.formed, cut, class, &mut marks);
     rejudge(&accepted, &marks, verdicts, scratch);
     Ok(marked(&marks, accepted.formed.sheets.count()))
+}
+
+// The number that the next class gets.
+#[inline(never)]
+fn next_class(library: &[u8], user: &[u8], used: usize) -> Result<usize, Refusal>
+    ensures { Answers (present_refusal library.now user.now used) result (λ n. n ≡ total library.now (take used user.now)) }
+{
+    let mut found = Found::new();
+    let accepted = present(library, user, used, &mut found)?;
+    Ok(accepted.formed.sheets.count())
 }
 
 /// Puts a group after the user sheet's used bytes; the new class's verdict is written, and its number answered.
@@ -118,7 +131,7 @@ pub fn add<'a>(
         (record { user = user.new; used = used.new; verdicts = verdicts.new }) scratch.new }
 {
     let size = *used;
-    let class = present(library, user, size)?.formed.sheets.count();
+    let class = next_class(library, user, size)?;
     let cut = Cut {
         from: size,
         to: size,
@@ -129,11 +142,13 @@ pub fn add<'a>(
 }
 
 // Where the group of a user class stands in the present sheets, as the cut that takes it out; or the refusal.
-fn cut_of<'a>(library: &'a [u8], user: &'a [u8], used: usize, class: usize) -> Result<Cut, Refusal>
+#[inline(never)]
+fn cut_of(library: &[u8], user: &[u8], used: usize, class: usize) -> Result<Cut, Refusal>
     ensures { Answers (first_of (present_refusal library.now user.now used ∷ no_user_refusal library.now (take used user.now) class ∷ [])) result
         (λ cut. cut ≡ cut_at library.now (take used user.now) used class) }
 {
-    let accepted = present(library, user, used)?;
+    let mut found = Found::new();
+    let accepted = present(library, user, used, &mut found)?;
     let sheets = &accepted.formed.sheets;
     let first = sheets.library_count();
     let end = sheets.count();

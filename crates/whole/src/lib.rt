@@ -4,7 +4,8 @@
 ghost use Rattle.std.specs.Prelude.{◌≡◌, ◌+◌, ◌<◌};
 ghost use Rattle.spec.specs.Refusals.{whole_group};
 
-use records::{CLASS, KIND_AT, whole_length, word_in};
+use records::kind::Kind;
+use records::{KIND_AT, whole_length, word_in};
 
 pub fn whole_group(group: &[u8]) -> bool
     ensures { result ≡ whole_group group.now }
@@ -16,7 +17,7 @@ pub fn whole_group(group: &[u8]) -> bool
             return false;
         }
         let kind = word_in(group, at + KIND_AT);
-        let is_class = kind == CLASS;
+        let is_class = kind == Kind::Class.number();
         let is_first = at == 0;
         if is_class != is_first {
             return false;

@@ -15,6 +15,7 @@ use records::VERDICT_BYTES;
 use records::group::Group;
 use refusals::{Reason, Refusal};
 use sheets::Sheets;
+use form::accepted::Found;
 use form::present;
 use named::names;
 
@@ -55,7 +56,8 @@ fn last_named(sheets: &Sheets, last: usize) -> bool
 fn removable(library: &[u8], user: &[u8], used: usize, lines: usize) -> Result<Last, Refusal>
     ensures { Answers (withdraw_refusal library.now user.now used lines) result (IsLast library.now (take used user.now)) }
 {
-    let accepted = present(library, user, used)?;
+    let mut found = Found::new();
+    let accepted = present(library, user, used, &mut found)?;
     let sheets = &accepted.formed.sheets;
     let all = sheets.count();
     let own = all - sheets.library_count();

@@ -1,15 +1,8 @@
 -- What is learnt, then what is written; the scratch is cleared at the end.
 use Rattle.std.proofs.Common.{sym, arith}
 use Rattle.std.proofs.lemmas.List.{length-take-le}
-use Rattle.sheets.specs.Sheets.{groups, library_count}
-use Rattle.overlay.proofs.Memos.{memo_length, library_low}
 use Rattle.flat.proofs.Clearing.{clear_is}
 use Rattle.flat.proofs.rejudge.Goals as goal
-
-pub slice_bounds-overlays-end : goal.slice_bounds-overlays-end
-slice_bounds-overlays-end c =
-    let f = c.args.accepted.now.formed in
-    sym (memo_length (groups f.sheets) (library_count f.sheets) c.args.accepted.now.known (omega (arith, f.few, library_low f.sheets)))
 
 pub slice_bounds-fill-end-2 : goal.slice_bounds-fill-end-2
 slice_bounds-fill-end-2 c = sym (length-take-le _ c.captures-2.new.row (omega (arith, c.captures-2.ensures.long, c.requires.scratch)))

@@ -5,9 +5,9 @@ use Rattle.spec.specs.Promises.{answer_of}
 use Rattle.theory.proofs.Promised.{answer_refused}
 use Rattle.queries.proofs.marks.Goals as goal
 
-pub returns-in_err-formed : goal.returns-in_err-formed
-returns-in_err-formed c =
-    let p = err_from_is_err_and c.from_residual.result c.from_residual.ensures.1 in rw (p.1, p.2) (record { answered = answer_refused _ c.in_err-formed.ensures })
+pub returns-in_err-accepted : goal.returns-in_err-accepted
+returns-in_err-accepted c =
+    let p = err_from_is_err_and c.from_residual.result c.from_residual.ensures.1 in rw (p.1, p.2) (record { answered = answer_refused _ c.in_err-accepted.ensures })
 
 pub returns : goal.returns
 unfolding answer_of

@@ -15,11 +15,11 @@ word_in-kind-requires c = omega (arith, length_some _ _ c.whole_length-len.ensur
 
 pub returns-then-is_class-is_first : goal.returns-then-is_class-is_first
 returns-then-is_class-is_first c =
-    go_wrong c.loop-at.invariant c.whole_length-len.ensures.0 c.if-len-eq0.false c.word_in-kind.ensures c.if-is_class-is_first.true
+    go_wrong c.loop-at.invariant c.whole_length-len.ensures.0 c.if-len-eq0.false c.word_in-kind.ensures (rw c.number.ensures at c.if-is_class-is_first.true)
 
 pub loop-at-preserved : goal.loop-at-preserved
 loop-at-preserved c =
-    go_right c.loop-at.invariant c.whole_length-len.ensures.0 c.if-len-eq0.false c.word_in-kind.ensures c.if-is_class-is_first.false
+    go_right c.loop-at.invariant c.whole_length-len.ensures.0 c.if-len-eq0.false c.word_in-kind.ensures (rw c.number.ensures at c.if-is_class-is_first.false)
 
 pub returns : goal.returns
 returns c = go_end c.loop-at.invariant c.loop-at-test.false c.is_empty.ensures

@@ -24,17 +24,17 @@ returns-then-own-eq0 c = search (rules, tests)
 
 pub returns-then-last_named : goal.returns-then-last_named
 unfolding withdraw_refusal empty_refusal named_refusal last_class refuse_plain refuse_if first_of total
-returns-then-last_named c = search (rules, tests)
+returns-then-last_named c = search (rules, tests) fits 20000
 
 pub returns-then-lines-own : goal.returns-then-lines-own
 unfolding withdraw_refusal empty_refusal named_refusal few_lines_refusal last_class refuse_plain refuse_if first_of total
-returns-then-lines-own c = search (rules, tests)
+returns-then-lines-own c = search (rules, tests) fits 20000
 
 pub returns : goal.returns
 unfolding withdraw_refusal empty_refusal named_refusal few_lines_refusal last_class refuse_plain refuse_if first_of total
 returns c =
     let all = c.count-all.ensures.count in
     let own = c.library_count.ensures in (
-      search (rules, tests),
+      search (rules, tests) fits 20000,
       last_is c.count-all.ensures.passed (omega (arith, all, own, c.if-own-eq0.false)) c.in_ok-accepted.ensures.1 (omega (arith, all)) c.start.ensures (omega (arith, all, own)),
     )

@@ -1,8 +1,9 @@
 -- The library, then the user sheet, whose starts follow.
-use mathlib.Core.Path.{◌≡◌, refl, sym, ap, ◌∙◌, subst}
+use mathlib.Core.Path.{◌≡◌, sym, ap, ◌∙◌, subst}
 use mathlib.Core.List.{List}
 use Prim.Native.Nat.{ℕ, ◌+◌}
 use native.Mathlib.Omega.{arith}
+use Rattle.std.proofs.Common.{rules}
 use Rattle.std.proofs.lemmas.Result.{err_from_is_err_and}
 use Rattle.spec.specs.Sheet.{class_count}
 use Rattle.view.specs.View.{spliced}
@@ -38,26 +39,20 @@ returns-in_err-all c =
     (user_stops c.args.library.now (spliced c.args.user.now c.args.group.now c.args.cut) (shifted_none 0 _ a.0) (λ z. c.if-first-eq0.false (e ∙ z))
     (ap (λ (n : ℕ). pass_refusal 1 n (spliced c.args.user.now c.args.group.now c.args.cut)) (sym e) ∙ c.in_err-all.ensures.answer))
 
-pub new-requires : goal.new-requires
-new-requires c =
-    let a = c.in_ok-first.ensures.answer in
-    let b = c.in_ok-all.ensures.answer in
-    let e = first_is _ a.1 in
-    let view = spliced c.args.user.now c.args.group.now c.args.cut in
-    record {
-      fits = c.requires.fits;
-      indexed =
-          indexed c.args.library.now view (shifted_none 0 _ a.0) (λ z. c.if-first-eq0.false (e ∙ z)) (ap (λ (n : ℕ). pass_refusal 1 n view) (sym e) ∙ b.0) refl c.first_pass.ensures.starts
-          (subst (λ (n : ℕ). Filled (pass_refusal 1 n view) n 0 view c.first_pass.new.starts c.view_pass.new.starts) e c.view_pass.ensures.starts)
-          c.requires.short.0 c.requires.short.1 e b.1;
-    }
-
 pub returns : goal.returns
 returns c =
     let a = c.in_ok-first.ensures.answer in
     let b = c.in_ok-all.ensures.answer in
-    let e = first_is _ a.1 in (
-      passes_fine c.args.library.now (spliced c.args.user.now c.args.group.now c.args.cut) (shifted_none 0 _ a.0) (λ z. c.if-first-eq0.false (e ∙ z))
-          (ap (λ (n : ℕ). pass_refusal 1 n (spliced c.args.user.now c.args.group.now c.args.cut)) (sym e) ∙ b.0),
-      c.new.ensures,
+    let e = first_is _ a.1 in
+    let view = spliced c.args.user.now c.args.group.now c.args.cut in
+    let some : class_count c.args.library.now ≡ 0 → ⊥ = λ z. c.if-first-eq0.false (e ∙ z) in
+    let fine = ap (λ (n : ℕ). pass_refusal 1 n view) (sym e) ∙ b.0 in (
+      passes_fine c.args.library.now view (shifted_none 0 _ a.0) some fine,
+      record {
+        fits = c.requires.fits;
+        indexed =
+            indexed c.args.library.now view (shifted_none 0 _ a.0) some fine (search rules) c.first_pass.ensures.starts
+            (subst (λ (n : ℕ). Filled (pass_refusal 1 n view) n 0 view c.first_pass.new.starts c.view_pass.new.starts) e c.view_pass.ensures.starts)
+            c.requires.short.0 c.requires.short.1 e b.1;
+      },
     )
