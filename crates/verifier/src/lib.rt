@@ -43,8 +43,7 @@ pub fn judge<'a>(
 {
     let mut found = Found::new();
     let accepted = present(library, user, used, &mut found)?;
-    let sheets = &accepted.formed.sheets;
-    let classes = sheets.count() - sheets.library_count();
+    let classes = accepted.formed.sheets.user_count();
     let room = Room {
         lines: verdicts.len() / VERDICT_BYTES,
         scratch: scratch.len(),

@@ -59,12 +59,11 @@ fn removable(library: &[u8], user: &[u8], used: usize, lines: usize) -> Result<L
     let mut found = Found::new();
     let accepted = present(library, user, used, &mut found)?;
     let sheets = &accepted.formed.sheets;
-    let all = sheets.count();
-    let own = all - sheets.library_count();
+    let own = sheets.user_count();
     if own == 0 {
         return Err(Refusal::from(Reason::NoSuchClass));
     }
-    let class = all - 1;
+    let class = sheets.count() - 1;
     if last_named(sheets, class) {
         return Err(Refusal::from(Reason::Named));
     }
