@@ -1,3 +1,3 @@
-pub mod Views
+pub mod Classes
 pub mod Indexes
 pub mod Present

@@ -3,9 +3,6 @@
 use Rattle.std.specs.Prelude.{List, ℕ, ◌≤◌, length}
 use Rattle.spec.specs.Sheet.{Group, class_count, total, group}
 use Rattle.theory.proofs.Accept.{Clear}
-use Rattle.view.specs.declared.Cut.{Cut}
-use Rattle.view.specs.declared.View.{View}
-use Rattle.sheets.specs.declared.Index.{Index}
 
 -- a library sheet and a user sheet
 pub record Pair : Type 0 where
@@ -31,7 +28,3 @@ pub record Passed (p : Pair) : Type 0 where
   pub user_size : length p.user ≤ 32768
   pub some : 1 ≤ library_count p
   pub few : count p ≤ 256
-
--- the cut and the classes
-abbrev pub view_of : Cut → Index → View
-view_of cut index = record { cut = cut; classes = index.classes }

@@ -1,12 +1,12 @@
 // The library sheet beside a user sheet, both through the first pass: each class is handed out as its records. The user sheet need not be written yet.
 #![tactic(auto)]
 
-ghost use Rattle.std.specs.Prelude.{◌≡◌, ◌≤◌, ◌<◌, length};
+ghost use Rattle.std.specs.Prelude.{◌≡◌, ◌≤◌, ◌<◌};
 ghost use Rattle.spec.specs.Sheet.{class_count};
+ghost use Rattle.records.specs.Records.{Carries};
 ghost use Rattle.groups.specs.Groups.{start_of, end_of, sheet_number, Indexed};
-ghost use Rattle.view.specs.View.{Views, spliced};
 ghost use Rattle.refusals.specs.Refusals.{sheet_number as side_number};
-ghost use Rattle.sheets.specs.Sheets.{Passed, count, groups, library_count, view_of};
+ghost use Rattle.sheets.specs.Sheets.{Passed, count, groups, library_count};
 
 pub mod formed;
 
@@ -15,7 +15,7 @@ use records::CLASS_LIMIT;
 use records::group::Group;
 use refusals::Side;
 use std::marker::Model;
-use view::{Cut, View, view_bytes, view_len};
+use view::Draft;
 
 /// Where the classes of two sheets begin, and how many there are.
 #[derive(Clone, Copy)]
@@ -28,56 +28,32 @@ pub struct Index {
 #[derive(Drop)]
 pub struct Sheets<'a> {
     library: &'a [u8],
-    user: &'a [u8],
-    group: &'a [u8],
-    cut: Cut,
+    user: Draft<'a>,
     index: &'a Index,
 }
 
 impl<'a> Model for Sheets<'a> {
-    ghost use Rattle.view.specs.View.{Views, spliced};
-    ghost use Rattle.sheets.specs.Sheets.{Pair, view_of};
+    ghost use Rattle.groups.specs.Groups.{Indexed};
+    ghost use Rattle.sheets.specs.Sheets.{Pair};
 
     ghost Value = { Pair };
 
-    ghost view = { λ s. record { library = s.library.now; user = spliced s.user.now s.group.now s.cut } };
+    ghost view = { λ s. record { library = s.library.now; user = s.user } };
 
-    ghost invariant = { λ s. Views (view_of s.cut s.index.now) s.library.now s.user.now s.group.now s.index.now.starts };
+    ghost invariant = { λ s. Indexed s.library.now s.user s.index.now.classes.library s.index.now.classes.all s.index.now.starts };
 }
 
 impl<'a> Sheets<'a> {
-    /// A library sheet, and a user sheet that a buffer, a cut in it and a group stand for.
-    pub fn new(
-        library: &'a [u8],
-        user: &'a [u8],
-        group: &'a [u8],
-        cut: Cut,
-        index: &'a Index,
-    ) -> Sheets<'a>
-        requires { Views (view_of cut index.now) library.now user.now group.now index.now.starts }
-        ensures { result ≡ record { library = library.now; user = spliced user.now group.now cut } }
+    /// A library sheet and a user sheet.
+    pub fn new(library: &'a [u8], user: Draft<'a>, index: &'a Index) -> Sheets<'a>
+        requires { Indexed library.now user index.now.classes.library index.now.classes.all index.now.starts }
+        ensures { result ≡ record { library = library.now; user = user.entry } }
     {
         Sheets {
             library,
             user,
-            group,
-            cut,
             index,
         }
-    }
-
-    /// A library sheet and a user sheet that is written.
-    pub fn written(library: &'a [u8], user: &'a [u8], index: &'a Index) -> Sheets<'a>
-        requires { Indexed library.now user.now index.now.classes.library index.now.classes.all index.now.starts }
-        ensures { result ≡ record { library = library.now; user = user.now } }
-    {
-        let used = user.len();
-        let cut = Cut {
-            from: used,
-            to: used,
-            used,
-        };
-        Sheets::new(library, user, &library[0..0], cut, index)
     }
 
     /// How many classes the library has.
@@ -127,7 +103,7 @@ impl<'a> Sheets<'a> {
         requires { c < count self.now }
         ensures { result ≡ end_of self.now.library self.now.user c }
     {
-        let user = view_len(self.user, self.group, self.cut);
+        let user = self.user.len();
         group_end(
             &self.index.starts,
             self.index.classes,
@@ -137,23 +113,24 @@ impl<'a> Sheets<'a> {
         )
     }
 
+    // The bytes of class c.
+    fn bytes(&self, c: usize) -> &'a [u8]
+        requires { c < count self.now }
+        ensures { Carries result.now (groups self.now c) }
+    {
+        let start = self.start(c);
+        let end = self.end(c);
+        match self.side(c) {
+            Side::Library => &self.library[start..end],
+            Side::User => self.user.part(start, end),
+        }
+    }
+
     /// The records of class c.
     pub fn group(&self, c: usize) -> Group<'a>
         requires { c < count self.now }
         ensures { result ≡ groups self.now c }
     {
-        let view = View {
-            cut: self.cut,
-            classes: self.index.classes,
-        };
-        let bytes = view_bytes(
-            self.library,
-            self.user,
-            self.group,
-            &self.index.starts,
-            view,
-            c,
-        );
-        Group::new(bytes)
+        Group::new(self.bytes(c))
     }
 }
