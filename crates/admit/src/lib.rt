@@ -12,7 +12,7 @@ use records::{SCRATCH_BYTES, SHEET_LIMIT};
 use refusals::{Reason, Refusal};
 use form::accepted::Found;
 use form::check;
-use view::{Cut, view_len};
+use view::{Cut, Draft};
 use whole::whole_group;
 
 /// How many verdicts the row takes, and the scratch's length: the two are handed over by their sizes, since nothing is written here.
@@ -31,7 +31,7 @@ impl Room {
     }
 }
 
-/// Why the group is turned away; else what is found of the sheets as they would be is left.
+/// How long the sheet becomes, and what is found of it is left; or why the group is turned away.
 pub fn admit(
     library: &[u8],
     user: &[u8],
@@ -39,22 +39,24 @@ pub fn admit(
     cut: Cut,
     room: Room,
     found: &mut Found,
-) -> Result<(), Refusal>
+) -> Result<usize, Refusal>
     requires sits { Sits cut user.now }
     requires short { length library.now ≤ 32768 }
     requires plain { Plain library.now group.now (spliced user.now group.now cut) }
     ensures { Answers (admit_refusal library.now user.now group.now (spliced user.now group.now cut) room.lines room.scratch) result
-        (λ _. FoundIn (record { library = library.now; user = spliced user.now group.now cut }) found.new) }
+        (λ n. (n ≡ length (spliced user.now group.now cut)) × FoundIn (record { library = library.now; user = spliced user.now group.now cut }) found.new) }
 {
     if !whole_group(group) {
         return Err(Refusal::from(Reason::NoGroup));
     }
-    if user.len().min(SHEET_LIMIT) < view_len(user, group, cut) {
+    let draft = Draft::new(user, group, cut);
+    let size = draft.len();
+    if user.len().min(SHEET_LIMIT) < size {
         return Err(Refusal::from(Reason::NoRoom));
     }
-    check(library, user, group, cut, found)?;
+    check(library, draft, found)?;
     if room.lacks(found.user_count()) {
         return Err(Refusal::from(Reason::TooShort));
     }
-    Ok(())
+    Ok(size)
 }

@@ -2,13 +2,12 @@
 -- Assumes nothing.
 use mathlib.Core.Path.{◌≡◌, refl, sym, ap, ◌∙◌, subst}
 use mathlib.Core.Bool.{Bool, true, false, ◌||◌}
-use mathlib.Core.List.{List, [], ◌∷◌, ◌++◌, map, map-append, append-nil}
-use mathlib.Core.Logic.{inl}
+use mathlib.Core.List.{List, [], ◌∷◌, ◌++◌, map, map-append}
 use mathlib.Core.Option.{Option, none, some}
 use Prim.Native.Nat.{ℕ, ◌≤◌, ◌<◌, min}
 use native.Mathlib.Omega.{arith}
 use lib.Dec.{ltb}
-use lib.ListN.{length, take, length-take, drop_of_length-le}
+use lib.ListN.{length, take}
 use borrow.Author.Tests.{lt-ltb, le-ltb, ltb-true, ltb-false}
 use Rattle.spec.specs.Lists.{first_of}
 use Rattle.spec.specs.Sheet.{class_count, group_start, located_in, located}
@@ -21,7 +20,6 @@ use Rattle.overlay.specs.Memo.{memo_of}
 use Rattle.form.specs.declared.accepted.Found.{Found}
 use Rattle.form.specs.Accepting.{FoundIn}
 use Rattle.groups.proofs.Held.{in_library}
-use Rattle.view.specs.View.{Seamed, Fits, spliced}
 use Rattle.sheets.specs.Sheets.{Pair, Passed, groups, library_count}
 use Rattle.sheets.proofs.Indexes.{indexed}
 use Rattle.pass.proofs.Places.{answer}
@@ -68,17 +66,6 @@ sizes_told library user used e =
     false_if : (b : Bool) → (b ≡ true → ⊥) → b ≡ false
     false_if true n = absurd (n refl)
     false_if false n = refl
-
--- the used bytes as a cut at their end
-pub used_fits : {user : List ℕ} {used : ℕ} → used ≤ length user → Fits (record { from = used; to = used; used = used }) user []
-unfolding Seamed
-used_fits h = record { ordered = omega arith; within = omega arith; there = h; seams = inl (refl, refl) }
-
-pub used_is : (user : List ℕ) (used : ℕ) → spliced user [] (record { from = used; to = used; used = used }) ≡ take used user
-unfolding spliced
-used_is user used =
-    let l : length (take used user) ≤ used = omega (arith, length-take used user) in
-    rw (drop_of_length-le (take used user) l) (append-nil (take used user))
 
 -- ---- the whole
 

@@ -4,21 +4,18 @@ use mathlib.Core.Path.{◌≡◌, refl, sym, ap, ◌∙◌, subst}
 use mathlib.Core.List.{List, [], ◌∷◌, ◌++◌, append-nil}
 use mathlib.Core.Logic.{◌⊎◌, inl, inr}
 use mathlib.Core.Option.{Option, none, some}
-use Prim.Native.Nat.{ℕ, ◌+◌, ◌-◌, ◌≤◌}
+use Prim.Native.Nat.{ℕ, ◌+◌, ◌≤◌}
 use native.Mathlib.Nat.{zero-add, add_assoc}
 use native.Mathlib.Omega.{arith}
-use lib.ListN.{length, take, drop, length-take, drop_of_length-le}
+use lib.ListN.{length, length-append}
 use Rattle.std.specs.Prelude.{Result}
 use Rattle.spec.specs.Lists.{first_of, concat}
 use Rattle.spec.specs.Sheet.{class_count}
 use Rattle.spec.specs.Refusals.{Refusal}
-use Rattle.laws.proofs.Parts.{part_rest}
 use Rattle.theory.proofs.Cut.{IsGroup}
 use Rattle.theory.proofs.Answers.{some≢none, first_some, first_past, first_none}
 use Rattle.theory.proofs.Accept.{Clear, clear}
-use Rattle.view.specs.declared.Cut.{Cut}
-use Rattle.view.specs.View.{Around, Seamed, Fits, spliced}
-use Rattle.view.proofs.Splice.{length_spliced}
+use Rattle.view.specs.View.{Around, Parted}
 use Rattle.refusals.specs.declared.Refusal.{Refusal as Refused}
 use Rattle.refusals.specs.Refusals.{Answers}
 use Rattle.pass.specs.Pass.{pass_refusal, shifted, Filled}
@@ -85,22 +82,14 @@ module _ (n at : ℕ) {a b : List ℕ} (k : Seam a b) where
           ∙ rw (ea, c, u.rows fine) (sym (k.row row₀ n at));
     }
 
--- ---- the parts of a view
+-- ---- the parts of a draft
 
--- the used bytes after the cut
-abbrev tail : Cut → List ℕ → List ℕ
-tail cut user = drop cut.to (take cut.used user)
-
-module _ {cut : Cut} {user group : List ℕ} (f : Fits cut user group) where
-  pub seams_of : Seam (take cut.from user) (group ++ tail cut user) × Seam group (tail cut user)
-  unfolding Seamed
-  seams_of = go f.seams
+module _ {sheet head group tail : List ℕ} (p : Parted sheet head group tail) where
+  pub seams_of : Seam head (group ++ tail) × Seam group tail
+  seams_of = go p.seams
     where
-      go : ((group ≡ []) × (cut.from ≡ cut.used)) ⊎ (Around cut user × IsGroup group) → Seam (take cut.from user) (group ++ tail cut user) × Seam group (tail cut user)
-      go (inl e) =
-          let l : length (take cut.used user) ≤ cut.to = omega (arith, length-take cut.used user, e.1, f.ordered) in
-          let z : tail cut user ≡ [] = drop_of_length-le (take cut.used user) l in
-          rw (e.0, z) (seam_nothing _, seam_nothing _)
+      go : ((group ≡ []) × (tail ≡ [])) ⊎ (Around head tail × IsGroup group) → Seam head (group ++ tail) × Seam group tail
+      go (inl e) = rw (e.0, e.1) (seam_nothing _, seam_nothing _)
       go (inr e) =
           let a = e.0 in
           rw (a.before, a.after)
@@ -109,39 +98,16 @@ module _ {cut : Cut} {user group : List ℕ} (f : Fits cut user group) where
             subst (λ (s : List ℕ). Seam s (concat a.later)) (append-nil group) (seam_groups (group ∷ []) a.later (e.1, tt) a.later_whole),
           ))
 
-  -- each part lies in the sheet
-  pub record Sizes : Type 0 where
-    pub before : 0 + length (take cut.from user) ≤ 32768
-    pub within : cut.from + length group ≤ 32768
-    pub after : cut.from + length group + length (take (cut.used - cut.to) (drop cut.to user)) ≤ 32768
-    pub ends : cut.from ≡ 0 + length (take cut.from user)
+  pub all_parts : length sheet ≡ length head + (length group + length tail)
+  all_parts = omega (arith, ap length p.joined, length-append head (group ++ tail), length-append group tail)
 
-  pub sizes : length (spliced user group cut) ≤ 32768 → Sizes
-  sizes h =
-      let l = length_spliced user group cut f in
-      record {
-        before = omega (arith, length-take cut.from user);
-        within = omega arith;
-        after = omega (arith, length-take (cut.used - cut.to) (drop cut.to user));
-        ends = omega (arith, length-take cut.from user, f.ordered, f.within, f.there);
-      }
-
-  -- the bytes after the cut, as they are sliced
-  pub tail_is : take (cut.used - cut.to) (drop cut.to user) ≡ tail cut user
-  tail_is = sym (rw (zero-add cut.to) at (part_rest user 0 cut.used cut.to))
-
-  -- all parts are the sheet
+  -- the first begins the sheet, and each of the others where the one before it ends
   module _ (n : ℕ) where
-    pub view_stops : {r : Refusal} → shifted 0 (pass_refusal 1 n (take cut.from user ++ (group ++ tail cut user))) ≡ some r → pass_refusal 1 n (spliced user group cut) ≡ some r
-    unfolding spliced
-    view_stops e = sym (shifted_zero (pass_refusal 1 n (take cut.from user ++ (group ++ tail cut user)))) ∙ e
+    pub sheet_stops : {r : Refusal} → shifted 0 (pass_refusal 1 n (head ++ (group ++ tail))) ≡ some r → pass_refusal 1 n sheet ≡ some r
+    sheet_stops e = rw p.joined (sym (shifted_zero (pass_refusal 1 n (head ++ (group ++ tail)))) ∙ e)
 
-    pub view_answer : (q : Result ℕ Refused) → Counted (shifted 0 (pass_refusal 1 n (take cut.from user ++ (group ++ tail cut user)))) q (n + class_count (take cut.from user ++ (group ++ tail cut user)))
-        → Counted (pass_refusal 1 n (spliced user group cut)) q (n + class_count (spliced user group cut))
-    unfolding spliced
-    view_answer q w = rw (← shifted_zero (pass_refusal 1 n (take cut.from user ++ (group ++ tail cut user)))) w
+    pub sheet_answer : (q : Result ℕ Refused) → Counted (shifted 0 (pass_refusal 1 n (head ++ (group ++ tail)))) q (n + class_count (head ++ (group ++ tail))) → Counted (pass_refusal 1 n sheet) q (n + class_count sheet)
+    sheet_answer q w = rw (p.joined, ← shifted_zero (pass_refusal 1 n (head ++ (group ++ tail)))) w
 
-    pub view_rows : {row₀ row : List ℕ} → Filled (pass_refusal 1 n (take cut.from user ++ (group ++ tail cut user))) n 0 (take cut.from user ++ (group ++ tail cut user)) row₀ row
-        → Filled (pass_refusal 1 n (spliced user group cut)) n 0 (spliced user group cut) row₀ row
-    unfolding spliced
-    view_rows w = w
+    pub sheet_rows : {row₀ row : List ℕ} → Filled (pass_refusal 1 n (head ++ (group ++ tail))) n 0 (head ++ (group ++ tail)) row₀ row → Filled (pass_refusal 1 n sheet) n 0 sheet row₀ row
+    sheet_rows w = rw p.joined w

@@ -8,6 +8,7 @@ use groups::Classes;
 use records::CLASS_LIMIT;
 use sheets::formed::Formed;
 use sheets::{Index, Sheets};
+use view::Draft;
 
 /// What acceptance finds of two sheets, in the caller's memory: where the classes begin, and the markers of the library's classes.
 #[derive(Clone, Copy)]
@@ -58,7 +59,7 @@ impl<'a> Accepted<'a> {
     {
         Accepted {
             formed: Formed {
-                sheets: Sheets::written(library, user, &found.index),
+                sheets: Sheets::new(library, Draft::written(user), &found.index),
             },
             memo: &found.memo,
         }

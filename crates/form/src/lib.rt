@@ -7,7 +7,6 @@ mod passes;
 ghost use Rattle.std.specs.Prelude.{◌≡◌, ◌≤◌, length, take, replicate, None};
 ghost use Rattle.spec.specs.Refusals.{deemed_refusal, size_refusal, sheet_refusal, present_refusal};
 ghost use Rattle.sheets.specs.Sheets.{groups, library_count};
-ghost use Rattle.view.specs.View.{Fits, spliced};
 ghost use Rattle.refusals.specs.Refusals.{Answers};
 ghost use Rattle.overlay.specs.Memo.{memo_of};
 ghost use Rattle.form.specs.Form.{deemed_breaks};
@@ -22,7 +21,7 @@ use sheets::Sheets;
 use sheets::formed::Formed;
 use overlay::overlay;
 use second::second_pass;
-use view::Cut;
+use view::Draft;
 
 // Whether the deemed markers of class c are refused: they clash, or class 0 has any.
 fn deemed_breaks(c: usize, markers: u8) -> bool
@@ -49,21 +48,13 @@ fn deemed(formed: &Formed, memo: &mut [Option<u8>]) -> Result<(), Refusal>
     Ok(())
 }
 
-/// All of 2 to 11 and 16 of a library sheet, and a user sheet that a buffer, a cut in it and a group stand for.
-pub fn check(
-    library: &[u8],
-    user: &[u8],
-    group: &[u8],
-    cut: Cut,
-    found: &mut Found,
-) -> Result<(), Refusal>
-    requires fits { Fits cut user.now group.now }
-    requires short { (length library.now ≤ 32768) × (length (spliced user.now group.now cut) ≤ 32768) }
-    ensures { Answers (sheet_refusal library.now (spliced user.now group.now cut)) result
-        (λ _. FoundIn (record { library = library.now; user = spliced user.now group.now cut }) found.new) }
+/// All of 2 to 11 and 16 of a library sheet and a user sheet that need not be written yet.
+pub fn check(library: &[u8], user: Draft, found: &mut Found) -> Result<(), Refusal>
+    requires short { (length library.now ≤ 32768) × (length user ≤ 32768) }
+    ensures { Answers (sheet_refusal library.now user.entry) result (λ _. FoundIn (record { library = library.now; user = user.entry }) found.new) }
 {
-    both_passes(library, user, group, cut, &mut found.index)?;
-    let sheets = Sheets::new(library, user, group, cut, &found.index);
+    both_passes(library, &user, &mut found.index)?;
+    let sheets = Sheets::new(library, user, &found.index);
     second_pass(&sheets)?;
     let formed = Formed { sheets };
     found.memo = [None; CLASS_LIMIT];
@@ -100,11 +91,7 @@ pub fn present<'a>(
         (λ a. a.formed.sheets ≡ record { library = library.now; user = take used user.now }) }
 {
     lengths(library, user, used)?;
-    let cut = Cut {
-        from: used,
-        to: used,
-        used,
-    };
-    check(library, user, &library[0..0], cut, found)?;
-    Ok(Accepted::new(library, &user[..used], found))
+    let sheet = &user[..used];
+    check(library, Draft::written(sheet), found)?;
+    Ok(Accepted::new(library, sheet, found))
 }

@@ -1,56 +1,35 @@
 // The first pass of both sheets.
 ghost use Rattle.std.specs.Prelude.{◌≡◌, ◌+◌, ◌≤◌, length};
 ghost use Rattle.spec.specs.Sheet.{class_count};
-ghost use Rattle.view.specs.View.{Fits, spliced, Views};
-ghost use Rattle.sheets.specs.Sheets.{view_of};
+ghost use Rattle.groups.specs.Groups.{Indexed};
 ghost use Rattle.refusals.specs.Refusals.{Answers};
 ghost use Rattle.pass.specs.Pass.{pass_refusal, Filled};
 ghost use Rattle.form.specs.Form.{passes_refusal};
 
 use groups::Classes;
+use pass::first_pass;
 use refusals::{Reason, Refusal, Side};
 use sheets::Index;
-use pass::first_pass;
-use view::Cut;
+use view::{Draft, Parts};
 
-// The first pass of a user sheet, where `base` classes stand before it: of the bytes before the cut, of the group, then of the bytes after the cut. Each is
-// a plain slice.
-fn view_pass(
-    user: &[u8],
-    group: &[u8],
-    cut: Cut,
-    base: usize,
-    starts: &mut [u16],
-) -> Result<usize, Refusal>
-    requires fits { Fits cut user.now group.now }
-    requires short { length (spliced user.now group.now cut) ≤ 32768 }
+// The first pass of a user sheet, where `base` classes stand before it: part after part, each a plain slice.
+fn user_pass(user: &Draft, base: usize, starts: &mut [u16]) -> Result<usize, Refusal>
+    requires short { length user.now ≤ 32768 }
     requires bounds { (base ≤ 256) × (256 ≤ length starts.old) }
-    ensures answer { Answers (pass_refusal 1 base (spliced user.now group.now cut)) result (λ n. n ≡ base + class_count (spliced user.now group.now cut)) }
-    ensures starts { Filled (pass_refusal 1 base (spliced user.now group.now cut)) base 0 (spliced user.now group.now cut) starts.old starts.new }
+    ensures answer { Answers (pass_refusal 1 base user.now) result (λ n. n ≡ base + class_count user.now) }
+    ensures starts { Filled (pass_refusal 1 base user.now) base 0 user.now starts.old starts.new }
 {
-    let before = first_pass(&user[..cut.from], Side::User, base, 0, starts)?;
-    let within = first_pass(group, Side::User, before, cut.from, starts)?;
-    first_pass(
-        &user[cut.to..cut.used],
-        Side::User,
-        within,
-        cut.from + group.len(),
-        starts,
-    )
+    let Parts { head, group, tail } = user.parts();
+    let before = first_pass(head, Side::User, base, 0, starts)?;
+    let within = first_pass(group, Side::User, before, head.len(), starts)?;
+    first_pass(tail, Side::User, within, head.len() + group.len(), starts)
 }
 
 // 2 to 7 and 16. Where the classes begin is left in the index.
-pub(crate) fn both_passes(
-    library: &[u8],
-    user: &[u8],
-    group: &[u8],
-    cut: Cut,
-    index: &mut Index,
-) -> Result<(), Refusal>
-    requires fits { Fits cut user.now group.now }
-    requires short { (length library.now ≤ 32768) × (length (spliced user.now group.now cut) ≤ 32768) }
-    ensures { Answers (passes_refusal library.now (spliced user.now group.now cut)) result
-        (λ _. Views (view_of cut index.new) library.now user.now group.now index.new.starts) }
+pub(crate) fn both_passes(library: &[u8], user: &Draft, index: &mut Index) -> Result<(), Refusal>
+    requires short { (length library.now ≤ 32768) × (length user.now ≤ 32768) }
+    ensures { Answers (passes_refusal library.now user.now) result
+        (λ _. Indexed library.now user.now index.new.classes.library index.new.classes.all index.new.starts) }
 {
     let first = first_pass(library, Side::Library, 0, 0, &mut index.starts)?;
     if first == 0 {
@@ -60,7 +39,7 @@ pub(crate) fn both_passes(
             byte: library.len(),
         });
     }
-    let all = view_pass(user, group, cut, first, &mut index.starts)?;
+    let all = user_pass(user, first, &mut index.starts)?;
     index.classes = Classes {
         library: first,
         all,

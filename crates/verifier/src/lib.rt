@@ -22,7 +22,7 @@ use flat::{faulted, marked, rejudge};
 use form::accepted::{Accepted, Found};
 use form::present;
 use reach::dependents;
-use view::{Cut, view_len};
+use view::Cut;
 
 /// How many user classes there are, and how many are faulted.
 #[derive(Clone, Copy, PartialEq, Eq, Debug)]
@@ -95,8 +95,7 @@ fn change<'a>(
         scratch: scratch.len(),
     };
     let mut found = Found::new();
-    admit(library, user, group, cut, room, &mut found)?;
-    let size = view_len(user, group, cut);
+    let size = admit(library, user, group, cut, room, &mut found)?;
     write(user, group, cut);
     *used = size;
     let accepted = Accepted::new(library, &user[..size], &found);
@@ -131,11 +130,7 @@ pub fn add<'a>(
 {
     let size = *used;
     let class = next_class(library, user, size)?;
-    let cut = Cut {
-        from: size,
-        to: size,
-        used: size,
-    };
+    let cut = Cut::at_end(size);
     change(library, user, used, group, cut, class, verdicts, scratch)?;
     Ok(class)
 }

@@ -11,15 +11,15 @@ returns-in_err-class c =
 
 pub change-requires : goal.change-requires
 change-requires c =
-    let e = c.in_ok-class.ensures.1 in rw e (add_puts _ _ _ c.args.verdicts.now c.args.scratch.now _ c.in_ok-class.ensures.0)
+    let e = c.in_ok-class.ensures.1 in rw (e, c.at_end-cut.ensures) (add_puts _ _ _ c.args.verdicts.now c.args.scratch.now _ c.in_ok-class.ensures.0)
 
 pub returns-in_err-change : goal.returns-in_err-change
 returns-in_err-change c =
     let e = c.in_ok-class.ensures.1 in
     let p = err_from_is_err_and c.from_residual-in_err-change.result c.from_residual-in_err-change.ensures.1 in
-    rw (p.1, p.2) (add_turned _ _ _ _ _ _ c.in_ok-class.ensures.0 (rw e at c.change.ensures) (ap (answer_in (λ (n : ℕ). n)) c.in_err-change.was))
+    rw (p.1, p.2) (add_turned _ _ _ _ _ _ c.in_ok-class.ensures.0 (rw (e, c.at_end-cut.ensures) at c.change.ensures) (ap (answer_in (λ (n : ℕ). n)) c.in_err-change.was))
 
 pub returns : goal.returns
 returns c =
     let e = c.in_ok-class.ensures.1 in
-    add_made _ _ _ _ _ _ c.in_ok-class.ensures.0 (rw e at c.change.ensures) (ap (answer_in (λ (n : ℕ). n)) c.in_ok-change.was) e
+    add_made _ _ _ _ _ _ c.in_ok-class.ensures.0 (rw (e, c.at_end-cut.ensures) at c.change.ensures) (ap (answer_in (λ (n : ℕ). n)) c.in_ok-change.was) e

@@ -6,7 +6,6 @@ use native.Mathlib.Omega.{arith}
 use Rattle.std.proofs.Common.{rules}
 use Rattle.std.proofs.lemmas.Result.{err_from_is_err_and}
 use Rattle.spec.specs.Sheet.{class_count}
-use Rattle.view.specs.View.{spliced}
 use Rattle.pass.specs.Pass.{pass_refusal, Filled}
 use Rattle.form.proofs.Parts.{shifted_zero, shifted_none}
 use Rattle.form.proofs.Sheets.{library_stops, library_empty, library_few, user_stops, passes_fine, indexed}
@@ -25,10 +24,10 @@ pub returns-then-first-eq0 : goal.returns-then-first-eq0
 returns-then-first-eq0 c =
     let a = c.in_ok-first.ensures.answer in library_empty _ _ (shifted_none 0 _ a.0) (sym (first_is _ a.1) ∙ c.if-first-eq0.true)
 
-pub view_pass-requires-clause-bounds : goal.view_pass-requires-clause-bounds
-view_pass-requires-clause-bounds c =
+pub user_pass-requires-clause-bounds : goal.user_pass-requires-clause-bounds
+user_pass-requires-clause-bounds c =
     let a = c.in_ok-first.ensures.answer in
-    (omega (arith, library_few c.args.library.now (spliced c.args.user.now c.args.group.now c.args.cut) (shifted_none 0 _ a.0), a.1), omega (arith, c.first_pass.auto.starts))
+    (omega (arith, library_few c.args.library.now c.args.user.now (shifted_none 0 _ a.0), a.1), omega (arith, c.first_pass.auto.starts))
 
 pub returns-in_err-all : goal.returns-in_err-all
 returns-in_err-all c =
@@ -36,23 +35,18 @@ returns-in_err-all c =
     let e = first_is _ a.1 in
     let p = err_from_is_err_and c.from_residual-in_err-all.result c.from_residual-in_err-all.ensures.1 in
     rw (p.1, p.2)
-    (user_stops c.args.library.now (spliced c.args.user.now c.args.group.now c.args.cut) (shifted_none 0 _ a.0) (λ z. c.if-first-eq0.false (e ∙ z))
-    (ap (λ (n : ℕ). pass_refusal 1 n (spliced c.args.user.now c.args.group.now c.args.cut)) (sym e) ∙ c.in_err-all.ensures.answer))
+    (user_stops c.args.library.now c.args.user.now (shifted_none 0 _ a.0) (λ z. c.if-first-eq0.false (e ∙ z))
+    (ap (λ (n : ℕ). pass_refusal 1 n c.args.user.now) (sym e) ∙ c.in_err-all.ensures.answer))
 
 pub returns : goal.returns
 returns c =
     let a = c.in_ok-first.ensures.answer in
     let b = c.in_ok-all.ensures.answer in
     let e = first_is _ a.1 in
-    let view = spliced c.args.user.now c.args.group.now c.args.cut in
     let some : class_count c.args.library.now ≡ 0 → ⊥ = λ z. c.if-first-eq0.false (e ∙ z) in
-    let fine = ap (λ (n : ℕ). pass_refusal 1 n view) (sym e) ∙ b.0 in (
-      passes_fine c.args.library.now view (shifted_none 0 _ a.0) some fine,
-      record {
-        fits = c.requires.fits;
-        indexed =
-            indexed c.args.library.now view (shifted_none 0 _ a.0) some fine (search rules) c.first_pass.ensures.starts
-            (subst (λ (n : ℕ). Filled (pass_refusal 1 n view) n 0 view c.first_pass.new.starts c.view_pass.new.starts) e c.view_pass.ensures.starts)
-            c.requires.short.0 c.requires.short.1 e b.1;
-      },
+    let fine = ap (λ (n : ℕ). pass_refusal 1 n c.args.user.now) (sym e) ∙ b.0 in (
+      passes_fine c.args.library.now c.args.user.now (shifted_none 0 _ a.0) some fine,
+      indexed c.args.library.now c.args.user.now (shifted_none 0 _ a.0) some fine (search rules) c.first_pass.ensures.starts
+          (subst (λ (n : ℕ). Filled (pass_refusal 1 n c.args.user.now) n 0 c.args.user.now c.first_pass.new.starts c.user_pass.new.starts) e c.user_pass.ensures.starts)
+          c.requires.short.0 c.requires.short.1 e b.1,
     )
