@@ -8,6 +8,7 @@ use native.Mathlib.Omega.{arith}
 use lib.Dec.{ltb, lt→ltb}
 use lib.ListN.{length, get_or, take, length-append}
 use lib.Seq.{take-length, length-take-le}
+use Rattle.std.specs.Prelude.{Result, Ok, Err}
 use Rattle.spec.specs.Lists.{gather, span}
 use Rattle.spec.specs.Sheet.{class_count, total}
 use Rattle.spec.specs.Verdicts.{user_verdict, flat, flat_lines, flat_at, bytes_of, flat_rewritten}
@@ -20,11 +21,10 @@ use Rattle.theory.proofs.FlatRow.{read_new, rewritten_length}
 use Rattle.text.specs.Text.{overlaid}
 use Rattle.text.specs.Written.{Written}
 use Rattle.text.proofs.Digits.{decimal_length}
-use Rattle.form.specs.Form.{refusal_of}
-use Rattle.form.specs.declared.Refusal.{Refusal}
-use Rattle.verifier.specs.Answers.{judged_answer}
-use Rattle.verifier.specs.declared.Judged.{Judged}
-use Rattle.verifier.specs.declared.Judged.TheVariants.{Fine, Refused}
+use Rattle.refusals.specs.Refusals.{refusal_of, answer_in}
+use Rattle.refusals.specs.declared.Refusal.{Refusal}
+use Rattle.verifier.specs.Answers.{counts_in}
+use Rattle.verifier.specs.declared.Counts.{Counts as Counted}
 use Rattle.theory.proofs.Promised.{told_fine, told_refused}
 use Rattle.listing_text.specs.Listing.{classes_word, faulted_word, counts_text, refusal_text, line_text, listed_lines, listing_text}
 use Rattle.listing_text.specs.Rows.{RowHolds}
@@ -39,17 +39,17 @@ lines_of : (verdicts : List ℕ) → length verdicts ≡ 512 → flat_lines verd
 unfolding flat_lines
 lines_of verdicts room = rw room
 
-module _ (library user : List ℕ) (used : ℕ) (verdicts scratch : List ℕ) (room : length verdicts ≡ 512) (judged : Judged) {verdicts' scratch' : List ℕ}
-    (j : Judges flat library user used verdicts scratch (judged_answer judged) verdicts' scratch') where
+module _ (library user : List ℕ) (used : ℕ) (verdicts scratch : List ℕ) (room : length verdicts ≡ 512) (judged : Result Counted Refusal) {verdicts' scratch' : List ℕ}
+    (j : Judges flat library user used verdicts scratch (answer_in counts_in judged) verdicts' scratch') where
   pub scratch_after_lem : scratch' ≡ afterwards (judge_refusal library user used listed_lines (length scratch)) scratch (cleared scratch)
   scratch_after_lem = j.scratch_is ∙ ap (λ (k : ℕ). afterwards (judge_refusal library user used k (length scratch)) scratch (cleared scratch)) (lines_of verdicts room)
 
   -- a refusal
-  module _ {r : Refusal} (f : judged ≡ Refused r) where
+  module _ {r : Refusal} (f : judged ≡ Err r) where
     refused_by : judge_refusal library user used listed_lines (length scratch) ≡ some (refusal_of r)
     refused_by =
         ap (λ (k : ℕ). judge_refusal library user used k (length scratch)) (sym (lines_of verdicts room))
-        ∙ told_refused (judge_refusal library user used (flat_lines verdicts) (length scratch)) _ (ap judged_answer (sym f) ∙ j.answered)
+        ∙ told_refused (judge_refusal library user used (flat_lines verdicts) (length scratch)) _ (ap (answer_in counts_in) (sym f) ∙ j.answered)
 
     refused_text : refusal_text (refusal_of r) ≡ listing_text library user used (length scratch)
     unfolding listing_text
@@ -60,9 +60,9 @@ module _ (library user : List ℕ) (used : ℕ) (verdicts scratch : List ℕ) (r
     refused_listing w = from_start (same_text refused_text w)
 
   -- counts and lines
-  module _ {classes faulted : ℕ} (f : judged ≡ Fine classes faulted) where
-    told : (judge_refusal library user used (flat_lines verdicts) (length scratch) ≡ none) × (record { classes = classes; faulted = faulted } ≡ counts_of library (take used user))
-    told = told_fine (judge_refusal library user used (flat_lines verdicts) (length scratch)) (counts_of library (take used user)) (ap judged_answer (sym f) ∙ j.answered)
+  module _ {counts : Counted} (f : judged ≡ Ok counts) where
+    told : (judge_refusal library user used (flat_lines verdicts) (length scratch) ≡ none) × (counts_in counts ≡ counts_of library (take used user))
+    told = told_fine (judge_refusal library user used (flat_lines verdicts) (length scratch)) (counts_of library (take used user)) (ap (answer_in counts_in) (sym f) ∙ j.answered)
 
     accepted_sheets : present_refusal library user used ≡ none
     unfolding judge_refusal
@@ -110,7 +110,7 @@ module _ (library user : List ℕ) (used : ℕ) (verdicts scratch : List ℕ) (r
           λ k. record { rule = a k; record_number = b k };
     }
 
-    listed_text : counts_text (record { classes = classes; faulted = faulted }) ++ gather (line_text library (take used user)) (span 0 (class_count (take used user)))
+    listed_text : counts_text (counts_in counts) ++ gather (line_text library (take used user)) (span 0 (class_count (take used user)))
         ≡ listing_text library user used (length scratch)
     unfolding listing_text
     listed_text =
@@ -118,7 +118,7 @@ module _ (library user : List ℕ) (used : ℕ) (verdicts scratch : List ℕ) (r
         ap (λ (k : ℕ). judge_refusal library user used k (length scratch)) (sym (lines_of verdicts room)) ∙ told.0 in
         rw told.1 (rw (o, listing_text))
 
-    pub accepted_listing : {out out' out'' : List ℕ} {at r : ℕ} → Written out 0 (counts_text (record { classes = classes; faulted = faulted })) out' at
+    pub accepted_listing : {out out' out'' : List ℕ} {at r : ℕ} → Written out 0 (counts_text (counts_in counts)) out' at
         → Written out' at (gather (line_text library (take used user)) (span 0 (class_count (take used user)))) out'' r
         → (r ≡ length (listing_text library user used (length scratch))) × (out'' ≡ overlaid (listing_text library user used (length scratch)) out)
     accepted_listing v w = from_start (same_text listed_text (then v w))

@@ -10,17 +10,18 @@ ghost use Rattle.spec.specs.Verdicts.{flat_at};
 ghost use Rattle.spec.specs.Refusals.{present_refusal, judge_refusal};
 ghost use Rattle.spec.specs.Promises.{afterwards, cleared};
 ghost use Rattle.groups.specs.Sheets.{UserSheet};
-ghost use Rattle.form.specs.Form.{refusal_of};
+ghost use Rattle.refusals.specs.Refusals.{refusal_of};
 ghost use Rattle.text.specs.Text.{decimal, overlaid};
 ghost use Rattle.text.specs.Written.{Written};
 ghost use Rattle.listing_text.specs.Listing.{counts_text, refusal_text, line_of, line_text, listed_lines, listing_text, space, newline};
 ghost use Rattle.listing_text.specs.Rows.{RowHolds};
 
-use form::Refusal;
 use groups::group_length;
-use records::{CLASS, CLASS_LIMIT, NAME_AT, count_in, wide, word_in};
+use records::kind::Kind;
+use records::{CLASS_LIMIT, NAME_AT, VERDICT_BYTES, count_in, word_in};
+use refusals::Refusal;
 use text::{put, put_bytes, put_number};
-use verifier::{Judged, VERDICT_BYTES, judge};
+use verifier::{Counts, judge};
 
 // The line of a refusal.
 #[tactic(auto, using(text::proofs::Digits::decimal_length))]
@@ -28,9 +29,9 @@ fn refusal_line(out: &mut [u8], refusal: Refusal) -> usize
     ensures { Written out.old 0 (refusal_text (refusal_of refusal)) out.new result }
 {
     let opened = put_bytes(out, 0, b"refused ");
-    let first = put_number(out, opened, usize::from(refusal.number));
+    let first = put_number(out, opened, usize::from(refusal.reason.number()));
     let on = put_bytes(out, first, b" sheet ");
-    let second = put_number(out, on, usize::from(refusal.sheet));
+    let second = put_number(out, on, usize::from(refusal.sheet.number()));
     let further = put_bytes(out, second, b" byte ");
     let third = put_number(out, further, refusal.byte);
     put(out, third, b'\n')
@@ -78,7 +79,7 @@ fn class_line(
         (line_of (nlib + i) (class_name (class_record (get_or (groups_of sheet.now) i []))) (flat_at verdicts.now i))
         out.new result }
 {
-    let end = start + wide(word_in(sheet, start));
+    let end = start + usize::from(word_in(sheet, start));
     let name = &sheet[start + NAME_AT..end];
     let rule = usize::from(verdicts[VERDICT_BYTES * i]);
     let place = usize::from(verdicts[VERDICT_BYTES * i + 1]);
@@ -97,7 +98,7 @@ fn class_lines(library: &[u8], sheet: &[u8], verdicts: &[u8], out: &mut [u8], at
     ensures { Written out.old at
         (gather (line_text library.now sheet.now) (span 0 (class_count sheet.now))) out.new result }
 {
-    let nlib = count_in(library, CLASS);
+    let nlib = count_in(library, Kind::Class);
     let mut i = 0;
     let mut start = 0;
     let mut then = at;
@@ -125,10 +126,9 @@ pub fn listing_text<'a>(
         scratch.old (cleared scratch.old) }
 {
     let mut verdicts = [0u8; CLASS_LIMIT * VERDICT_BYTES];
-    let judged = judge(library, user, used, &mut verdicts, scratch);
-    match judged {
-        Judged::Refused(refusal) => refusal_line(out, refusal),
-        Judged::Fine(classes, faulted) => {
+    match judge(library, user, used, &mut verdicts, scratch) {
+        Err(refusal) => refusal_line(out, refusal),
+        Ok(Counts { classes, faulted }) => {
             let at = counts_line(out, classes, faulted);
             class_lines(library, &user[..used], &verdicts, out, at)
         }

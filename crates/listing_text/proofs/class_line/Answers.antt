@@ -4,11 +4,11 @@ use Rattle.text.proofs.Texts.{same_text, then}
 use Rattle.listing_text.proofs.NameBytes.{NameAt, name_at_lem}
 use Rattle.listing_text.proofs.ClassText.{line_read}
 use Rattle.listing_text.proofs.class_line.Goals as goal
-use Rattle.listing_text.proofs.class_line.Goals.{After-wide, After-put-spaced}
+use Rattle.listing_text.proofs.class_line.Goals.{After-from, After-put-spaced}
 
 -- the class's name stands where the code looks
-name_by : (c : After-wide) → NameAt c.args.sheet.now c.args.i c.args.start c.wide.result
-name_by c = let p = c.requires in name_at_lem p.user_sheet p.group.0 p.group.1 (c.wide.ensures.0 ∙ c.word_in.ensures)
+name_by : (c : After-from) → NameAt c.args.sheet.now c.args.i c.args.start c.from.result
+name_by c = let p = c.requires in name_at_lem p.user_sheet p.group.0 p.group.1 (c.from.ensures ∙ c.word_in.ensures)
 
 -- ---- the needs
 
@@ -19,20 +19,20 @@ pub overflow_add-end : goal.overflow_add-end
 overflow_add-end c = omega (arith, (name_by c).within, c.requires.user_sheet.size)
 
 pub overflow_add-name : goal.overflow_add-name
-overflow_add-name c = omega (arith, (name_by (goal.at.overflow_add-name c).After-wide).within, c.requires.user_sheet.size)
+overflow_add-name c = omega (arith, (name_by (goal.at.overflow_add-name c).After-from).within, c.requires.user_sheet.size)
 
 pub slice_bounds-name-count : goal.slice_bounds-name-count
-slice_bounds-name-count c = omega (arith, (name_by (goal.at.slice_bounds-name-count c).After-wide).long)
+slice_bounds-name-count c = omega (arith, (name_by (goal.at.slice_bounds-name-count c).After-from).long)
 
 pub slice_bounds-name-start : goal.slice_bounds-name-start
-slice_bounds-name-start c = let q = name_by (goal.at.slice_bounds-name-start c).After-wide in omega (arith, q.long, q.within)
+slice_bounds-name-start c = let q = name_by (goal.at.slice_bounds-name-start c).After-from in omega (arith, q.long, q.within)
 
 pub slice_bounds-name-end : goal.slice_bounds-name-end
-slice_bounds-name-end c = let q = name_by (goal.at.slice_bounds-name-end c).After-wide in omega (arith, q.long, q.within)
+slice_bounds-name-end c = let q = name_by (goal.at.slice_bounds-name-end c).After-from in omega (arith, q.long, q.within)
 
 pub returns : goal.returns
 returns c =
     let a = c.args in
-    let q = name_by (goal.at.returns c).After-wide in
+    let q = name_by (goal.at.returns c).After-from in
     same_text (line_read (a.nlib + a.i) a.verdicts.now a.i q.is c.from-rule.ensures c.from-place.ensures)
     (then c.put_number-numbered.ensures (then c.put-spaced.ensures (then c.put_bytes-named.ensures (then c.put-parted.ensures c.put_verdict.ensures))))
