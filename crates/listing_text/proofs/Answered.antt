@@ -18,8 +18,8 @@ use Rattle.theory.proofs.Answers.{first_none}
 use Rattle.theory.proofs.Form.{accepted_sound}
 use Rattle.theory.proofs.Unrefused.{present_facts, facts_present}
 use Rattle.theory.proofs.FlatRow.{read_new, rewritten_length}
-use Rattle.text.specs.Text.{overlaid}
-use Rattle.text.specs.Written.{Written}
+use Rattle.text.specs.Written.{Writes}
+use Rattle.text.specs.declared.Writer.{Writer}
 use Rattle.text.proofs.Digits.{decimal_length}
 use Rattle.refusals.specs.Refusals.{refusal_of, answer_in}
 use Rattle.refusals.specs.declared.Refusal.{Refusal}
@@ -28,7 +28,7 @@ use Rattle.verifier.specs.declared.Counts.{Counts as Counted}
 use Rattle.theory.proofs.Promised.{told_fine, told_refused}
 use Rattle.listing_text.specs.Listing.{classes_word, faulted_word, counts_text, refusal_text, line_text, listed_lines, listing_text}
 use Rattle.listing_text.specs.Rows.{RowHolds}
-use Rattle.text.proofs.Texts.{then, same_text, from_start}
+use Rattle.text.proofs.Texts.{put_then, put_same}
 
 -- the line of the counts is short
 pub counts_short : (c : Counts) → length (counts_text c) ≤ 58
@@ -55,9 +55,8 @@ module _ (library user : List ℕ) (used : ℕ) (verdicts scratch : List ℕ) (r
     unfolding listing_text
     refused_text = rw (refused_by, listing_text)
 
-    pub refused_listing : {out out' : List ℕ} {after : ℕ} → Written out 0 (refusal_text (refusal_of r)) out' after
-        → (after ≡ length (listing_text library user used (length scratch))) × (out' ≡ overlaid (listing_text library user used (length scratch)) out)
-    refused_listing w = from_start (same_text refused_text w)
+    pub refused_listing : {first writer : Writer} → Writes first (refusal_text (refusal_of r)) writer → Writes first (listing_text library user used (length scratch)) writer
+    refused_listing w = put_same refused_text w
 
   -- counts and lines
   module _ {counts : Counted} (f : judged ≡ Ok counts) where
@@ -118,7 +117,6 @@ module _ (library user : List ℕ) (used : ℕ) (verdicts scratch : List ℕ) (r
         ap (λ (k : ℕ). judge_refusal library user used k (length scratch)) (sym (lines_of verdicts room)) ∙ told.0 in
         rw told.1 (rw (o, listing_text))
 
-    pub accepted_listing : {out out' out'' : List ℕ} {at r : ℕ} → Written out 0 (counts_text (counts_in counts)) out' at
-        → Written out' at (gather (line_text library (take used user)) (span 0 (class_count (take used user)))) out'' r
-        → (r ≡ length (listing_text library user used (length scratch))) × (out'' ≡ overlaid (listing_text library user used (length scratch)) out)
-    accepted_listing v w = from_start (same_text listed_text (then v w))
+    pub accepted_listing : {first counted writer : Writer} → Writes first (counts_text (counts_in counts)) counted
+        → Writes counted (gather (line_text library (take used user)) (span 0 (class_count (take used user)))) writer → Writes first (listing_text library user used (length scratch)) writer
+    accepted_listing v w = put_same listed_text (put_then v w)

@@ -16,12 +16,13 @@ use Rattle.theory.proofs.Running.{begins}
 use Rattle.groups.proofs.Held.{class_fits}
 use Rattle.groups.proofs.Sheets.{none_left}
 use Rattle.text.specs.Text.{decimal}
-use Rattle.text.specs.Written.{Written}
+use Rattle.text.specs.Written.{Writes}
+use Rattle.text.specs.declared.Writer.{Writer}
 use Rattle.text.proofs.Digits.{decimal_length}
 use Rattle.listing_text.specs.Listing.{line_of, line_text, space, newline}
 use Rattle.groups.specs.Sheets.{UserSheet}
 use Rattle.listing_text.specs.Rows.{RowHolds}
-use Rattle.text.proofs.Texts.{then, no_text, same_text}
+use Rattle.text.proofs.Texts.{put_none, put_same, put_then}
 
 -- ---- one line
 
@@ -62,24 +63,24 @@ gather_last f k (suc m) =
     ∙ ap (λ (j : ℕ). (f k ++ gather f (span (suc k) m)) ++ f j) (suc-add k m ∙ sym (add-suc k m))
 
 -- the first i lines are written, and `start` has run along to the i-th class
-pub record Lines (library sheet out₀ : List ℕ) (at : ℕ) (out : List ℕ) (i start place : ℕ) : Type 0 where
+pub record Lines (library sheet : List ℕ) (first writer : Writer) (i start : ℕ) : Type 0 where
   pub high : i ≤ class_count sheet
-  pub short : place ≤ at + 164 * i
+  pub short : writer.at ≤ first.at + 164 * i
   pub reached : start ≡ running sheet i
-  pub text : Written out₀ at (gather (line_text library sheet) (span 0 i)) out place
+  pub text : Writes first (gather (line_text library sheet) (span 0 i)) writer
 
-module _ {library sheet out₀ : List ℕ} {at : ℕ} where
-  pub lines_start : Lines library sheet out₀ at out₀ 0 0 at
+module _ {library sheet : List ℕ} {first : Writer} where
+  pub lines_start : Lines library sheet first first 0 0
   unfolding gather span running
-  lines_start = record { high = omega arith; short = omega arith; reached = refl; text = no_text refl refl }
+  lines_start = record { high = omega arith; short = omega arith; reached = refl; text = put_none }
 
-  module _ {nlib : ℕ} (u : UserSheet nlib sheet) {out : List ℕ} {i start p : ℕ} (f : Lines library sheet out₀ at out i start p) where
+  module _ {nlib : ℕ} (u : UserSheet nlib sheet) {writer : Writer} {i start : ℕ} (f : Lines library sheet first writer i start) where
     -- it is the byte where the group begins
     pub begins_there : start ≡ group_start sheet i
     begins_there = f.reached ∙ begins u.clear i f.high
 
-    pub lines_next : i < class_count sheet → {out' : List ℕ} {p' start' : ℕ} → Written out p (line_text library sheet i) out' p' → start' ≡ running sheet (i + 1)
-        → Lines library sheet out₀ at out' (i + 1) start' p'
+    pub lines_next : i < class_count sheet → {writer' : Writer} {start' : ℕ} → Writes writer (line_text library sheet i) writer' → start' ≡ running sheet (i + 1)
+        → Lines library sheet first writer' (i + 1) start'
     lines_next h w r =
         let e : i + 1 ≡ suc i = omega arith in
         let g : gather (line_text library sheet) (span 0 i) ++ line_text library sheet i ≡ gather (line_text library sheet) (span 0 (i + 1)) =
@@ -88,11 +89,11 @@ module _ {library sheet out₀ : List ℕ} {at : ℕ} where
         ∙ ap (λ (k : ℕ). gather (line_text library sheet) (span 0 i) ++ line_text library sheet k) (zero-add i)) in
         record {
           high = omega arith;
-          short = omega (arith, w.place, f.short, line_short h u library);
+          short = omega (arith, w.written.place, f.short, line_short h u library);
           reached = r;
-          text = same_text g (then f.text w);
+          text = put_same g (put_then f.text w);
         }
 
     -- at the sheet's end there are no more
-    pub lines_end : length sheet ≤ start → Written out₀ at (gather (line_text library sheet) (span 0 (class_count sheet))) out p
-    lines_end l = subst (λ (k : ℕ). Written out₀ at (gather (line_text library sheet) (span 0 k)) out p) (none_left u i f.high f.reached l) f.text
+    pub lines_end : length sheet ≤ start → Writes first (gather (line_text library sheet) (span 0 (class_count sheet))) writer
+    lines_end l = subst (λ (k : ℕ). Writes first (gather (line_text library sheet) (span 0 k)) writer) (none_left u i f.high f.reached l) f.text

@@ -12,7 +12,7 @@ ghost use Rattle.spec.specs.Promises.{afterwards, cleared};
 ghost use Rattle.groups.specs.Sheets.{UserSheet};
 ghost use Rattle.refusals.specs.Refusals.{refusal_of};
 ghost use Rattle.text.specs.Text.{decimal, overlaid};
-ghost use Rattle.text.specs.Written.{Written};
+ghost use Rattle.text.specs.Written.{Writes};
 ghost use Rattle.listing_text.specs.Listing.{counts_text, refusal_text, line_of, line_text, listed_lines, listing_text, space, newline};
 ghost use Rattle.listing_text.specs.Rows.{RowHolds};
 
@@ -20,45 +20,47 @@ use groups::group_length;
 use records::kind::Kind;
 use records::{CLASS_LIMIT, NAME_AT, VERDICT_BYTES, count_in, word_in};
 use refusals::Refusal;
-use text::{put, put_bytes, put_number};
+use text::Writer;
 use verifier::{Counts, judge};
 
 // The line of a refusal.
 #[tactic(auto, using(text::proofs::Digits::decimal_length))]
-fn refusal_line(out: &mut [u8], refusal: Refusal) -> usize
-    ensures { Written out.old 0 (refusal_text (refusal_of refusal)) out.new result }
+fn refusal_line(writer: &mut Writer, refusal: Refusal)
+    requires { writer.old.at < 800000 }
+    ensures { Writes writer.old (refusal_text (refusal_of refusal)) writer.new }
 {
-    let opened = put_bytes(out, 0, b"refused ");
-    let first = put_number(out, opened, usize::from(refusal.reason.number()));
-    let on = put_bytes(out, first, b" sheet ");
-    let second = put_number(out, on, usize::from(refusal.sheet.number()));
-    let further = put_bytes(out, second, b" byte ");
-    let third = put_number(out, further, refusal.byte);
-    put(out, third, b'\n')
+    writer.put_bytes(b"refused ");
+    writer.put_number(usize::from(refusal.reason.number()));
+    writer.put_bytes(b" sheet ");
+    writer.put_number(usize::from(refusal.sheet.number()));
+    writer.put_bytes(b" byte ");
+    writer.put_number(refusal.byte);
+    writer.put(b'\n');
 }
 
 // The line of the counts.
 #[tactic(auto, using(text::proofs::Digits::decimal_length))]
-fn counts_line(out: &mut [u8], classes: usize, faulted: usize) -> usize
-    ensures { Written out.old 0 (counts_text (record { classes = classes; faulted = faulted })) out.new result }
+fn counts_line(writer: &mut Writer, classes: usize, faulted: usize)
+    requires { writer.old.at < 800000 }
+    ensures { Writes writer.old (counts_text (record { classes = classes; faulted = faulted })) writer.new }
 {
-    let opened = put_bytes(out, 0, b"classes ");
-    let first = put_number(out, opened, classes);
-    let on = put_bytes(out, first, b" faulted ");
-    let second = put_number(out, on, faulted);
-    put(out, second, b'\n')
+    writer.put_bytes(b"classes ");
+    writer.put_number(classes);
+    writer.put_bytes(b" faulted ");
+    writer.put_number(faulted);
+    writer.put(b'\n');
 }
 
 // The end of a class's line: rule and place.
 #[tactic(auto, using(text::proofs::Digits::decimal_length))]
-fn put_verdict(out: &mut [u8], at: usize, rule: usize, place: usize) -> usize
-    requires { at < 800000 }
-    ensures { Written out.old at (decimal rule ++ (space ++ (decimal place ++ newline))) out.new result }
+fn put_verdict(writer: &mut Writer, rule: usize, place: usize)
+    requires { writer.old.at < 800000 }
+    ensures { Writes writer.old (decimal rule ++ (space ++ (decimal place ++ newline))) writer.new }
 {
-    let ruled = put_number(out, at, rule);
-    let spaced = put(out, ruled, b' ');
-    let placed = put_number(out, spaced, place);
-    put(out, placed, b'\n')
+    writer.put_number(rule);
+    writer.put(b' ');
+    writer.put_number(place);
+    writer.put(b'\n');
 }
 
 // The line of the i-th user class, whose group begins at `start`: number, name, rule, place.
@@ -69,45 +71,42 @@ fn class_line(
     nlib: usize,
     verdicts: &[u8],
     i: usize,
-    out: &mut [u8],
-    at: usize,
-) -> usize
+    writer: &mut Writer,
+)
     requires user_sheet { UserSheet nlib sheet.now }
     requires group { (i < class_count sheet.now) × (start ≡ group_start sheet.now i) }
-    requires line { (2 * i + 1 < length verdicts.now) × (at < 700000) }
-    ensures { Written out.old at
+    requires line { (2 * i + 1 < length verdicts.now) × (writer.old.at < 700000) }
+    ensures { Writes writer.old
         (line_of (nlib + i) (class_name (class_record (get_or (groups_of sheet.now) i []))) (flat_at verdicts.now i))
-        out.new result }
+        writer.new }
 {
     let end = start + usize::from(word_in(sheet, start));
     let name = &sheet[start + NAME_AT..end];
     let rule = usize::from(verdicts[VERDICT_BYTES * i]);
     let place = usize::from(verdicts[VERDICT_BYTES * i + 1]);
-    let numbered = put_number(out, at, nlib + i);
-    let spaced = put(out, numbered, b' ');
-    let named = put_bytes(out, spaced, name);
-    let parted = put(out, named, b' ');
-    put_verdict(out, parted, rule, place)
+    writer.put_number(nlib + i);
+    writer.put(b' ');
+    writer.put_bytes(name);
+    writer.put(b' ');
+    put_verdict(writer, rule, place);
 }
 
 // The lines of all user classes; `start` runs along from one group to the next, up to the sheet's end.
-fn class_lines(library: &[u8], sheet: &[u8], verdicts: &[u8], out: &mut [u8], at: usize) -> usize
+fn class_lines(library: &[u8], sheet: &[u8], verdicts: &[u8], writer: &mut Writer)
     requires accepted { present_refusal library.now sheet.now (length sheet.now) ≡ none }
     requires row_holds { RowHolds library.now sheet.now verdicts.now }
-    requires room { at < 1000 }
-    ensures { Written out.old at
-        (gather (line_text library.now sheet.now) (span 0 (class_count sheet.now))) out.new result }
+    requires room { writer.old.at < 1000 }
+    ensures { Writes writer.old
+        (gather (line_text library.now sheet.now) (span 0 (class_count sheet.now))) writer.new }
 {
     let nlib = count_in(library, Kind::Class);
     let mut i = 0;
     let mut start = 0;
-    let mut then = at;
     while start < sheet.len() {
-        then = class_line(sheet, start, nlib, verdicts, i, out, then);
+        class_line(sheet, start, nlib, verdicts, i, writer);
         start += group_length(&sheet[start..]);
         i += 1;
     }
-    then
 }
 
 // Judges the sheets and writes the listing from the buffer's start, as far as it fits; answers how long the listing is.
@@ -126,11 +125,13 @@ pub fn listing_text<'a>(
         scratch.old (cleared scratch.old) }
 {
     let mut verdicts = [0u8; CLASS_LIMIT * VERDICT_BYTES];
+    let mut writer = Writer::new(out);
     match judge(library, user, used, &mut verdicts, scratch) {
-        Err(refusal) => refusal_line(out, refusal),
+        Err(refusal) => refusal_line(&mut writer, refusal),
         Ok(Counts { classes, faulted }) => {
-            let at = counts_line(out, classes, faulted);
-            class_lines(library, &user[..used], &verdicts, out, at)
+            counts_line(&mut writer, classes, faulted);
+            class_lines(library, &user[..used], &verdicts, &mut writer);
         }
     }
+    writer.at()
 }

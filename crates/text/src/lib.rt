@@ -1,43 +1,68 @@
-// Text put into a lent buffer. Each function writes from `at` on and answers the place after what it wrote, also where the buffer ends before it: nothing
-// is written there.
+// Text put into a lent buffer, one part after another. Where the buffer ends nothing more is written, but the places go on.
 #![tactic(auto)]
 
-ghost use Rattle.std.specs.Prelude.{[], ◌∷◌, ◌≤◌, ◌<◌, length};
+ghost use Rattle.std.specs.Prelude.{◌≡◌, [], ◌∷◌, ◌≤◌, ◌<◌, length};
 ghost use Rattle.text.specs.Text.{decimal};
-ghost use Rattle.text.specs.Written.{Written};
+ghost use Rattle.text.specs.Written.{Writes};
 
-// One byte.
-#[tactic(auto, unfolding(crate::specs::Text::put_all))]
-pub fn put(out: &mut [u8], at: usize, byte: u8) -> usize
-    requires { at < 1000000 }
-    ensures { Written out.old at (byte ∷ []) out.new result }
-{
-    if at < out.len() {
-        out[at] = byte;
-    }
-    at + 1
+/// A lent buffer, and the place at which its text goes on.
+#[derive(Drop)]
+pub struct Writer<'a> {
+    out: &'a mut [u8],
+    at: usize,
 }
 
-// Some bytes, of which as many are copied as there is room for.
-pub fn put_bytes(out: &mut [u8], at: usize, bytes: &[u8]) -> usize
-    requires { (at < 900000) × (length bytes.now ≤ 65536) }
-    ensures { Written out.old at bytes.now out.new result }
-{
-    let after = at + bytes.len();
-    let from = at.min(out.len());
-    let to = after.min(out.len());
-    out[from..to].copy_from_slice(&bytes[..to - from]);
-    after
-}
-
-// A number in decimal.
-pub fn put_number(out: &mut [u8], at: usize, x: usize) -> usize
-    requires { at < 900000 }
-    ensures { Written out.old at (decimal x) out.new result }
-{
-    if x < 10 {
-        return put(out, at, b'0' + x as u8);
+impl<'a> Writer<'a> {
+    /// Begins at the buffer's start.
+    pub fn new(out: &'a mut [u8]) -> Writer<'a>
+        ensures same_reference { result.out.ghost_name ≡ out.entry.ghost_name }
+        ensures bytes { result.out.now ≡ out.old }
+        ensures place { result.at ≡ 0 }
+    {
+        Writer { out, at: 0 }
     }
-    let then = put_number(out, at, x / 10);
-    put(out, then, b'0' + (x % 10) as u8)
+
+    /// The place after what was put, also where the buffer ends before it.
+    pub fn at(&self) -> usize
+        ensures { result ≡ self.now.at }
+    {
+        self.at
+    }
+
+    /// Puts one byte.
+    #[tactic(auto, unfolding(crate::specs::Text::put_all))]
+    pub fn put(&mut self, byte: u8)
+        requires { self.old.at < 1000000 }
+        ensures { Writes self.old (byte ∷ []) self.new }
+    {
+        if self.at < self.out.len() {
+            self.out[self.at] = byte;
+        }
+        self.at += 1;
+    }
+
+    /// Puts some bytes, of which as many are copied as there is room for.
+    pub fn put_bytes(&mut self, bytes: &[u8])
+        requires { (self.old.at < 900000) × (length bytes.now ≤ 65536) }
+        ensures { Writes self.old bytes.now self.new }
+    {
+        let after = self.at + bytes.len();
+        let from = self.at.min(self.out.len());
+        let to = after.min(self.out.len());
+        self.out[from..to].copy_from_slice(&bytes[..to - from]);
+        self.at = after;
+    }
+
+    /// Puts a number in decimal.
+    pub fn put_number(&mut self, x: usize)
+        requires { self.old.at < 900000 }
+        ensures { Writes self.old (decimal x) self.new }
+    {
+        if x < 10 {
+            self.put(b'0' + x as u8);
+            return;
+        }
+        self.put_number(x / 10);
+        self.put(b'0' + (x % 10) as u8);
+    }
 }

@@ -1,10 +1,10 @@
 -- What is read of the class, and its texts one after another.
 use Rattle.std.proofs.Common.{refl, ◌∙◌, ◌+◌, arith}
-use Rattle.text.proofs.Texts.{same_text, then}
+use Rattle.text.proofs.Texts.{put_same, put_then}
 use Rattle.listing_text.proofs.NameBytes.{NameAt, name_at_lem}
 use Rattle.listing_text.proofs.ClassText.{line_read}
 use Rattle.listing_text.proofs.class_line.Goals as goal
-use Rattle.listing_text.proofs.class_line.Goals.{After-from, After-put-spaced}
+use Rattle.listing_text.proofs.class_line.Goals.{After-from}
 
 -- the class's name stands where the code looks
 name_by : (c : After-from) → NameAt c.args.sheet.now c.args.i c.args.start c.from.result
@@ -34,5 +34,5 @@ pub returns : goal.returns
 returns c =
     let a = c.args in
     let q = name_by (goal.at.returns c).After-from in
-    same_text (line_read (a.nlib + a.i) a.verdicts.now a.i q.is c.from-rule.ensures c.from-place.ensures)
-    (then c.put_number-numbered.ensures (then c.put-spaced.ensures (then c.put_bytes-named.ensures (then c.put-parted.ensures c.put_verdict.ensures))))
+    put_same (line_read (a.nlib + a.i) a.verdicts.now a.i q.is c.from-rule.ensures c.from-place.ensures)
+    (put_then c.put_number.ensures (put_then c.put.ensures (put_then c.put_bytes.ensures (put_then c.put-2.ensures c.put_verdict.ensures))))

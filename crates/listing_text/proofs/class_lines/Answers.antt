@@ -2,7 +2,7 @@ use Rattle.std.proofs.Common.{◌≡◌, ◌+◌, ◌≤◌, ◌<◌, length, ar
 use Rattle.spec.specs.Sheet.{class_count}
 use Rattle.theory.specs.Claims.{running}
 use Rattle.groups.specs.Sheets.{UserSheet}
-use Rattle.text.proofs.Texts.{same_text}
+use Rattle.text.proofs.Texts.{put_same}
 use Rattle.groups.proofs.Sheets.{library_place, library_count, user_sheet_lem, at_group, further, class_left}
 use Rattle.listing_text.proofs.ClassText.{line_is, lines_start, begins_there, lines_next, lines_end}
 use Rattle.listing_text.proofs.class_lines.Goals as goal
@@ -34,18 +34,18 @@ count_in-nlib-requires c = library_place c.args.library.now c.args.sheet.now c.r
 pub loop-start-init : goal.loop-start-init
 loop-start-init c = lines_start
 
-pub class_line-then-requires-clause-user_sheet : goal.class_line-then-requires-clause-user_sheet
-class_line-then-requires-clause-user_sheet c = sheet_is (goal.at.class_line-then-requires-clause-user_sheet c).After-count_in-nlib
+pub class_line-requires-clause-user_sheet : goal.class_line-requires-clause-user_sheet
+class_line-requires-clause-user_sheet c = sheet_is (goal.at.class_line-requires-clause-user_sheet c).After-count_in-nlib
 
-pub class_line-then-requires-clause-group : goal.class_line-then-requires-clause-group
-class_line-then-requires-clause-group c =
-    let k = goal.at.class_line-then-requires-clause-group c in
+pub class_line-requires-clause-group : goal.class_line-requires-clause-group
+class_line-requires-clause-group c =
+    let k = goal.at.class_line-requires-clause-group c in
     let u = sheet_is k.After-count_in-nlib in
     (class_there k.In-loop-start u, begins_there u c.loop-start.invariant)
 
-pub class_line-then-requires-clause-line : goal.class_line-then-requires-clause-line
-class_line-then-requires-clause-line c =
-    let k = goal.at.class_line-then-requires-clause-line c in
+pub class_line-requires-clause-line : goal.class_line-requires-clause-line
+class_line-requires-clause-line c =
+    let k = goal.at.class_line-requires-clause-line c in
     let u = sheet_is k.After-count_in-nlib in
     let h = class_there k.In-loop-start u in
     (omega (arith, c.requires.row_holds.long, h, u.few), omega (arith, c.loop-start.invariant.short, h, u.few, c.requires.room))
@@ -75,7 +75,7 @@ loop-start-preserved c =
     let u = sheet_is k.After-count_in-nlib in
     let h = class_there k.In-loop-start u in
     lines_next u c.loop-start.invariant h
-    (same_text (line_is h c.args.library.now (library_is k.After-count_in-nlib) c.requires.row_holds) c.class_line-then.ensures)
+    (put_same (line_is h c.args.library.now (library_is k.After-count_in-nlib) c.requires.row_holds) c.class_line.ensures)
     (next k.After-group_length-start u h).0
 
 pub returns : goal.returns

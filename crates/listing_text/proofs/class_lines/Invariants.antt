@@ -4,7 +4,7 @@ use Rattle.listing_text.proofs.ClassText.{Lines}
 use Rattle.listing_text.proofs.class_lines.Given as goal
 
 abbrev pub invariant-loop-start : goal.invariant-loop-start
-invariant-loop-start l = Lines l.library l.sheet l.initial.out l.at l.out l.i l.start l.then
+invariant-loop-start l = Lines l.library l.sheet l.initial.writer l.writer l.i l.start
 
 abbrev pub decreases-loop-start : goal.decreases-loop-start
 decreases-loop-start l = length l.initial.sheet - l.start
