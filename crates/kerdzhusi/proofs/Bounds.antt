@@ -26,7 +26,7 @@ use Rattle.theory.proofs.Refused.{gives_if, refusals_hold}
 use Rattle.theory.proofs.Promised.{told_fine, told_refused}
 use Rattle.meaning.specs.Canonical.{canonical_refusal, WritesCanonical}
 use Rattle.meaning.proofs.Accepted.{canonical_refuses}
-use Rattle.form.proofs.Unrefused.{sheet_fine}
+use Rattle.theory.proofs.Unrefused.{present_facts}
 
 -- ---- the blamed byte lies in its sheet
 
@@ -181,7 +181,7 @@ unfolding judge_refusal counts_of faulted_count total
 judges_few {library} {user} {used} p {c} f =
     let sheet : List ℕ = take used user in
     let t = told_fine _ _ (sym f ∙ p.answered) in
-    let few = (sound library sheet (sheet_fine library user used (first_none _ t.0).0)).few in (
+    let few = (sound library sheet (present_facts library user used (first_none _ t.0).0).sheets).few in (
       omega (arith, ap (λ (c : Counts). c.classes) t.1, few),
       omega
           (arith, ap (λ (c : Counts). c.classes) t.1, ap (λ (c : Counts). c.faulted) t.1, count_low (faulted library sheet) (class_count sheet)),

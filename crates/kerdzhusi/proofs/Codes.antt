@@ -1,37 +1,54 @@
 -- The reply of a call from its answer, and an answer read back from the reply's two numbers.
 -- Assumes nothing.
-use mathlib.Core.Path.{◌≡◌, sym, ap, ◌∙◌}
-use Prim.Native.Nat.{ℕ, ◌/◌, ◌%◌, ◌<◌}
+use mathlib.Core.Path.{◌≡◌, refl, subst, ◌∙◌}
+use Prim.Native.Nat.{ℕ, ◌/◌, ◌%◌, ◌<◌, ◌≤◌}
 use native.Mathlib.Omega.{arith}
-use Rattle.spec.specs.Refusals.{Refusal}
+use Rattle.std.specs.Prelude.{Result, Ok, Err}
+use Rattle.std.specs.Result.{IsOkAnd, MatchResult}
+use Rattle.spec.specs.Refusals as spec
 use Rattle.spec.specs.Promises.{Answer, refused, accepted, Counts, Part}
-use Rattle.kerdzhusi.specs.Codes.{refusal_code, plain_value, counts_value, part_value, reply_of, Replies}
+use Rattle.refusals.specs.Refusals.{answer_in}
+use Rattle.refusals.specs.declared.Refusal.{Refusal}
+use Rattle.kerdzhusi.specs.Codes.{refusal_code, plain_value, counts_value, part_value, reply_of, Codable, Replies}
 use Rattle.kerdzhusi.specs.declared.Reply.{Reply}
 
--- ---- from the answer to the reply
+-- ---- from the answer to the reply: a result r, and the result m of mapping its value to the code
 
-module _ {A : Type 0} (value : A → ℕ) (Promise : Answer A → Type 0) {a : Answer A} (p : Promise a) {reply : Reply} where
-  -- a refusal's code is the same for every value
-  pub refused_replies : {r : Refusal} → a ≡ refused r → reply ≡ reply_of plain_value (refused r) → Replies value Promise reply
-  unfolding reply_of
-  refused_replies f e = record { answer = a; promised = p; coded = e ∙ ap (reply_of value) (sym f) }
+abbrev blamed : Answer ℕ → ℕ
+blamed (refused r) = r.byte
+blamed (accepted n) = 0
 
-  pub replies : reply ≡ reply_of value a → Replies value Promise reply
-  replies e = record { answer = a; promised = p; coded = e }
+module _ {A B : Type 0} (value : B → ℕ) (f : A → B) where
+  abbrev pub Coded : Result A Refusal → Result ℕ Refusal → Type 0
+  Coded r m = MatchResult r (λ x. IsOkAnd m (λ n. n ≡ value (f x))) (λ e. m ≡ Err e)
 
-  pub fine_replies : {x : A} → a ≡ accepted x → reply ≡ record { status = 0; value = value x } → Replies value Promise reply
-  unfolding reply_of
-  fine_replies f e = record { answer = a; promised = p; coded = e ∙ ap (reply_of value) (sym f) }
+  blamed_low : (r : Result A Refusal) (m : Result ℕ Refusal) → Coded r m → ((e : Refusal) → r ≡ Err e → e.byte ≤ 32768) → blamed (answer_in (λ n. n) m) ≤ 32768
+  blamed_low (Ok x) (Ok n) h low = omega arith
+  blamed_low (Ok x) (Err e) h low = absurd h
+  blamed_low (Err e) m h low = rw h (low e refl)
+
+  pub codable : (r : Result A Refusal) (m : Result ℕ Refusal) → Coded r m → ((e : Refusal) → r ≡ Err e → e.byte ≤ 32768) → Codable (answer_in (λ n. n) m)
+  codable r m h low = record { low = λ e. subst (λ a. blamed a ≤ 32768) e (blamed_low r m h low) }
+
+  coded : (r : Result A Refusal) (m : Result ℕ Refusal) → Coded r m → reply_of plain_value (answer_in (λ n. n) m) ≡ reply_of value (answer_in f r)
+  unfolding reply_of plain_value
+  coded (Ok x) (Ok n) h = rw h refl
+  coded (Ok x) (Err e) h = absurd h
+  coded (Err e) m h = rw h refl
+
+  pub replies : (Promise : Answer B → Type 0) (r : Result A Refusal) (m : Result ℕ Refusal) {reply : Reply}
+      → Promise (answer_in f r) → Coded r m → reply ≡ reply_of plain_value (answer_in (λ n. n) m) → Replies value Promise reply
+  replies Promise r m p h e = record { answer = answer_in f r; promised = p; coded = e ∙ coded r m h }
 
 -- ---- from the reply back to the answer
 
-pub codes_apart : (r : Refusal) → r.number < 256 → r.sheet < 256
+pub codes_apart : (r : spec.Refusal) → r.number < 256 → r.sheet < 256
     → (refusal_code r % 256 ≡ r.number) × ((refusal_code r / 256 % 256 ≡ r.sheet) × (refusal_code r / 65536 ≡ r.byte))
 unfolding refusal_code
 codes_apart r h k = (omega arith, (omega arith, omega arith))
 
 -- a refusal is not taken for an accepted call
-pub refused_status : (r : Refusal) → (r.number ≡ 0 → ⊥) → refusal_code r ≡ 0 → ⊥
+pub refused_status : (r : spec.Refusal) → (r.number ≡ 0 → ⊥) → refusal_code r ≡ 0 → ⊥
 unfolding refusal_code
 refused_status r h e = h (omega arith)
 

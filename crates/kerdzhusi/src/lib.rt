@@ -1,14 +1,16 @@
 // The C interface: the operations of `verifier` under C names, each answer as two numbers.
 #![tactic(auto)]
 
-ghost use Rattle.std.specs.Prelude.{◌≡◌, ◌≤◌};
-ghost use Rattle.spec.specs.Promises.{refused, Judges, Adds, Replaces, Withdraws, Marks, Places};
+ghost use Rattle.std.specs.Prelude.{◌≡◌, ◌+◌, ◌≤◌};
+ghost use Rattle.spec.specs.Promises.{Judges, Adds, Replaces, Withdraws, Marks, Places};
 ghost use Rattle.spec.specs.Verdicts.{flat};
-ghost use Rattle.form.specs.Form.{refusal_of, outcome_answer};
 ghost use Rattle.meaning.specs.Canonical.{WritesCanonical};
-ghost use Rattle.kerdzhusi.specs.Codes.{plain_value, counts_value, part_value, reply_of, Codable, Replies};
+ghost use Rattle.refusals.specs.Refusals.{answer_in, refusal_of};
+ghost use Rattle.queries.specs.Answers.{part_of};
+ghost use Rattle.verifier.specs.Answers.{counts_in};
+ghost use Rattle.kerdzhusi.specs.Codes.{refusal_code, plain_value, counts_value, part_value, reply_of, Codable, Replies};
 
-use verifier::{Judged, Marked, Outcome, Placed, Refusal};
+use verifier::{Counts, Place, Refusal};
 
 // Status 0 and a value, or the refusal's status and 0.
 #[repr(C)]
@@ -18,27 +20,58 @@ pub struct Reply {
     pub value: u64,
 }
 
-fn refusal(turned: Refusal) -> Reply
-    requires { turned.byte ≤ 32768 }
-    ensures { result ≡ reply_of plain_value (refused (refusal_of turned)) }
+// number | sheet << 8 | byte << 16
+#[tactic(auto, unfolding(crate::specs::Codes::refusal_code))]
+fn refusal_code(refusal: Refusal) -> u64
+    requires { refusal.byte ≤ 32768 }
+    ensures { result ≡ refusal_code (refusal_of refusal) }
 {
-    Reply {
-        status: turned.number as u64 + 256 * (turned.sheet as u64) + 65536 * (turned.byte as u64),
-        value: 0,
-    }
+    let number = u64::from(refusal.reason.number());
+    let sheet = u64::from(refusal.sheet.number());
+    number + 256 * sheet + 65536 * (refusal.byte as u64)
 }
 
-// What an operation that changes the sheet answers.
-fn outcome(answer: Outcome) -> Reply
-    requires { Codable (outcome_answer answer) }
-    ensures { result ≡ reply_of plain_value (outcome_answer answer) }
+// A class's number, a count, a length.
+#[tactic(auto, unfolding(crate::specs::Codes::plain_value))]
+fn plain_value(number: usize) -> u64
+    ensures { result ≡ plain_value number }
 {
-    match answer {
-        Outcome::Refused(turned) => refusal(turned),
-        Outcome::Fine(number) => Reply {
-            status: 0,
-            value: number as u64,
-        },
+    number as u64
+}
+
+// classes | faulted << 32
+#[tactic(auto, unfolding(crate::specs::Codes::counts_value))]
+fn counts_value(counts: Counts) -> u64
+    requires { (counts.classes ≤ 256) × (counts.faulted ≤ 256) }
+    ensures { result ≡ counts_value (counts_in counts) }
+{
+    counts.classes as u64 + 4294967296 * (counts.faulted as u64)
+}
+
+// sheet | start << 8 | length << 32
+#[tactic(auto, unfolding(crate::specs::Codes::part_value))]
+fn part_value(place: Place) -> u64
+    requires { place.start + place.len ≤ 32768 }
+    ensures { result ≡ part_value (part_of place) }
+{
+    let sheet = u64::from(place.sheet.number());
+    sheet + 256 * (place.start as u64) + 4294967296 * (place.len as u64)
+}
+
+impl Reply {
+    // For an answer whose value is its code already.
+    #[tactic(auto, unfolding(crate::specs::Codes::plain_value, crate::specs::Codes::reply_of))]
+    fn of(answer: Result<u64, Refusal>) -> Reply
+        requires { Codable (answer_in (λ n. n) answer) }
+        ensures { result ≡ reply_of plain_value (answer_in (λ n. n) answer) }
+    {
+        match answer {
+            Ok(value) => Reply { status: 0, value },
+            Err(refusal) => Reply {
+                status: refusal_code(refusal),
+                value: 0,
+            },
+        }
     }
 }
 
@@ -54,13 +87,7 @@ pub extern "C" fn kz_judge<'a>(
         verdicts.old scratch.old a verdicts.new scratch.new) result }
 {
     let answer = verifier::judge(library, user, used, verdicts, scratch);
-    match answer {
-        Judged::Refused(turned) => refusal(turned),
-        Judged::Fine(classes, faulted) => Reply {
-            status: 0,
-            value: classes as u64 + 4294967296 * (faulted as u64),
-        },
-    }
+    Reply::of(answer.map(counts_value))
 }
 
 #[unsafe(no_mangle)]
@@ -76,7 +103,8 @@ pub extern "C" fn kz_add<'a>(
         (record { user = user.old; used = used.old; verdicts = verdicts.old })
         scratch.old a (record { user = user.new; used = used.new; verdicts = verdicts.new }) scratch.new) result }
 {
-    outcome(verifier::add(library, user, used, group, verdicts, scratch))
+    let answer = verifier::add(library, user, used, group, verdicts, scratch);
+    Reply::of(answer.map(plain_value))
 }
 
 #[unsafe(no_mangle)]
@@ -93,7 +121,8 @@ pub extern "C" fn kz_replace<'a>(
         (record { user = user.old; used = used.old; verdicts = verdicts.old })
         scratch.old a (record { user = user.new; used = used.new; verdicts = verdicts.new }) scratch.new) result }
 {
-    outcome(verifier::replace(library, user, used, class, group, verdicts, scratch))
+    let answer = verifier::replace(library, user, used, class, group, verdicts, scratch);
+    Reply::of(answer.map(plain_value))
 }
 
 #[unsafe(no_mangle)]
@@ -107,7 +136,8 @@ pub extern "C" fn kz_withdraw<'a>(
         (record { user = user.old; used = used.old; verdicts = verdicts.old }) a
         (record { user = user.new; used = used.new; verdicts = verdicts.new })) result }
 {
-    outcome(verifier::withdraw(library, user, used, verdicts))
+    let answer = verifier::withdraw(library, user, used, verdicts);
+    Reply::of(answer.map(plain_value))
 }
 
 #[unsafe(no_mangle)]
@@ -115,13 +145,7 @@ pub extern "C" fn kz_name<'a>(library: &'a [u8], user: &'a [u8], used: usize, cl
     ensures { Replies part_value (λ a. Places library.now user.now used class a) result }
 {
     let answer = verifier::name_place(library, user, used, class);
-    match answer {
-        Placed::Refused(turned) => refusal(turned),
-        Placed::At(sheet, start, size) => Reply {
-            status: 0,
-            value: sheet as u64 + 256 * (start as u64) + 4294967296 * (size as u64),
-        },
-    }
+    Reply::of(answer.map(part_value))
 }
 
 #[unsafe(no_mangle)]
@@ -134,13 +158,7 @@ pub extern "C" fn kz_marks<'a>(
     ensures { Replies plain_value (λ a. Marks library.now user.now used class a) result }
 {
     let answer = verifier::marks(library, user, used, class);
-    match answer {
-        Marked::Refused(turned) => refusal(turned),
-        Marked::Fine(set) => Reply {
-            status: 0,
-            value: set as u64,
-        },
-    }
+    Reply::of(answer.map(u64::from))
 }
 
 #[unsafe(no_mangle)]
@@ -152,5 +170,6 @@ pub extern "C" fn kz_canonical<'a>(
 ) -> Reply
     ensures { Replies plain_value (λ a. WritesCanonical library.now user.now used out.old a out.new) result }
 {
-    outcome(verifier::canonical(library, user, used, out))
+    let answer = verifier::canonical(library, user, used, out);
+    Reply::of(answer.map(plain_value))
 }

@@ -12,10 +12,15 @@ ghost use Rattle.sheets.specs.Sheets.{count};
 ghost use Rattle.verifier.specs.Answers.{counts_in};
 ghost use Rattle.verifier.specs.Changing.{Puts, Touched, cut_at, putting};
 
+pub use canonical::canonical;
+pub use queries::{Place, marks, name, name_place};
+pub use records::{SCRATCH_BYTES, VERDICT_BYTES};
+pub use refusals::{Reason, Refusal, Side};
+pub use withdraw::withdraw;
+
 use edit::write;
 use lanes::EMPTY;
-use records::{CLASS_LIMIT, VERDICT_BYTES};
-use refusals::{Reason, Refusal};
+use records::CLASS_LIMIT;
 use sheets::formed::Formed;
 use admit::{Room, admit};
 use flat::{faulted, marked, rejudge};

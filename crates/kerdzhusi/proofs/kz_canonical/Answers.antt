@@ -1,11 +1,13 @@
 -- The code of what `verifier::canonical` answers.
+use Rattle.std.proofs.Common.{ℕ, ap}
+use Rattle.refusals.specs.Refusals.{answer_in}
 use Rattle.kerdzhusi.specs.Codes.{plain_value}
-use Rattle.kerdzhusi.proofs.Codes.{replies}
+use Rattle.kerdzhusi.proofs.Codes.{codable, replies}
 use Rattle.kerdzhusi.proofs.Bounds.{canonical_low}
 use Rattle.kerdzhusi.proofs.kz_canonical.Goals as goal
 
-pub outcome-requires : goal.outcome-requires
-outcome-requires c = record { low = canonical_low c.canonical.ensures }
+pub of-requires : goal.of-requires
+of-requires c = codable plain_value (λ n. n) _ _ c.map.ensures.cases (λ r e. canonical_low c.canonical-answer.ensures (ap (answer_in (λ (n : ℕ). n)) e))
 
 pub returns : goal.returns
-returns c = replies plain_value _ c.canonical.ensures c.outcome.ensures
+returns c = replies plain_value (λ n. n) _ _ _ c.canonical-answer.ensures c.map.ensures.cases c.of.ensures
