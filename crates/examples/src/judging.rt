@@ -2,7 +2,7 @@
 use crate::case::Case;
 use crate::say;
 use std::io;
-use verifier::{Judged, SCRATCH_BYTES, VERDICT_BYTES, judge};
+use verifier::{Counts, Refusal, SCRATCH_BYTES, VERDICT_BYTES, judge};
 
 // More than a judging needs, so that bytes past its need are lent and must be left as they are.
 pub(crate) const ROW: usize = 600;
@@ -58,13 +58,13 @@ fn compare(rt: &impl Print, found: &[u8], expected: &[u8]) -> io::Result<()> {
 // How many user classes were judged. The row is as it was past the verdicts; a refused judging leaves both buffers as they were.
 fn say_judged(
     rt: &impl Print,
-    judged: Judged,
+    judged: Result<Counts, Refusal>,
     row: &[u8],
     scratch: &[u8; SCRATCH],
     expected: &[u8],
 ) -> io::Result<usize> {
     match judged {
-        Judged::Fine(classes, faulted) => {
+        Ok(Counts { classes, faulted }) => {
             let (verdicts, past) = split_verdicts(row, classes);
             print!(rt; ": classes {classes} faulted {faulted}")?;
             say::row(rt, verdicts)?;
@@ -72,7 +72,7 @@ fn say_judged(
             compare(rt, verdicts, expected)?;
             Ok(classes)
         }
-        Judged::Refused(refusal) => {
+        Err(refusal) => {
             say::refused(rt, ": ", refusal)?;
             say_if_wrong(rt, only(row, KEPT) && only(scratch, KEPT))?;
             compare(rt, b"", expected)?;

@@ -3,30 +3,29 @@ use crate::case::Case;
 use reader::{Found, nth};
 use std::io;
 use verdicts::faulted;
-use verifier::{Judged, Marked, Placed, Refusal, judge, marks, name, name_place};
+use verifier::{Place, Refusal, judge, marks, name, name_place};
 
 pub(crate) fn refused(rt: &impl Print, text: &str, refusal: Refusal) -> io::Result<()> {
-    let Refusal {
-        number,
-        sheet,
-        byte,
-    } = refusal;
+    let number = refusal.reason.number();
+    let sheet = refusal.sheet.number();
+    let byte = refusal.byte;
     print!(rt; "{text}refused {number} sheet {sheet} byte {byte}")
 }
 
 fn say_marks(rt: &impl Print, case: &Case, class: usize) -> io::Result<()> {
     match marks(&case.library, &case.user, case.used, class) {
-        Marked::Fine(set) => print!(rt; ": markers {set}"),
-        Marked::Refused(refusal) => refused(rt, ": ", refusal),
+        Ok(set) => print!(rt; ": markers {set}"),
+        Err(refusal) => refused(rt, ": ", refusal),
     }
 }
 
 fn say_place(rt: &impl Print, case: &Case, class: usize) -> io::Result<()> {
     match name_place(&case.library, &case.user, case.used, class) {
-        Placed::At(sheet, start, size) => {
-            print!(rt; "; name in sheet {sheet} at {start}, bytes {size}")
+        Ok(Place { sheet, start, len }) => {
+            let sheet = sheet.number();
+            print!(rt; "; name in sheet {sheet} at {start}, bytes {len}")
         }
-        Placed::Refused(refusal) => refused(rt, "; name ", refusal),
+        Err(refusal) => refused(rt, "; name ", refusal),
     }
 }
 
@@ -52,20 +51,13 @@ pub(crate) fn record(rt: &impl Print, sheet: &[u8], n: usize) -> io::Result<()> 
     }
 }
 
-// None where judging refuses.
-fn classes(judged: Judged) -> usize {
-    match judged {
-        Judged::Fine(classes, _) => classes,
-        Judged::Refused(_) => 0,
-    }
-}
-
-// How many user classes are faulted, counted through a row of structs.
+// How many user classes are faulted, counted through a row of structs; none where judging refuses.
 pub(crate) fn structs(rt: &impl Print, case: &Case) -> io::Result<()> {
     let mut row = [0u8; 512];
     let mut scratch = [0u8; 65536];
-    let n = classes(judge(&case.library, &case.user, case.used, &mut row, &mut scratch));
-    println!(rt; ": faulted {}", faulted(&row, n))
+    let judged = judge(&case.library, &case.user, case.used, &mut row, &mut scratch);
+    let classes = judged.map_or(0, |counts| counts.classes);
+    println!(rt; ": faulted {}", faulted(&row, classes))
 }
 
 // A byte of a row stands after a colon, a space or a bar: two bytes are one class's verdict.

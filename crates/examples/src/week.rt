@@ -7,7 +7,7 @@ use crate::say;
 use crate::sheet::spelled;
 use arrayvec::ArrayVec;
 use std::io;
-use verifier::{Outcome, add, replace, withdraw};
+use verifier::{Refusal, add, replace, withdraw};
 
 // A group is handed in as a line gives it.
 #[derive(Clone, Copy)]
@@ -148,13 +148,13 @@ fn group(words: &[u8]) -> ArrayVec<u8, GROUP> {
     group
 }
 
-fn say_changed(rt: &impl Print, text: &str, changed: Outcome) -> io::Result<bool> {
+fn say_changed(rt: &impl Print, text: &str, changed: Result<usize, Refusal>) -> io::Result<bool> {
     match changed {
-        Outcome::Fine(number) => {
+        Ok(number) => {
             print!(rt; "{text}{number}")?;
             Ok(true)
         }
-        Outcome::Refused(refusal) => {
+        Err(refusal) => {
             say::refused(rt, ": ", refusal)?;
             Ok(false)
         }

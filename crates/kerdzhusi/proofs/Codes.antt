@@ -14,6 +14,7 @@ use Rattle.kerdzhusi.specs.declared.Reply.{Reply}
 
 -- ---- from the answer to the reply: a result r, and the result m of mapping its value to the code
 
+-- the byte that is blamed, 0 if nothing is
 abbrev blamed : Answer ℕ → ℕ
 blamed (refused r) = r.byte
 blamed (accepted n) = 0
