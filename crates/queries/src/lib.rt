@@ -55,8 +55,7 @@ pub fn name_place(library: &[u8], user: &[u8], used: usize, class: usize) -> Res
     ensures { Places library.now user.now used class (answer_in part_of result) }
 {
     let mut found = Found::new();
-    let accepted = asked(library, user, used, class, &mut found)?;
-    let sheets = &accepted.formed.sheets;
+    let sheets = asked(library, user, used, class, &mut found)?.formed.sheets;
     Ok(Place {
         sheet: sheets.side(class),
         start: sheets.start(class) + NAME_AT,

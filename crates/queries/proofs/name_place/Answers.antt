@@ -9,9 +9,9 @@ use native.Mathlib.Omega.{arith}
 use Rattle.queries.proofs.Parts.{start_small}
 use Rattle.queries.proofs.name_place.Goals as goal
 
-pub returns-in_err-accepted : goal.returns-in_err-accepted
-returns-in_err-accepted c =
-    let p = err_from_is_err_and c.from_residual.result c.from_residual.ensures.1 in rw (p.1, p.2) (record { answered = answer_refused _ c.in_err-accepted.ensures })
+pub returns-in_err-sheets : goal.returns-in_err-sheets
+returns-in_err-sheets c =
+    let p = err_from_is_err_and c.from_residual.result c.from_residual.ensures.1 in rw (p.1, p.2) (record { answered = answer_refused _ c.in_err-sheets.ensures })
 
 pub returns : goal.returns
 unfolding answer_of name_part sheet_number start_of class_name
@@ -19,5 +19,5 @@ returns c = record { answered = search (rules, tests) }
 
 pub overflow_add-result : goal.overflow_add-result
 overflow_add-result c =
-    let fine = c.in_ok-accepted.ensures in
+    let fine = c.in_ok-sheets.ensures in
     omega (arith, rw fine.1.0 at c.start.ensures, start_small c.args.library.now c.args.user.now c.args.used c.args.class fine.0)
