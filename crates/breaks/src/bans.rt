@@ -5,7 +5,7 @@ ghost use Rattle.spec.specs.Sheet.{Group};
 ghost use Rattle.sheets.specs.Sheets.{groups, library_count};
 ghost use Rattle.breaks.specs.Bans.{closed_by, closed_member, part_by, Bans, Partial};
 
-use records::ALLOWED;
+use records::{ALLOWED, MEMBER_ALLOWED, has_flag};
 use records::group::Group;
 use records::record::{Body, Record};
 use sheets::Sheets;
@@ -15,7 +15,7 @@ use overlay::known;
 fn closed(flags: u16) -> u8
     ensures { result ≡ closed_by flags }
 {
-    if flags / ALLOWED % 2 == 0 { 1 } else { 0 }
+    if has_flag(flags, ALLOWED) { 0 } else { 1 }
 }
 
 // Whether the record is a MEMBER that is not allowed.
@@ -23,7 +23,7 @@ fn closed_member(record: &Record) -> bool
     ensures { result ≡ closed_member record.now }
 {
     match record.body() {
-        Body::Member { flags } => flags % 2 != 1,
+        Body::Member { flags } => !has_flag(flags, MEMBER_ALLOWED),
         _ => false,
     }
 }

@@ -10,7 +10,7 @@ ghost use Rattle.breaks.specs.Bans.{Bans, ClosedClass, NamesForbidden, Refers};
 
 use crate::bans::{is_closed, partial};
 use markers::{ENUM, POWERLESS, THROWABLE, TOKEN, has};
-use records::STATIC;
+use records::{FINAL, MEMBER_ALLOWED, STATIC, has_flag};
 use records::group::Group;
 use records::record::{Body, Record};
 use sheets::Sheets;
@@ -43,7 +43,7 @@ fn member_allowed(group: &Group, i: usize) -> bool
     for record in group.records() {
         if let Body::Member { flags } = record.body() {
             if left == 0 {
-                return flags % 2 == 1;
+                return has_flag(flags, MEMBER_ALLOWED);
             }
             left -= 1;
         }
@@ -80,15 +80,15 @@ pub fn static_breaks(record: &Record, markers: &[u8]) -> bool
     let Body::Field { flags, ty } = record.body() else {
         return false;
     };
-    if flags / STATIC % 2 != 1 {
+    if !has_flag(flags, STATIC) {
         return false;
     }
-    flags % 2 != 1 || !has(type_markers(ty, markers), POWERLESS)
+    !has_flag(flags, FINAL) || !has(type_markers(ty, markers), POWERLESS)
 }
 
 /// Rule 6: an initialization flag, 5 to 7.
 pub fn lets_out(flags: u16) -> bool
     ensures { result ≡ (bit 5 flags || bit 6 flags || bit 7 flags) }
 {
-    flags / 32 % 2 == 1 || flags / 64 % 2 == 1 || flags / 128 % 2 == 1
+    has_flag(flags, 5) || has_flag(flags, 6) || has_flag(flags, 7)
 }

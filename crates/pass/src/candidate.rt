@@ -6,7 +6,7 @@ ghost use Rattle.refusals.specs.Refusals.{sheet_number};
 use crate::name::name_fits;
 use records::kind::Kind;
 use records::{
-    ALLOWED, CODE_AT, FIELD_TYPE_AT, FLAGS_AT, HEAD_BYTES, KIND_AT, LOCAL_TYPE_AT, NAME_AT,
+    CODE_AT, FIELD_TYPE_AT, FLAGS_AT, HEAD_BYTES, KIND_AT, LOCAL_TYPE_AT, NAME_AT,
     TYPE_CLASS_AT, word_in,
 };
 use refusals::{Reason, Side};
@@ -21,7 +21,9 @@ const LOCAL_NAME_AT: usize = 8;
 
 const MEMBER_NAME_AT: usize = 6;
 
-// The flags of an interface that is allowed.
+// The flags of a class that is allowed, and of such an interface.
+const ALLOWED: u16 = 256;
+
 const ALLOWED_INTERFACE: u16 = ALLOWED + 1;
 
 /// A whole record of a kind that there is. What else it says is still to be tested.

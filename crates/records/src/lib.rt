@@ -2,7 +2,7 @@
 #![tactic(auto)]
 
 ghost use Rattle.std.specs.Prelude.{◌≡◌, ◌+◌, ◌-◌, ◌≤◌, ◌<◌, length};
-ghost use Rattle.spec.specs.Record.{u16};
+ghost use Rattle.spec.specs.Record.{u16, bit};
 ghost use Rattle.spec.specs.Sheet.{of_kind};
 ghost use Rattle.records.specs.Kinds.{kind_number};
 ghost use Rattle.records.specs.Lengths.{whole_length};
@@ -45,14 +45,21 @@ pub const ENCLOSER_AT: usize = 10;
 
 pub const NAME_AT: usize = 12;
 
-// Flags of a FIELD, and of a CLASS, as divisors: what is left by 2 is the flag.
-pub const TRANSIENT: u16 = 2;
+// Flags of a FIELD.
+pub const FINAL: u32 = 0;
 
-pub const STATIC: u16 = 4;
+pub const TRANSIENT: u32 = 1;
 
-pub const INNER: u16 = 2;
+pub const STATIC: u32 = 2;
 
-pub const ALLOWED: u16 = 256;
+// Flags of a CLASS; a MEMBER that is allowed has flag 0.
+pub const INTERFACE: u32 = 0;
+
+pub const INNER: u32 = 1;
+
+pub const ALLOWED: u32 = 8;
+
+pub const MEMBER_ALLOWED: u32 = 0;
 
 // A sheet's longest length, and the most classes of both sheets together.
 pub const SHEET_LIMIT: usize = 32768;
@@ -63,6 +70,14 @@ pub const CLASS_LIMIT: usize = 256;
 pub const VERDICT_BYTES: usize = 2;
 
 pub const SCRATCH_BYTES: usize = 65536;
+
+/// Whether flag number k is set.
+pub fn has_flag(flags: u16, k: u32) -> bool
+    requires { k < 16 }
+    ensures { result ≡ bit k flags }
+{
+    (flags >> k) % 2 == 1
+}
 
 // The little-endian number at i of a slice.
 pub fn word_in(bytes: &[u8], i: usize) -> u16

@@ -8,7 +8,7 @@ ghost use Rattle.rules.specs.Line.{line_of};
 ghost use Rattle.rules.specs.Walk.{Kept, Empty, climbed, first_class, lane_of, next_class, only_first};
 
 use markers::has;
-use records::CLASS_LIMIT;
+use records::{CLASS_LIMIT, INTERFACE, has_flag};
 use records::group::Group;
 use breaks::breaking::Step;
 use breaks::judging::Judging;
@@ -43,7 +43,7 @@ fn first_class(judging: &Judging, rule: Rule, c: usize) -> Option<usize>
         return None;
     }
     let head = judging.formed.sheets.group(c).head();
-    if head.flags % 2 == 1 {
+    if has_flag(head.flags, INTERFACE) {
         return None;
     }
     head.superclass

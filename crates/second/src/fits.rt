@@ -10,7 +10,8 @@ ghost use Rattle.second.specs.Second.{Enclosing, indexed_kind, first_met, number
 ghost use Rattle.second.specs.Second.{absent, superclass_ok, encloser_ok, class_tests, target_tests, type_tests};
 ghost use Rattle.second.specs.Second.{implements_tests, field_tests, index_tests, uses_tests};
 
-use crate::lookup::{INNER, INTERFACE, Lookup, STATIC, has_flag};
+use crate::lookup::Lookup;
+use records::{INNER, INTERFACE, STATIC, has_flag};
 use records::CLASS_LIMIT;
 use records::kind::Kind;
 use records::record::{Body, Head, Record, Ty};

@@ -1,22 +1,14 @@
 // What records ask of the classes that they name: it stands in rows, so that no sheet is read for it again.
 ghost use Rattle.std.specs.Prelude.{◌≡◌, ◌<◌, replicate};
-ghost use Rattle.spec.specs.Record.{bit};
 ghost use Rattle.sheets.specs.Sheets.{Passed, count, groups};
 ghost use Rattle.fingerprints.specs.Fingerprints.{Printed};
 ghost use Rattle.second.specs.Second.{Heads, Enclosing, indexed_kind, asked_of};
 
-use records::CLASS_LIMIT;
+use records::{CLASS_LIMIT, INTERFACE, has_flag};
 use records::kind::Kind;
 use refusals::Side;
 use sheets::Sheets;
 use fingerprints::prints;
-
-/// Flags of a CLASS, and of a FIELD.
-pub const INTERFACE: u32 = 0;
-
-pub const INNER: u32 = 1;
-
-pub const STATIC: u32 = 2;
 
 /// What records ask of a class: whether it is an interface, and how many records it has that others name by an index.
 #[derive(Clone, Copy)]
@@ -33,14 +25,6 @@ pub struct Lookup<'a> {
     pub asked: [Asked; CLASS_LIMIT],
     pub ghost printed: { Printed (groups sheets.now) (count sheets.now) prints },
     pub ghost heads: { Heads sheets.now asked },
-}
-
-/// Whether flag number k is set.
-pub fn has_flag(flags: u16, k: u32) -> bool
-    requires { k < 16 }
-    ensures { result ≡ bit k flags }
-{
-    (flags >> k) % 2 == 1
 }
 
 // The kind of the records that others name by an index: MEMBER in the library, LOCAL in the user sheet.

@@ -8,7 +8,7 @@ ghost use Rattle.slots.specs.Slots.{rule_number, rule_marker, Passes, slot_by, F
 use markers::{ALL, DEEP_SELFLESS, IMMUTABLE, POWERLESS, SELFLESS, common, has, union};
 use records::group::Group;
 use records::record::{Body, Head, Ty};
-use records::{INNER, STATIC, TRANSIENT};
+use records::{FINAL, INNER, STATIC, TRANSIENT, has_flag};
 use captured::{Lane, lacking};
 use overlay::{known, type_markers};
 
@@ -56,10 +56,10 @@ pub fn rule_set(rule: Late) -> u8
 fn slot_set(flags: u16, m: u8) -> u8
     ensures { Passes (slot_by flags m) result }
 {
-    if flags % 2 == 0 {
+    if !has_flag(flags, FINAL) {
         return common(m, CHANGING);
     }
-    if flags / TRANSIENT % 2 == 1 {
+    if has_flag(flags, TRANSIENT) {
         return common(m, LASTING);
     }
     union(m, SELFLESS)
@@ -69,7 +69,7 @@ fn slot_set(flags: u16, m: u8) -> u8
 pub fn field_set(flags: u16, ty: Ty, markers: &[u8]) -> u8
     ensures { FieldSet markers.now flags ty result }
 {
-    if flags / STATIC % 2 == 1 {
+    if has_flag(flags, STATIC) {
         return ALL;
     }
     slot_set(flags, type_markers(ty, markers))
@@ -102,7 +102,7 @@ fn root_set(markers: &[u8], d: usize) -> u8
 fn encloser_set(head: &Head, markers: &[u8]) -> u8
     ensures { Passes (encloser_by head.now markers.now) result }
 {
-    if head.flags / INNER % 2 == 0 {
+    if !has_flag(head.flags, INNER) {
         return ALL;
     }
     match head.encloser {

@@ -12,7 +12,7 @@ ghost use Rattle.breaks.specs.Bans.{Refers};
 ghost use Rattle.survey.specs.Survey.{is_clean, head_by, any_late, record_breaks, ClassSet, Passing};
 
 use markers::{SELFLESS, clash, common, has};
-use records::CLASS_LIMIT;
+use records::{CLASS_LIMIT, INTERFACE, has_flag};
 use records::group::Group;
 use records::record::{Head, Record};
 use breaks::early::{lets_out, names_forbidden, refers_forbidden, reserved, static_breaks};
@@ -41,7 +41,7 @@ pub struct Survey<'a> {
 fn is_interface(head: &Head) -> bool
     ensures { result ≡ bit 0 head.now.flags }
 {
-    head.flags % 2 == 1
+    has_flag(head.flags, INTERFACE)
 }
 
 // The markers whose rules class t and its superclasses up to the root pass, by the sets of lower classes. An interface has no slots.

@@ -1,6 +1,6 @@
 use Rattle.std.proofs.Common.{rules}
 use Rattle.spec.specs.Record.{bit}
-use Rattle.second.proofs.lookup.has_flag.Goals as goal
+use Rattle.records.proofs.has_flag.Goals as goal
 
 pub returns : goal.returns
 unfolding bit
