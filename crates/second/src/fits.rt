@@ -11,11 +11,11 @@ ghost use Rattle.second.specs.Second.{absent, superclass_ok, encloser_ok, class_
 ghost use Rattle.second.specs.Second.{implements_tests, field_tests, index_tests, uses_tests};
 
 use crate::lookup::{INNER, INTERFACE, Lookup, STATIC, has_flag};
+use fingerprints::met;
 use records::CLASS_LIMIT;
 use records::kind::Kind;
 use records::record::{Body, Head, Record, Ty};
 use refusals::{Reason, Side};
-use fingerprints::met;
 
 // Refuses with a reason what does not hold.
 fn require(holds: bool, reason: Reason) -> Result<(), Reason>

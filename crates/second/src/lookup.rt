@@ -5,11 +5,11 @@ ghost use Rattle.sheets.specs.Sheets.{Passed, count, groups};
 ghost use Rattle.fingerprints.specs.Fingerprints.{Printed};
 ghost use Rattle.second.specs.Second.{Heads, Enclosing, indexed_kind, asked_of};
 
+use fingerprints::prints;
 use records::CLASS_LIMIT;
 use records::kind::Kind;
 use refusals::Side;
 use sheets::Sheets;
-use fingerprints::prints;
 
 /// Flags of a CLASS, and of a FIELD.
 pub const INTERFACE: u32 = 0;
