@@ -2,6 +2,7 @@
 #![tactic(auto)]
 
 ghost use Rattle.std.specs.Prelude.{◌≡◌, ◌||◌, ◌≤◌, ltb, length};
+ghost use Rattle.spec.specs.Verdicts.{flat_lines};
 ghost use Rattle.spec.specs.Refusals.{scratch_length};
 ghost use Rattle.view.specs.View.{Sits, spliced};
 ghost use Rattle.refusals.specs.Refusals.{Answers};
@@ -10,7 +11,7 @@ ghost use Rattle.admit.specs.Admitting.{admit_refusal, Plain};
 
 use form::accepted::Found;
 use form::check;
-use records::{SCRATCH_BYTES, SHEET_LIMIT};
+use records::{SCRATCH_BYTES, SHEET_LIMIT, VERDICT_BYTES};
 use refusals::{Reason, Refusal};
 use view::{Cut, Draft};
 use whole::whole_group;
@@ -23,6 +24,17 @@ pub struct Room {
 }
 
 impl Room {
+    /// Of a row and a scratch.
+    #[tactic(auto, unfolding(spec::specs::Verdicts::flat_lines))]
+    pub fn of(verdicts: &[u8], scratch: &[u8]) -> Room
+        ensures { result ≡ record { lines = flat_lines verdicts.now; scratch = length scratch.now } }
+    {
+        Room {
+            lines: verdicts.len() / VERDICT_BYTES,
+            scratch: scratch.len(),
+        }
+    }
+
     /// 12: the row has fewer lines than there are user classes, or the scratch is too short.
     pub fn lacks(self, own: usize) -> bool
         ensures { result ≡ (ltb self.lines own || ltb self.scratch scratch_length) }

@@ -48,11 +48,7 @@ pub fn judge<'a>(
     let mut found = Found::new();
     let accepted = present(library, user, used, &mut found)?;
     let classes = accepted.formed.sheets.user_count();
-    let room = Room {
-        lines: verdicts.len() / VERDICT_BYTES,
-        scratch: scratch.len(),
-    };
-    if room.lacks(classes) {
+    if Room::of(verdicts, scratch).lacks(classes) {
         return Err(Refusal::from(Reason::TooShort));
     }
     rejudge(&accepted, &[0; CLASS_LIMIT], verdicts, scratch);
@@ -94,10 +90,7 @@ fn change<'a>(
         (record { user = user.old; used = used.old; verdicts = verdicts.old }) scratch.old (answer_in (λ n. n) result)
         (record { user = user.new; used = used.new; verdicts = verdicts.new }) scratch.new }
 {
-    let room = Room {
-        lines: verdicts.len() / VERDICT_BYTES,
-        scratch: scratch.len(),
-    };
+    let room = Room::of(verdicts, scratch);
     let mut found = Found::new();
     let size = admit(library, user, group, cut, room, &mut found)?;
     write(user, group, cut);
