@@ -5,13 +5,14 @@ ghost use Rattle.spec.specs.Sheet.{Group};
 ghost use Rattle.sheets.specs.Sheets.{groups, library_count};
 ghost use Rattle.breaks.specs.Bans.{closed_by, closed_member, part_by, Bans, Partial};
 
-use records::{ALLOWED, MEMBER_ALLOWED, has_flag};
+use overlay::known;
 use records::group::Group;
 use records::record::{Body, Record};
+use records::{ALLOWED, MEMBER_ALLOWED, has_flag};
 use sheets::Sheets;
-use overlay::known;
 
 // 1 for a class that is not allowed, by its flags; else 0.
+#[tactic(auto, unfolding(crate::specs::Bans::closed_by))]
 fn closed(flags: u16) -> u8
     ensures { result ≡ closed_by flags }
 {
