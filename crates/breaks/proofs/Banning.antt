@@ -3,8 +3,7 @@
 use mathlib.Core.Path.{◌≡◌, refl, ap, ◌∙◌}
 use mathlib.Core.Bool.{Bool, true, false, not, ◌&&◌}
 use mathlib.Core.List.{List}
-use Prim.Native.Nat.{ℕ, zero, suc, ◌+◌, ◌/◌, ◌%◌, ◌≤◌, ◌<◌}
-use native.Mathlib.Decide.{ℕ_discrete}
+use Prim.Native.Nat.{ℕ, zero, suc, ◌+◌, ◌%◌, ◌≤◌, ◌<◌}
 use native.Mathlib.Omega.{arith}
 use lib.Dec.{eqb, leb, ltb}
 use lib.ListN.{length, get_or, set, replicate, length-set}
@@ -16,14 +15,6 @@ use Rattle.spec.specs.Sheet.{Group, class_record, is_allowed}
 use Rattle.spec.specs.Rules.{forbidden}
 use Rattle.laws.proofs.Rows.{set_below}
 use Rattle.breaks.specs.Bans.{closed_by, closed_member, part_by, Bans, Partial}
-
--- a bit that is not 1 is 0
-clear : (b : ℕ) → b < 2 → eqb b 0 ≡ not (eqb b 1)
-clear b h = go (ℕ_discrete b 1)
-  where
-    go : Dec (b ≡ 1) → eqb b 0 ≡ not (eqb b 1)
-    go (yes e) = rw e
-    go (no n) = let z : b ≡ 0 = omega arith in rw z
 
 -- ---- the row of them
 
@@ -64,22 +55,22 @@ ban_end {nlib} {g} {row} few w = record { few = few; long = w.long; is = λ e. g
 
 pub ban_small : (f : ℕ) (h : Group) {v x : ℕ} → v ≡ closed_by f → x ≡ part_by h → v + x < 4
 unfolding closed_by part_by
-ban_small f h ev ex = rw (ev, ex) (go (eqb (f / 256 % 2) 0) (any closed_member h))
+ban_small f h ev ex = rw (ev, ex) (go (bit 8 f) (any closed_member h))
   where
-    go : (a b : Bool) → elim a as (λ (y : Bool). ℕ) [ true ↦ 1 | false ↦ 0 ] + elim b as (λ (y : Bool). ℕ) [ true ↦ 2 | false ↦ 0 ] < 4
+    go : (a b : Bool) → elim a as (λ (y : Bool). ℕ) [ true ↦ 0 | false ↦ 1 ] + elim b as (λ (y : Bool). ℕ) [ true ↦ 2 | false ↦ 0 ] < 4
     go true true = omega arith
     go true false = omega arith
     go false true = omega arith
     go false false = omega arith
 
 -- 1 of the class, 2 of its members
-pub two_parts : (f : ℕ) (h : Group) → (not (eqb ((closed_by f + part_by h) % 2) 0) ≡ eqb (f / 256 % 2) 0) × (leb 2 (closed_by f + part_by h) ≡ any closed_member h)
+pub two_parts : (f : ℕ) (h : Group) → (not (eqb ((closed_by f + part_by h) % 2) 0) ≡ not (bit 8 f)) × (leb 2 (closed_by f + part_by h) ≡ any closed_member h)
 unfolding closed_by part_by
-two_parts f h = go (eqb (f / 256 % 2) 0) (any closed_member h)
+two_parts f h = go (bit 8 f) (any closed_member h)
   where
     go : (a b : Bool)
-        → (not (eqb ((elim a as (λ (y : Bool). ℕ) [ true ↦ 1 | false ↦ 0 ] + elim b as (λ (y : Bool). ℕ) [ true ↦ 2 | false ↦ 0 ]) % 2) 0) ≡ a)
-        × (leb 2 (elim a as (λ (y : Bool). ℕ) [ true ↦ 1 | false ↦ 0 ] + elim b as (λ (y : Bool). ℕ) [ true ↦ 2 | false ↦ 0 ]) ≡ b)
+        → (not (eqb ((elim a as (λ (y : Bool). ℕ) [ true ↦ 0 | false ↦ 1 ] + elim b as (λ (y : Bool). ℕ) [ true ↦ 2 | false ↦ 0 ]) % 2) 0) ≡ not a)
+        × (leb 2 (elim a as (λ (y : Bool). ℕ) [ true ↦ 0 | false ↦ 1 ] + elim b as (λ (y : Bool). ℕ) [ true ↦ 2 | false ↦ 0 ]) ≡ b)
     go true true = (refl, refl)
     go true false = (refl, refl)
     go false true = (refl, refl)
@@ -87,14 +78,14 @@ two_parts f h = go (eqb (f / 256 % 2) 0) (any closed_member h)
 
 -- an odd entry
 pub ban_test : {nlib : ℕ} {g : ℕ → Group} {row : List ℕ} → Bans nlib g row → (d : ℕ) {x : ℕ} → x ≡ get_or row d 0 → not (eqb (x % 2) 0) ≡ forbidden nlib g d
-unfolding forbidden is_allowed bit
+unfolding forbidden is_allowed
 ban_test {nlib} {g} w d {x} e = ap (λ (y : ℕ). not (eqb (y % 2) 0)) (e ∙ w.is d) ∙ go (ltb d nlib)
   where
     f : ℕ
     f = flags (class_record (g d))
 
-    go : (b : Bool) → not (eqb (elim b as (λ (y : Bool). ℕ) [ true ↦ closed_by f + part_by (g d) | false ↦ 0 ] % 2) 0) ≡ (b && not (eqb (f / 256 % 2) 1))
-    go true = (two_parts f (g d)).0 ∙ clear (f / 256 % 2) (omega arith)
+    go : (b : Bool) → not (eqb (elim b as (λ (y : Bool). ℕ) [ true ↦ closed_by f + part_by (g d) | false ↦ 0 ] % 2) 0) ≡ (b && not (bit 8 f))
+    go true = (two_parts f (g d)).0
     go false = refl
 
 -- an entry of 2 or more

@@ -1,4 +1,3 @@
-pub mod Bits
 pub mod Banning
 pub mod Naming
 pub mod Statics

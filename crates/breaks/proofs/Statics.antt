@@ -3,15 +3,13 @@
 use mathlib.Core.Path.{◌≡◌, refl, sym, ap, ◌∙◌}
 use mathlib.Core.Bool.{Bool, true, false, not, ◌&&◌}
 use mathlib.Core.List.{List}
-use Prim.Native.Nat.{ℕ, ◌/◌, ◌%◌}
-use lib.Dec.{eqb}
-use borrow.Author.Tests.{eq-eqb, ne_eqb}
+use Prim.Native.Nat.{ℕ}
+use borrow.Author.Tests.{eq-eqb}
 use Rattle.spec.specs.Record.{bit, kind, is_kind, FIELD, flags, is_final, is_static, field_ty}
 use Rattle.spec.specs.Sheet.{Group, is_static_field}
 use Rattle.spec.specs.Markers.{Powerless}
 use Rattle.spec.specs.Classes.{satisfies}
 use Rattle.spec.specs.Rules.{static_breaks}
-use Rattle.breaks.proofs.Bits.{bit_zero}
 
 module _ (g : ℕ → Group) (r : List ℕ) where
   pub no_field : is_kind FIELD r ≡ false → false ≡ static_breaks g r
@@ -19,16 +17,16 @@ module _ (g : ℕ → Group) (r : List ℕ) where
   no_field e = sym (ap (λ (b : Bool). (b && is_static r) && not (is_final r && satisfies g Powerless (field_ty r))) e)
 
   module _ {f : ℕ} (k : kind r ≡ 3) (e : f ≡ flags r) where
-    by_bits : (a b : Bool) → eqb (f / 4 % 2) 1 ≡ a → eqb (f % 2) 1 ≡ b → static_breaks g r ≡ (a && not (b && satisfies g Powerless (field_ty r)))
-    unfolding is_static_field is_static is_final bit
-    by_bits a b ea eb = rw (eq-eqb (kind r) 3 k, bit_zero (flags r), ← e, ea, eb)
+    by_bits : (a b : Bool) → bit 2 f ≡ a → bit 0 f ≡ b → static_breaks g r ≡ (a && not (b && satisfies g Powerless (field_ty r)))
+    unfolding is_static_field is_static is_final
+    by_bits a b ea eb = rw (eq-eqb (kind r) 3 k, ← e, ea, eb)
 
-    pub instance_field : (f / 4 % 2 ≡ 1 → ⊥) → false ≡ static_breaks g r
-    instance_field n = sym (by_bits false _ (ne_eqb _ _ n) refl)
+    pub instance_field : bit 2 f ≡ false → false ≡ static_breaks g r
+    instance_field s = sym (by_bits false _ s refl)
 
-    module _ (s : f / 4 % 2 ≡ 1) where
-      pub changing : (f % 2 ≡ 1 → ⊥) → true ≡ static_breaks g r
-      changing n = sym (by_bits true false (eq-eqb _ _ s) (ne_eqb _ _ n))
+    module _ (s : bit 2 f ≡ true) where
+      pub changing : bit 0 f ≡ false → true ≡ static_breaks g r
+      changing o = sym (by_bits true false s o)
 
-      pub typed : f % 2 ≡ 1 → {b : Bool} → b ≡ satisfies g Powerless (field_ty r) → not b ≡ static_breaks g r
-      typed o eb = ap not eb ∙ sym (by_bits true true (eq-eqb _ _ s) (eq-eqb _ _ o))
+      pub typed : bit 0 f ≡ true → {b : Bool} → b ≡ satisfies g Powerless (field_ty r) → not b ≡ static_breaks g r
+      typed o eb = ap not eb ∙ sym (by_bits true true s o)

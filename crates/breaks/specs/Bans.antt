@@ -1,6 +1,6 @@
 -- What is not allowed of the library's classes, as a row.
 -- Assumes nothing.
-use Rattle.std.specs.Prelude.{Bool, true, false, not, ◌&&◌, ◌||◌, Option, List, ◌≡◌, ℕ, ◌+◌, ◌/◌, ◌%◌, ◌≤◌, ◌<◌, T, eqb, ltb, length, get_or}
+use Rattle.std.specs.Prelude.{Bool, true, false, not, ◌&&◌, ◌||◌, Option, List, ◌≡◌, ℕ, ◌+◌, ◌≤◌, ◌<◌, T, ltb, length, get_or}
 use Rattle.spec.specs.Lists.{any}
 use Rattle.spec.specs.Record.{bit, is_kind, MEMBER, REFERS, flags, target, index, references}
 use Rattle.spec.specs.Sheet.{Group, class_record, of_kind}
@@ -9,7 +9,7 @@ use Rattle.named.specs.Named.{option_list}
 
 -- 1 for a class that is not allowed, by its flags
 unfoldable pub closed_by : ℕ → ℕ
-closed_by f = elim (eqb (f / 256 % 2) 0) [ true ↦ 1 | false ↦ 0 ]
+closed_by f = elim (bit 8 f) [ true ↦ 0 | false ↦ 1 ]
 
 unfoldable pub closed_member : List ℕ → Bool
 closed_member r = is_kind MEMBER r && not (bit 0 (flags r))

@@ -12,6 +12,7 @@ use records::{ALLOWED, MEMBER_ALLOWED, has_flag};
 use sheets::Sheets;
 
 // 1 for a class that is not allowed, by its flags; else 0.
+#[tactic(auto, unfolding(crate::specs::Bans::closed_by))]
 fn closed(flags: u16) -> u8
     ensures { result ≡ closed_by flags }
 {

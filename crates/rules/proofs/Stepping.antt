@@ -1,6 +1,6 @@
 -- The classes that a rule asks, one after the other, by what the code reads.
 -- Assumes nothing.
-use mathlib.Core.Path.{◌≡◌, sym, ap, ◌∙◌}
+use mathlib.Core.Path.{◌≡◌, sym, ap}
 use mathlib.Core.Bool.{Bool, true, false, not, ◌||◌, and-false}
 use mathlib.Core.List.{List}
 use Prim.Native.Nat.{ℕ, ◌/◌, ◌%◌, ◌^◌, ◌≤◌, ◌<◌}
@@ -19,7 +19,6 @@ use Rattle.slots.specs.Slots.{rule_marker}
 use Rattle.breaks.specs.declared.rule.Rule.{Rule}
 use Rattle.breaks.specs.declared.rule.Rule.TheVariants.{Late}
 use Rattle.breaks.specs.Breaking.{asks_first}
-use Rattle.breaks.proofs.Bits.{bit_zero}
 use Rattle.rules.specs.Walk.{only_first, first_class, next_class}
 
 module _ (nlib c t : ℕ) (h : Group) where
@@ -50,17 +49,17 @@ module _ (g : ℕ → Group) (rule : LateRule) (c : ℕ) where
     first_unmarked e = first_unjudged (rw (marked, e) (and-false (not (is_interface (g c)))))
 
     module _ {f : ℕ} (ef : f ≡ flags (class_record (g c))) where
-      interface : is_interface (g c) ≡ eqb (f % 2) 1
+      interface : is_interface (g c) ≡ bit 0 f
       unfolding is_interface
-      interface = ap (bit 0) (sym ef) ∙ bit_zero f
+      interface = ap (bit 0) (sym ef)
 
-      pub first_interface : f % 2 ≡ 1 → None ≡ first_class g (Late rule) c
+      pub first_interface : bit 0 f ≡ true → None ≡ first_class g (Late rule) c
       unfolding judged_for
-      first_interface e = first_unjudged (rw (interface, eq-eqb (f % 2) 1 e))
+      first_interface e = first_unjudged (rw (interface, e))
 
-      pub first_up : b ≡ true → (f % 2 ≡ 1 → ⊥) → optional (superclass (class_record (g c))) ≡ first_class g (Late rule) c
+      pub first_up : b ≡ true → bit 0 f ≡ false → optional (superclass (class_record (g c))) ≡ first_class g (Late rule) c
       unfolding judged_for
-      first_up e n = rw (interface, ne_eqb (f % 2) 1 n, marked, e, first_class)
+      first_up e n = rw (interface, n, marked, e, first_class)
 
 -- a rule that asks the first record alone
 pub only_asks : (nlib : ℕ) (rule : Rule) (t : ℕ) → asks_first rule ≡ true → only_first nlib rule t ≡ true

@@ -3,10 +3,7 @@
 use mathlib.Core.Path.{◌≡◌, refl, sym, ap, ap₂, ◌∙◌}
 use mathlib.Core.Bool.{Bool, true, false, not, ◌&&◌, ◌||◌, and-true, and-false, or-true, or-false}
 use mathlib.Core.List.{List}
-use Prim.Native.Nat.{ℕ, ◌-◌, ◌%◌, ◌^◌}
-use native.Mathlib.Nat.{div-one}
-use native.Mathlib.Omega.{arith}
-use lib.Dec.{eqb}
+use Prim.Native.Nat.{ℕ, ◌-◌, ◌^◌}
 use lib.ListN.{get_or}
 use borrow.Author.Tests.{eq-eqb, ne_eqb}
 use Rattle.std.specs.Prelude.{None, Some}
@@ -61,14 +58,6 @@ module _ (m : ℕ) {r : ℕ} (e : r ≡ union m 4) where
   joined_selfless = ap (bit 2) e ∙ bit_union 2 m 4 ∙ or-true (bit 2 m)
 
 -- ---- a slot
-
-pub even : (f : ℕ) → f % 2 ≡ 0 → bit 0 f ≡ false
-unfolding bit
-even f h = ap (λ (x : ℕ). eqb (x % 2) 1) (div-one f) ∙ ne_eqb (f % 2) 1 (λ e. omega arith)
-
-pub odd : (f : ℕ) → (f % 2 ≡ 0 → ⊥) → bit 0 f ≡ true
-unfolding bit
-odd f h = ap (λ (x : ℕ). eqb (x % 2) 1) (div-one f) ∙ eq-eqb (f % 2) 1 (omega arith)
 
 module _ (f m r : ℕ) where
   pub slot_changing : ((k : ℕ) → bit k r ≡ (bit k m && bit k 130)) → bit 0 f ≡ false → Passes (slot_by f m) r

@@ -1,13 +1,10 @@
 -- A static field has no slot; another one is a slot.
-use Rattle.spec.specs.Record.{bit}
-use borrow.Author.Tests.{eq-eqb, ne_eqb}
+use mathlib.Core.Path.{sym, ◌∙◌}
 use Rattle.slots.proofs.Fields.{static_set, instance_set}
 use Rattle.slots.proofs.field_set.Goals as goal
 
-pub returns-then-flags-eq1 : goal.returns-then-flags-eq1
-unfolding bit
-returns-then-flags-eq1 c = static_set (eq-eqb _ _ c.if-flags-eq1.true)
+pub returns-then-has_flag : goal.returns-then-has_flag
+returns-then-has_flag c = static_set (sym c.has_flag.ensures ∙ c.if-has_flag.true)
 
 pub returns : goal.returns
-unfolding bit
-returns c = instance_set (ne_eqb _ _ c.if-flags-eq1.false) c.type_markers.ensures c.slot_set.ensures
+returns c = instance_set (sym c.has_flag.ensures ∙ c.if-has_flag.false) c.type_markers.ensures c.slot_set.ensures

@@ -1,17 +1,14 @@
 -- By the two flags of the field.
-use Rattle.spec.specs.Record.{bit}
-use borrow.Author.Tests.{eq-eqb, ne_eqb}
-use Rattle.slots.proofs.Sets.{even, odd, slot_changing, slot_transient, slot_final}
+use mathlib.Core.Path.{sym, ◌∙◌}
+use Rattle.slots.proofs.Sets.{slot_changing, slot_transient, slot_final}
 use Rattle.slots.proofs.slot_set.Goals as goal
 
-pub returns-then-flags-eq0 : goal.returns-then-flags-eq0
-returns-then-flags-eq0 c = slot_changing c.args.flags c.args.m c.common.result c.common.ensures (even c.args.flags c.if-flags-eq0.true)
+pub returns-then-not-has_flag : goal.returns-then-not-has_flag
+returns-then-not-has_flag c = slot_changing c.args.flags c.args.m _ c.common.ensures (sym c.has_flag.ensures ∙ c.if-not-has_flag.true)
 
-pub returns-then-flags-eq1 : goal.returns-then-flags-eq1
-unfolding bit
-returns-then-flags-eq1 c =
-    slot_transient c.args.flags c.args.m c.common-then-flags-eq1.result (odd c.args.flags c.if-flags-eq0.false) c.common-then-flags-eq1.ensures (eq-eqb _ _ c.if-flags-eq1.true)
+pub returns-then-has_flag : goal.returns-then-has_flag
+returns-then-has_flag c =
+    slot_transient c.args.flags c.args.m _ (sym c.has_flag.ensures ∙ c.if-not-has_flag.false) c.common-then-has_flag.ensures (sym c.has_flag-2.ensures ∙ c.if-has_flag.true)
 
 pub returns : goal.returns
-unfolding bit
-returns c = slot_final c.args.flags c.args.m c.union.result (odd c.args.flags c.if-flags-eq0.false) c.union.ensures (ne_eqb _ _ c.if-flags-eq1.false)
+returns c = slot_final c.args.flags c.args.m _ (sym c.has_flag.ensures ∙ c.if-not-has_flag.false) c.union.ensures (sym c.has_flag-2.ensures ∙ c.if-has_flag.false)

@@ -2,12 +2,11 @@ use Rattle.std.proofs.Common.{rules}
 use borrow.Author.Tests.{tests}
 use Rattle.records.proofs.Bodies.{is_not, not_member}
 use Rattle.breaks.specs.Bans.{closed_member}
-use Rattle.breaks.proofs.Bits.{bit_zero}
 use Rattle.breaks.proofs.bans.closed_member.Goals as goal
 
 pub returns-in-Member : goal.returns-in-Member
 unfolding closed_member
-returns-in-Member c = search (rules, tests, bit_zero)
+returns-in-Member c = search (rules, tests)
 
 pub returns-in_default : goal.returns-in_default
 unfolding closed_member

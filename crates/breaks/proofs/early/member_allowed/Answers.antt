@@ -1,13 +1,11 @@
 -- Members are passed one after another.
 use mathlib.Core.Path.{◌≡◌, refl, sym, ap, ◌∙◌}
 use mathlib.Core.List.{List, [], ◌∷◌}
-use Prim.Native.Nat.{ℕ, ◌%◌}
-use lib.Dec.{eqb}
+use Prim.Native.Nat.{ℕ}
 use lib.ListN.{get_or}
 use Rattle.spec.specs.Record.{bit, flags, MEMBER}
 use Rattle.spec.specs.Sheet.{Group, of_kind}
 use Rattle.records.proofs.Bodies.{body_kind, is_of, is_not, not_member}
-use Rattle.breaks.proofs.Bits.{bit_zero}
 use Rattle.breaks.proofs.Members.{member_here, member_next, member_other, no_member}
 use Rattle.breaks.proofs.early.member_allowed.Goals as goal
 
@@ -20,7 +18,7 @@ pub returns-then-left-eq0 : goal.returns-then-left-eq0
 returns-then-left-eq0 c =
     let e = from _ _ _ c.loop-record.invariant.2 c.in-Some.ensures.steps
     (ap (λ (j : ℕ). get_or (of_kind MEMBER (c.in-Some.record ∷ c.next.new.self)) j []) c.if-left-eq0.true ∙ member_here _ _ (is_of _ c.body.result c.body.ensures (ap body_kind c.in-Member.is))) in
-    sym (e ∙ bit_zero (flags c.in-Some.record) ∙ ap (λ (f : ℕ). eqb (f % 2) 1) (sym c.in-Member.ensures.1))
+    c.has_flag.ensures ∙ ap (bit 0) c.in-Member.ensures.1 ∙ sym e
 
 pub loop-record-preserved-in-Member : goal.loop-record-preserved-in-Member
 loop-record-preserved-in-Member c = (
