@@ -1,12 +1,9 @@
 ghost use Rattle.std.specs.Prelude.{◌≤◌};
 
 use crate::candidate::Candidate;
-use records::CLASS_LIMIT;
 use records::kind::Kind;
+use records::{CLASS_LIMIT, RECORD_LIMIT};
 use refusals::{Reason, Refusal, Side};
-
-// The most records of a group.
-const RECORD_LIMIT: usize = 255;
 
 /// The open group: how many records it has so far, and the kind of the last.
 #[derive(Clone, Copy)]
@@ -77,7 +74,7 @@ impl Place {
             return true;
         }
         match self.group {
-            Some(group) => group.last.number() <= candidate.kind.number(),
+            Some(group) => group.last <= candidate.kind,
             None => true,
         }
     }
