@@ -12,6 +12,7 @@ pub mod group;
 pub mod kind;
 pub mod record;
 
+use group::Records;
 use kind::Kind;
 
 // The length and the kind that each record begins with.
@@ -89,37 +90,29 @@ pub fn word_in(bytes: &[u8], i: usize) -> u16
     u16::from_le_bytes([bytes[i], bytes[i + 1]])
 }
 
-// How many records of a kind a class's bytes are.
+// How many records of a kind some bytes are.
 pub fn count_in(bytes: &[u8], kind: Kind) -> usize
     requires { AtRecord bytes.now (length bytes.now) 0 }
     ensures { result ≡ length (of_kind (kind_number kind) (between bytes.now 0 (length bytes.now))) }
 {
-    let mut at = 0;
-    let mut m = 0;
-    while at < bytes.len() {
-        if word_in(bytes, at + KIND_AT) == kind.number() {
-            m += 1;
-        }
-        at += usize::from(word_in(bytes, at));
-    }
-    m
+    Records::new(bytes).filter(|record| record.is(kind)).count()
 }
 
-// Where number i of a kind begins in a class's bytes; their end if there is none.
+// Where record number i of a kind begins in some bytes; their end if there is none.
 pub fn nth_in(bytes: &[u8], kind: Kind, i: usize) -> usize
     requires { AtRecord bytes.now (length bytes.now) 0 }
     ensures { result ≡ nth_byte (kind_number kind) i 0 (between bytes.now 0 (length bytes.now)) }
 {
     let mut at = 0;
     let mut left = i;
-    while at < bytes.len() {
-        if word_in(bytes, at + KIND_AT) == kind.number() {
+    for record in Records::new(bytes) {
+        if record.is(kind) {
             if left == 0 {
                 return at;
             }
             left -= 1;
         }
-        at += usize::from(word_in(bytes, at));
+        at += record.len();
     }
     at
 }
