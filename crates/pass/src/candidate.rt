@@ -6,7 +6,7 @@ ghost use Rattle.refusals.specs.Refusals.{sheet_number};
 use crate::name::name_fits;
 use records::kind::Kind;
 use records::{
-    CODE_AT, FIELD_TYPE_AT, FLAGS_AT, HEAD_BYTES, KIND_AT, LOCAL_TYPE_AT, NAME_AT, TYPE_CLASS_AT,
+    CODE_AT, FIELD_TYPE_AT, FLAGS_AT, KIND_AT, LOCAL_TYPE_AT, NAME_AT, TYPE_CLASS_AT, whole_length,
     word_in,
 };
 use refusals::{Reason, Side};
@@ -64,7 +64,7 @@ spec::specs::Record::by_kind, spec::specs::Record::kind_fits, spec::specs::Recor
 // what stands in it
 spec::specs::Record::u8, spec::specs::Record::flags, spec::specs::Record::zero_byte, spec::specs::Record::class_name, spec::specs::Record::field_ty, spec::specs::Record::local_ty,
 // the first one
-spec::specs::Sheet::whole_first, crate::specs::Pass::first_record, crate::specs::Pass::refused_at))]
+records::specs::Lengths::whole_length, spec::specs::Sheet::whole_first, crate::specs::Pass::first_record, crate::specs::Pass::refused_at))]
 impl<'a> Candidate<'a> {
     ghost use Rattle.std.specs.Prelude.{IfOk, IfErr};
     ghost use Rattle.std.proofs.Math.Option.{some};
@@ -78,20 +78,14 @@ impl<'a> Candidate<'a> {
         ensures first { IfOk result (λ r. (whole_first bytes.now ≡ true) × (r.bytes.now ≡ first_record bytes.now)) }
         ensures refused { IfErr result (λ e. (p : Place) → refused_at p bytes.now ≡ some (reason_number e)) }
     {
-        if bytes.len() < HEAD_BYTES {
-            return Err(Reason::Torn);
-        }
-        let len = usize::from(word_in(bytes, 0));
-        if !(HEAD_BYTES..=bytes.len()).contains(&len) {
-            return Err(Reason::Torn);
-        }
-        match Kind::try_from(word_in(bytes, KIND_AT)) {
-            Ok(kind) => Ok(Candidate {
-                bytes: &bytes[..len],
-                kind,
-            }),
-            Err(_) => Err(Reason::WrongKind),
-        }
+        let len = whole_length(bytes).ok_or(Reason::Torn)?;
+        let Ok(kind) = Kind::try_from(word_in(bytes, KIND_AT)) else {
+            return Err(Reason::WrongKind);
+        };
+        Ok(Candidate {
+            bytes: &bytes[..len],
+            kind,
+        })
     }
 
     /// Whether it is a CLASS record.

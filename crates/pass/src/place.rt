@@ -1,12 +1,9 @@
 ghost use Rattle.std.specs.Prelude.{◌≤◌};
 
 use crate::candidate::Candidate;
-use records::CLASS_LIMIT;
 use records::kind::Kind;
+use records::{CLASS_LIMIT, RECORD_LIMIT};
 use refusals::{Reason, Refusal, Side};
-
-// The most records of a group.
-const RECORD_LIMIT: usize = 255;
 
 /// The open group: how many records it has so far, and the kind of the last.
 #[derive(Clone, Copy)]
@@ -77,7 +74,7 @@ impl Place {
             return true;
         }
         match self.group {
-            Some(group) => group.last.number() <= candidate.kind.number(),
+            Some(group) => group.last <= candidate.kind,
             None => true,
         }
     }
@@ -87,25 +84,12 @@ impl Place {
     fn test(self, candidate: &Candidate) -> Result<(), Reason>
         ensures { Meets (record_tests (located self candidate.now.bytes.now)) result }
     {
-        if !candidate.has_home(self.side) {
-            return Err(Reason::WrongKind);
-        }
-        if !candidate.has_length() {
-            return Err(Reason::WrongLength);
-        }
-        if !self.has_group(candidate) {
-            return Err(Reason::NoClassYet);
-        }
-        if !candidate.has_body(self.side) {
-            return Err(Reason::WrongBody);
-        }
-        if !self.has_room(candidate) {
-            return Err(Reason::WrongCount);
-        }
-        if !self.keeps_order(candidate) {
-            return Err(Reason::OutOfOrder);
-        }
-        Ok(())
+        Reason::WrongKind.unless(candidate.has_home(self.side))?;
+        Reason::WrongLength.unless(candidate.has_length())?;
+        Reason::NoClassYet.unless(self.has_group(candidate))?;
+        Reason::WrongBody.unless(candidate.has_body(self.side))?;
+        Reason::WrongCount.unless(self.has_room(candidate))?;
+        Reason::OutOfOrder.unless(self.keeps_order(candidate))
     }
 
     // The same. The kind is a constant in each call, so that the compiler keeps only the tests of that kind.

@@ -1,21 +1,24 @@
 -- Where a reader moves, and that it finds the records of the sheet.
 -- Assumes nothing.
 use mathlib.Core.Path.{◌≡◌, refl, sym, ap, ap₂, ◌∙◌}
+use mathlib.Core.Bool.{false}
 use mathlib.Core.List.{List, [], ◌∷◌}
 use Prim.Native.Nat.{ℕ, zero, suc, ◌+◌, ◌-◌, ◌≤◌, ◌<◌}
 use native.Mathlib.Nat.{zero-add, suc-add}
 use native.Mathlib.Numerals.{add-one}
 use native.Mathlib.Decide.{ℕ_discrete}
 use native.Mathlib.Omega.{arith}
-use lib.ListN.{length, get_or, take, drop, length-append}
+use lib.ListN.{length, get_or, take, drop, length-append, drop_of_length-le}
 use lib.Seq.{take-suc, drop-cons, take-length, drop-length}
-use borrow.Author.Tests.{lt-leb, ne_eqb}
+use borrow.Author.Tests.{lt-leb}
+use Rattle.std.specs.Prelude.{Option, Some, None}
+use Rattle.std.specs.Option.{unwrap_or}
 use Rattle.spec.specs.Lists.{concat}
-use Rattle.spec.specs.Sheet.{records_of, whole_end}
+use Rattle.spec.specs.Sheet.{whole_first, records_of, whole_end}
 use Rattle.laws.proofs.Parts.{part_length}
 use Rattle.theory.proofs.Cut.{concat_append, records_stop}
 use Rattle.records.specs.Lengths.{whole_length}
-use Rattle.records.proofs.Lengths.{Stands, length_some, length_zero, records_here}
+use Rattle.records.proofs.Lengths.{Stands, length_some, whole_none, records_here}
 use Rattle.reader.specs.Reading.{found_at, after_at, nth_at}
 use Rattle.reader.specs.declared.Found.TheVariants.{Record}
 
@@ -43,6 +46,29 @@ module _ (s : List ℕ) where
 
 -- ---- the records of the sheet
 
+-- past the end no record stands
+pub none_past : (s : List ℕ) (at : ℕ) → length s < at → whole_length (drop at s) ≡ None
+unfolding whole_length whole_first
+none_past s at h = let e = drop_of_length-le s {i = at} (omega arith) in rw (whole_length, e, whole_first) refl
+
+-- how far a reader goes from there
+abbrev step : List ℕ → ℕ → ℕ
+step s at = unwrap_or (whole_length (drop at s)) 0
+
+module _ (s : List ℕ) (at : ℕ) where
+  step_some : (o : Option ℕ) → o ≡ whole_length (drop at s) → (unwrap_or o 0 ≡ 0 → ⊥) → Stands s at (unwrap_or o 0)
+  step_some None e h = absurd (h refl)
+  step_some (Some n) e h = length_some s at e
+
+  step_none : (o : Option ℕ) → o ≡ whole_length (drop at s) → unwrap_or o 0 ≡ 0 → whole_first (drop at s) ≡ false
+  step_none None e z = whole_none (drop at s) e
+  step_none (Some n) e z = absurd (omega (arith, (length_some s at e).four, z))
+
+  found_some : at < length s → (o : Option ℕ) → o ≡ whole_length (drop at s) → (unwrap_or o 0 ≡ 0 → ⊥) → found_at s at ≡ Record at (unwrap_or o 0)
+  unfolding found_at
+  found_some h None e z = absurd (z refl)
+  found_some h (Some n) e z = rw (found_at, lt-leb (length s) at h, sym e)
+
 -- n moves from the first byte pass the first n records, and leave the others
 record Passed (s : List ℕ) (n : ℕ) : Type 0 where
   pub begins : nth_at s n ≡ length (concat (take n (records_of s)))
@@ -53,7 +79,7 @@ module _ {s : List ℕ} {n : ℕ} (p : Passed s n) where
   at = nth_at s n
 
   abbrev len : ℕ
-  len = whole_length s (nth_at s n)
+  len = step s (nth_at s n)
 
   -- while a record is left, it stands here
   module _ (h : n < length (records_of s)) where
@@ -61,7 +87,7 @@ module _ {s : List ℕ} {n : ℕ} (p : Passed s n) where
     others = p.left ∙ drop-cons (records_of s) n [] h
 
     stands : Stands s at len
-    stands = length_some s at refl (λ z. let e = sym (records_stop (drop at s) (length_zero s at refl z)) ∙ others in let f : ◌≡◌ {A = ℕ} 0 1 = cc in omega arith)
+    stands = step_some s at _ refl (λ z. let e = sym (records_stop (drop at s) (step_none s at _ refl z)) ∙ others in let f : ◌≡◌ {A = ℕ} 0 1 = cc in omega arith)
 
     the_first : take len (drop at s) ∷ records_of (drop (at + len) s) ≡ get_or (records_of s) n [] ∷ drop (suc n) (records_of s)
     the_first = sym (records_here stands) ∙ others
@@ -83,7 +109,7 @@ module _ {s : List ℕ} {n : ℕ} (p : Passed s n) where
       go : Dec (len ≡ 0) → len ≡ 0
       go (yes z) = z
       go (no z) =
-          let f = sym (records_here (length_some s at refl z)) ∙ p.left ∙ ap (λ (i : ℕ). drop i (records_of s)) e ∙ drop-length (records_of s) in
+          let f = sym (records_here (step_some s at _ refl z)) ∙ p.left ∙ ap (λ (i : ℕ). drop i (records_of s)) e ∙ drop-length (records_of s) in
           let g : ◌≡◌ {A = ℕ} 0 1 = cc in
           absurd (omega arith)
 
@@ -91,10 +117,6 @@ passed : (s : List ℕ) (n : ℕ) → n ≤ length (records_of s) → Passed s n
 unfolding nth_at concat
 passed s zero h = record { begins = refl; left = refl }
 passed s (suc n) h = one_more (passed s n (omega arith)) (omega arith)
-
-found_record : (s : List ℕ) (i : ℕ) → i < length s → (whole_length s i ≡ 0 → ⊥) → found_at s i ≡ Record i (whole_length s i)
-unfolding found_at
-found_record s i h z = rw (found_at, lt-leb (length s) i h, ne_eqb (whole_length s i) 0 z)
 
 -- Record n of the sheet is what a reader finds after n moves, its first byte and its length; after the last record a reader stays at the byte after it.
 pub reader_finds : (s : List ℕ) (n : ℕ)
@@ -107,7 +129,7 @@ reader_finds s n = (record_n, after)
     record_n h =
         let p = passed s n (omega arith) in
         let w = stands p h in
-        found_record s (nth_at s n) (omega (arith, w)) (λ z. omega (arith, w)) ∙ ap₂ Record p.begins (sym (size p h))
+        found_some s (nth_at s n) (omega (arith, w)) _ refl (λ z. omega (arith, w)) ∙ ap₂ Record p.begins (sym (size p h))
 
     after : length (records_of s) ≤ n → nth_at s n ≡ whole_end s
     after h =

@@ -1,16 +1,18 @@
 -- What a reader finds at a position of a sheet, and where it moves.
 -- Assumes nothing.
-use Rattle.std.specs.Prelude.{true, false, List, ℕ, zero, suc, ◌+◌, eqb, leb, length}
+use Rattle.std.specs.Prelude.{true, false, Some, None, List, ℕ, zero, suc, ◌+◌, leb, length, drop}
+use Rattle.std.specs.Option.{unwrap_or}
 use Rattle.records.specs.Lengths.{whole_length}
 use Rattle.reader.specs.declared.Found.{Found}
 use Rattle.reader.specs.declared.Found.TheVariants.{Record, Broken, End}
 
 -- at or past the end: End; else the whole record that begins there, or Broken where none does
 unfoldable pub found_at : List ℕ → ℕ → Found
-found_at s at = elim (leb (length s) at) [ true ↦ End | false ↦ elim (eqb (whole_length s at) 0) [ true ↦ Broken at | false ↦ Record at (whole_length s at) ] ]
+found_at s at = elim (leb (length s) at) [ true ↦ End | false ↦ elim (whole_length (drop at s)) [ Some n ↦ Record at n | None ↦ Broken at ] ]
 
+-- past the whole record that begins there; where none does it stays
 abbrev pub after_at : List ℕ → ℕ → ℕ
-after_at s at = at + whole_length s at
+after_at s at = at + unwrap_or (whole_length (drop at s)) 0
 
 -- where record n begins; after the last whole record it stays
 unfoldable pub nth_at : List ℕ → ℕ → ℕ

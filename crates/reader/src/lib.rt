@@ -1,7 +1,8 @@
 // A reader over one sheet: it holds the lent bytes and its own position.
 #![tactic(auto)]
 
-ghost use Rattle.std.specs.Prelude.{◌≡◌, ◌↔◌, ◌<◌, IsTrue};
+ghost use Rattle.std.specs.Prelude.{◌≡◌, ◌↔◌, ◌+◌, ◌≤◌, ◌<◌, IsTrue, IfSome, length, drop};
+ghost use Rattle.records.specs.Lengths.{whole_length};
 ghost use Rattle.reader.specs.Reading.{found_at, after_at, nth_at};
 
 use records::whole_length;
@@ -30,6 +31,14 @@ impl<'a> Reader<'a> {
         Reader { bytes, at: 0 }
     }
 
+    // The length of the record where the reader is, if a whole one stands there.
+    fn length(&self) -> Option<usize>
+        ensures length { result ≡ whole_length (drop self.now.at self.now.bytes.now) }
+        ensures fits { IfSome result (λ n. (0 < n) × (self.now.at + n ≤ length self.now.bytes.now)) }
+    {
+        whole_length(self.bytes.get(self.at..)?)
+    }
+
     // What stands where the reader is.
     #[tactic(auto, unfolding(crate::specs::Reading::found_at))]
     pub fn read(&self) -> Found
@@ -39,9 +48,9 @@ impl<'a> Reader<'a> {
         if self.bytes.len() <= start {
             return Found::End;
         }
-        match whole_length(self.bytes, start) {
-            0 => Found::Broken { start },
-            len => Found::Record { start, len },
+        match self.length() {
+            Some(len) => Found::Record { start, len },
+            None => Found::Broken { start },
         }
     }
 
@@ -51,9 +60,11 @@ impl<'a> Reader<'a> {
         ensures at { self.new.at ≡ after_at self.old.bytes.now self.old.at }
         ensures moved { IsTrue result ↔ (self.old.at < self.new.at) }
     {
-        let len = whole_length(self.bytes, self.at);
+        let Some(len) = self.length() else {
+            return false;
+        };
         self.at += len;
-        len != 0
+        true
     }
 }
 

@@ -1,18 +1,16 @@
--- The records between two bytes of a sheet, walked by positions; and a walk that counts.
+-- The records between two bytes of a sheet, walked by positions.
 -- Assumes nothing.
 use mathlib.Core.Path.{◌≡◌, sym, ap, ap₂, ◌∙◌}
-use mathlib.Core.Bool.{Bool, true, false}
 use mathlib.Core.List.{List, [], ◌∷◌, ◌++◌, append_assoc}
 use Prim.Native.Nat.{ℕ, ◌+◌, ◌-◌, ◌≤◌, ◌<◌}
 use native.Mathlib.Omega.{arith}
-use lib.Dec.{eqb}
 use lib.ListN.{length, take, drop, length-append, length-drop, take-append-drop}
 use lib.Seq.{length-take-le, take-append_seam, drop_at}
-use Rattle.spec.specs.Lists.{keep, concat}
-use Rattle.spec.specs.Record.{u16, is_kind}
-use Rattle.spec.specs.Sheet.{records_in, records_of, whole_end, of_kind}
-use Rattle.laws.proofs.All.{All, keep_yes, keep_no}
-use Rattle.laws.proofs.Parts.{part_length, part_word, part_kind}
+use Rattle.spec.specs.Lists.{concat}
+use Rattle.spec.specs.Record.{u16}
+use Rattle.spec.specs.Sheet.{records_in, records_of, whole_end}
+use Rattle.laws.proofs.All.{All}
+use Rattle.laws.proofs.Parts.{part_length, part_word}
 use Rattle.theory.proofs.Cut.{Whole, records_of_join, records_of_whole, join_records}
 use Rattle.records.specs.Records.{between, Tiled}
 
@@ -74,53 +72,3 @@ tiled_step {s} {at} {end} h l = go (between s at end) (unfold between in records
     go (r ∷ rs) w e =
         step s at end r rs (drop (end - at) (drop at s)) w.0 w.1 (omega arith) e
         (omega (arith, ap length e, length-append (r ++ concat rs) (drop (end - at) (drop at s)), length-drop at s, length-drop (end - at) (drop at s), h.within))
-
--- length and kind of the record at hand can be read
-pub tiled_room : {s : List ℕ} {at end : ℕ} → Tiled s at end → at < end → at + 4 ≤ length s
-tiled_room h l = let t = tiled_step h l in omega (arith, t.0, t.1, h.within)
-
--- ---- a walk that counts the records of a kind
-
-unfoldable pub one_if : Bool → ℕ
-one_if b = elim b [ true ↦ 1 | false ↦ 0 ]
-
-one_low : (b : Bool) → one_if b ≤ 1
-unfolding one_if
-one_low true = omega arith
-one_low false = omega arith
-
--- those passed, `m`, and those from `at` on are `all`; a record has a byte at least, and a sheet few bytes
-pub record Counted (s : List ℕ) (kind end all at m : ℕ) : Type 0 where
-  pub tiled : Tiled s at end
-  pub sum : m + length (of_kind kind (between s at end)) ≡ all
-  pub few : m ≤ at
-  pub low : end ≤ 32768
-
-pub counted_start : {s : List ℕ} {at end : ℕ} {g : List (List ℕ)} (kind : ℕ) → Tiled s at end → between s at end ≡ g → end ≤ 32768
-    → Counted s kind end (length (of_kind kind g)) at 0
-counted_start kind h e l = record { tiled = h; sum = omega (arith, ap (λ (rs : List (List ℕ)). length (of_kind kind rs)) e); few = omega arith; low = l }
-
-pub counted_end : {s : List ℕ} {kind end all at m : ℕ} → Counted s kind end all at m → end ≤ at → m ≡ all
-unfolding of_kind keep
-counted_end {s} {kind} {end} {all} {at} {m} h l =
-    let e : length (of_kind kind (between s at end)) ≡ 0 = ap (λ (rs : List (List ℕ)). length (of_kind kind rs)) (tiled_end s at end l) in
-    omega (arith, h.sum)
-
-of_kind_lem : (k : ℕ) (r : List ℕ) (rs : List (List ℕ)) (b : Bool) → is_kind k r ≡ b → length (of_kind k (r ∷ rs)) ≡ one_if b + length (of_kind k rs)
-unfolding of_kind one_if
-of_kind_lem k r rs true e = omega (arith, ap length (keep_yes (is_kind k) r rs e))
-of_kind_lem k r rs false e = omega (arith, ap length (keep_no (is_kind k) r rs e))
-
--- past the record at hand, whose length is `l` and whose kind is `k`
-pub counted_step : {s : List ℕ} {kind end all at m : ℕ} → Counted s kind end all at m → at < end
-    → {l k m' : ℕ} → l ≡ u16 s at → k ≡ u16 s (at + 2) → (b : Bool) → eqb k kind ≡ b → m' ≡ m + one_if b → Counted s kind end all (at + l) m'
-counted_step {s} {kind} {end} {all} {at} {m} h lt el ek b eb em =
-    let t = tiled_step h.tiled lt in
-    let r : List ℕ = take (u16 s at) (drop at s) in
-    let e : is_kind kind r ≡ b = ap (λ (x : ℕ). eqb x kind) (part_kind s at (u16 s at) t.0 ∙ sym ek) ∙ eb in
-    rw (el, em) (record {
-      tiled = t.3;
-      sum = omega (arith, h.sum, ap (λ (rs : List (List ℕ)). length (of_kind kind rs)) t.2, of_kind_lem kind r (between s (at + u16 s at) end) b e);
-      few = omega (arith, h.few, t.0, one_low b);
-      low = h.low;
-    })

@@ -1,13 +1,9 @@
 pub mod Sizes
-pub mod Whole
 pub mod Between
-pub mod Walks
 pub mod Nth
-pub mod Carried
-pub mod Positions
-pub mod Seeking
 pub mod Lengths
 pub mod Fits
 pub mod Lined
 pub mod Bodies
 pub mod Optional
+pub mod Chains

@@ -9,16 +9,18 @@ use native.Mathlib.Omega.{arith}
 use lib.ListN.{length, get_or, take, drop, length-append, length-drop}
 use lib.Dec.{eqb→eq}
 use native.Mathlib.Decide.{ℕ_discrete}
-use lib.Seq.{length-take-le, get_or-take}
+use lib.Seq.{length-take-le, get_or-take, take-length}
+use native.Mathlib.Nat.{sub-zero}
 use Rattle.spec.specs.Lists.{concat}
-use Rattle.spec.specs.Record.{u8, u16, kind, is_class, flags, own_markers, superclass, encloser, class_name}
+use Rattle.spec.specs.Record.{u8, u16, kind, is_class, flags, own_markers, superclass, encloser, class_name, length_fits}
 use Rattle.spec.specs.Sheet.{whole_first, records_in, records_of, whole_end, class_record}
 use Rattle.laws.proofs.Bools.{true_t}
 use lib.Dec.{T}
 use Rattle.spec.specs.Refusals.{one_class}
 use Rattle.theory.proofs.Form.{class_first}
-use Rattle.laws.proofs.All.{All}
-use Rattle.theory.proofs.Cut.{First, first_is, records_step, records_stop}
+use Rattle.laws.proofs.All.{All, weaken₂}
+use Rattle.theory.proofs.Cut.{Whole, First, first_is, records_step, records_stop, records_of_whole}
+use Rattle.records.specs.Records.{between, AtRecord}
 use Rattle.records.specs.Kinds.{Fits, Lined, OneClass, head_of}
 use Rattle.records.proofs.Fits.{long}
 
@@ -134,3 +136,16 @@ few_in (suc n) s = if_le (whole_first s) (take (u16 s 0) s) (records_in n (drop 
 pub few_records : (s : List ℕ) → length (records_of s) ≤ length s
 unfolding records_of
 few_records s = few_in (length s) s
+
+-- ---- the bytes from the first record to the end
+
+pub all_between : (s : List ℕ) → between s 0 (length s) ≡ records_of s
+unfolding between
+all_between s = ap (λ (n : ℕ). records_of (take n s)) (sub-zero (length s)) ∙ ap records_of (take-length s)
+
+pub all_lined : {s : List ℕ} → AtRecord s (length s) 0 → Lined s
+all_lined {s} w = record {
+  whole = ap whole_end (sym (ap (λ (n : ℕ). take n s) (sub-zero (length s)) ∙ take-length s)) ∙ w.tiled.whole ∙ sub-zero (length s);
+  fits = weaken₂ Whole (λ r. T (length_fits r)) Fits (λ r a b. record { whole = a.own; fits = b }) (records_of s) (records_of_whole s)
+      (subst (All (λ r. T (length_fits r))) (all_between s) w.sizes);
+}

@@ -1,9 +1,9 @@
--- How long the record at a byte is.
+-- How long the record is that some bytes begin with.
 -- Assumes nothing.
-use Rattle.std.specs.Prelude.{true, false, List, ℕ, drop}
+use Rattle.std.specs.Prelude.{true, false, Option, None, Some, List, ℕ}
 use Rattle.spec.specs.Record.{u16}
 use Rattle.spec.specs.Sheet.{whole_first}
 
--- 0 if no whole record begins there
-unfoldable pub whole_length : List ℕ → ℕ → ℕ
-whole_length s at = elim (whole_first (drop at s)) [ true ↦ u16 s at | false ↦ 0 ]
+-- none if they begin with no whole record
+unfoldable pub whole_length : List ℕ → Option ℕ
+whole_length s = elim (whole_first s) [ true ↦ Some (u16 s 0) | false ↦ None ]

@@ -1,8 +1,8 @@
--- Records in bytes: the record at a byte, the records between two, and a class's bytes, which are its records end to end.
+-- Records in bytes: the records between two of them, and a class's bytes, which are its records end to end.
 -- Assumes nothing.
 use Rattle.std.specs.Prelude.{◌≡◌, Bool, true, false, ◌&&◌, List, [], ◌∷◌, ℕ, ◌+◌, ◌-◌, ◌≤◌, T, eqb, leb, length, get_or, take, drop}
-use Rattle.spec.specs.Record.{u16, is_kind, length_fits}
-use Rattle.spec.specs.Sheet.{Group, records_of, whole_first, whole_end}
+use Rattle.spec.specs.Record.{is_kind, length_fits}
+use Rattle.spec.specs.Sheet.{Group, records_of, whole_end}
 use Rattle.laws.proofs.All.{All}
 
 -- ---- one record
@@ -20,15 +20,6 @@ size_fits k n = get_or
     ∷ (leb 7 n && leb n 106)
     ∷ eqb n 8
     ∷ []) k false
-
--- the record that begins at a byte
-unfoldable pub record_at : List ℕ → ℕ → List ℕ
-record_at s at = take (u16 s at) (drop at s)
-
--- a whole record begins at a byte, and its length is one of its kind
-pub record Sized (s : List ℕ) (at : ℕ) : Type 0 where
-  pub whole : whole_first (drop at s) ≡ true
-  pub size : length_fits (record_at s at) ≡ true
 
 -- ---- records end to end
 

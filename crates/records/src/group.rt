@@ -2,7 +2,7 @@ ghost use Rattle.std.specs.Prelude.{◌≡◌, ◌<◌, ◌^◌, length};
 ghost use Rattle.spec.specs.Lists.{any};
 ghost use Rattle.spec.specs.Record.{is_kind, class_name};
 ghost use Rattle.spec.specs.Sheet.{records_of, class_record, of_kind};
-ghost use Rattle.records.specs.Kinds.{OneClass, kind_number, head_of};
+ghost use Rattle.records.specs.Kinds.{Lined, OneClass, kind_number, head_of};
 
 use crate::kind::Kind;
 use crate::record::{Head, Record, head_in};
@@ -25,6 +25,17 @@ impl<'a> Model for Records<'a> {
     ghost view = { λ r. records_of r.rest.now };
 
     ghost invariant = { λ r. Lined r.rest.now };
+}
+
+impl<'a> Records<'a> {
+    /// The records that some bytes are.
+    pub fn new(bytes: &'a [u8]) -> Records<'a>
+        requires { Lined bytes.now }
+        ensures records { result ≡ records_of bytes.now }
+        ensures few { length (records_of bytes.now) < 2 ^ 63 }
+    {
+        Records { rest: bytes }
+    }
 }
 
 impl<'a> Iterator for Records<'a> {
@@ -101,24 +112,13 @@ impl<'a> Group<'a> {
     pub fn count(&self, kind: Kind) -> usize
         ensures { result ≡ length (of_kind (kind_number kind) self.now) }
     {
-        let mut count = 0;
-        for record in self.records() {
-            if record.is(kind) {
-                count += 1;
-            }
-        }
-        count
+        self.records().filter(|record| record.is(kind)).count()
     }
 
     /// Whether some record is of a kind.
     pub fn has(&self, kind: Kind) -> bool
         ensures { result ≡ any (is_kind (kind_number kind)) self.now }
     {
-        for record in self.records() {
-            if record.is(kind) {
-                return true;
-            }
-        }
-        false
+        self.records().any(|record| record.is(kind))
     }
 }

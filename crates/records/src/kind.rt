@@ -1,8 +1,8 @@
 ghost use Rattle.std.specs.Prelude.{◌≡◌};
 ghost use Rattle.records.specs.Kinds.{Numbers, kind_number};
 
-/// The kinds of records.
-#[derive(Clone, Copy, PartialEq, Eq, Debug)]
+/// The kinds of records, in the order of their numbers.
+#[derive(Clone, Copy, PartialEq, Eq, PartialOrd, Ord, Debug)]
 pub enum Kind {
     Class,
     Implements,

@@ -1,7 +1,7 @@
 // The records of a class: numbers in them, and walks over them. All later crates read a class's bytes as a plain slice.
 #![tactic(auto)]
 
-ghost use Rattle.std.specs.Prelude.{◌≡◌, ◌+◌, ◌-◌, ◌≤◌, ◌<◌, length};
+ghost use Rattle.std.specs.Prelude.{◌≡◌, ◌+◌, ◌≤◌, ◌<◌, length, IfSome};
 ghost use Rattle.spec.specs.Record.{u16, bit};
 ghost use Rattle.spec.specs.Sheet.{of_kind};
 ghost use Rattle.records.specs.Kinds.{kind_number};
@@ -12,6 +12,7 @@ pub mod group;
 pub mod kind;
 pub mod record;
 
+use group::Records;
 use kind::Kind;
 
 // The length and the kind that each record begins with.
@@ -61,10 +62,12 @@ pub const ALLOWED: u32 = 8;
 
 pub const MEMBER_ALLOWED: u32 = 0;
 
-// A sheet's longest length, and the most classes of both sheets together.
+// A sheet's longest length, the most classes of both sheets together, and the most records of a group.
 pub const SHEET_LIMIT: usize = 32768;
 
 pub const CLASS_LIMIT: usize = 256;
+
+pub const RECORD_LIMIT: usize = 255;
 
 // A verdict in the flat row, and the scratch that a call takes.
 pub const VERDICT_BYTES: usize = 2;
@@ -87,58 +90,42 @@ pub fn word_in(bytes: &[u8], i: usize) -> u16
     u16::from_le_bytes([bytes[i], bytes[i + 1]])
 }
 
-// How many records of a kind a class's bytes are.
+// How many records of a kind some bytes are.
 pub fn count_in(bytes: &[u8], kind: Kind) -> usize
     requires { AtRecord bytes.now (length bytes.now) 0 }
     ensures { result ≡ length (of_kind (kind_number kind) (between bytes.now 0 (length bytes.now))) }
 {
-    let mut at = 0;
-    let mut m = 0;
-    while at < bytes.len() {
-        if word_in(bytes, at + KIND_AT) == kind.number() {
-            m += 1;
-        }
-        at += usize::from(word_in(bytes, at));
-    }
-    m
+    Records::new(bytes).filter(|record| record.is(kind)).count()
 }
 
-// Where number i of a kind begins in a class's bytes; their end if there is none.
+// Where record number i of a kind begins in some bytes; their end if there is none.
 pub fn nth_in(bytes: &[u8], kind: Kind, i: usize) -> usize
     requires { AtRecord bytes.now (length bytes.now) 0 }
     ensures { result ≡ nth_byte (kind_number kind) i 0 (between bytes.now 0 (length bytes.now)) }
 {
     let mut at = 0;
     let mut left = i;
-    while at < bytes.len() {
-        if word_in(bytes, at + KIND_AT) == kind.number() {
+    for record in Records::new(bytes) {
+        if record.is(kind) {
             if left == 0 {
                 return at;
             }
             left -= 1;
         }
-        at += usize::from(word_in(bytes, at));
+        at += record.len();
     }
     at
 }
 
-// The length of the whole record at `at`, 0 if none begins there.
-pub fn whole_length(bytes: &[u8], at: usize) -> usize
-    ensures { (result ≡ whole_length bytes.now at) × (result ≤ length bytes.now - at) }
+// The length of the whole record that some bytes begin with, if one does.
+#[tactic(auto, unfolding(crate::specs::Lengths::whole_length, spec::specs::Sheet::whole_first))]
+pub fn whole_length(bytes: &[u8]) -> Option<usize>
+    ensures length { result ≡ whole_length bytes.now }
+    ensures fits { IfSome result (λ n. (4 ≤ n) × (n ≤ length bytes.now)) }
 {
-    if bytes.len() <= at {
-        return 0;
+    if bytes.len() < HEAD_BYTES {
+        return None;
     }
-    let left = bytes.len() - at;
-    if left < HEAD_BYTES {
-        return 0;
-    }
-    let len = usize::from(word_in(bytes, at));
-    if len < HEAD_BYTES {
-        return 0;
-    }
-    if left < len {
-        return 0;
-    }
-    len
+    let len = usize::from(word_in(bytes, 0));
+    (HEAD_BYTES..=bytes.len()).contains(&len).then_some(len)
 }

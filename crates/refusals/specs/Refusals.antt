@@ -1,6 +1,6 @@
 -- The numbers that stand for reasons and sheets, and answers that may be refusals.
 -- Assumes nothing.
-use Rattle.std.specs.Prelude.{◌≡◌, Result, Ok, Err, ℕ}
+use Rattle.std.specs.Prelude.{◌≡◌, Bool, true, false, Result, Ok, Err, ℕ}
 use Rattle.std.proofs.Math.Option.{Option, none, some}
 use Rattle.spec.specs.Refusals as spec
 use Rattle.spec.specs.Promises.{Answer, refused, accepted}
@@ -36,6 +36,11 @@ reason_number Named = 17
 
 abbrev pub refusal_of : Refusal → spec.Refusal
 refusal_of r = record { number = reason_number r.reason; sheet = sheet_number r.sheet; byte = r.byte }
+
+-- the refusal for a reason, unless something holds
+abbrev pub unless : Reason → Bool → Result (Unit {0}) Reason
+unless reason true = Ok tt
+unless reason false = Err reason
 
 -- a refusal that blames no record
 abbrev pub plain : Reason → Refusal

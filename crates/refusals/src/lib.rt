@@ -2,7 +2,7 @@
 #![tactic(auto)]
 
 ghost use Rattle.std.specs.Prelude.{◌≡◌};
-ghost use Rattle.refusals.specs.Refusals.{reason_number, sheet_number};
+ghost use Rattle.refusals.specs.Refusals.{reason_number, sheet_number, unless};
 
 /// A sheet of the two.
 #[derive(Clone, Copy, PartialEq, Eq, Debug)]
@@ -86,6 +86,14 @@ impl Reason {
             Reason::OutOfOrder => 16,
             Reason::Named => 17,
         }
+    }
+
+    /// Refuses for the reason unless something holds.
+    #[inline(always)]
+    pub fn unless(self, holds: bool) -> Result<(), Reason>
+        ensures { result ≡ unless self holds }
+    {
+        if holds { Ok(()) } else { Err(self) }
     }
 }
 

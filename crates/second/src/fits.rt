@@ -1,10 +1,9 @@
 // The tests of a record, in their order: what it names is there, and of the right sort.
-ghost use Rattle.std.specs.Prelude.{◌≡◌, not, ℕ, ◌∷◌, [], ◌<◌, T, length};
+ghost use Rattle.std.specs.Prelude.{◌≡◌, ℕ, ◌<◌, T, length};
 ghost use Rattle.spec.specs.Record.{is_class};
 ghost use Rattle.spec.specs.Sheet.{class_record, of_kind};
 ghost use Rattle.spec.specs.Refusals.{name_met};
 ghost use Rattle.records.specs.Kinds.{kind_number};
-ghost use Rattle.refusals.specs.Refusals.{reason_number};
 ghost use Rattle.sheets.specs.Sheets.{count, groups};
 ghost use Rattle.second.specs.Second.{Enclosing, indexed_kind, first_met, number_of, form_number};
 ghost use Rattle.second.specs.Second.{absent, superclass_ok, encloser_ok, class_tests, target_tests, type_tests};
@@ -16,13 +15,6 @@ use records::kind::Kind;
 use records::record::{Body, Head, Record, Ty};
 use records::{CLASS_LIMIT, INNER, INTERFACE, STATIC, has_flag};
 use refusals::{Reason, Side};
-
-// Refuses with a reason what does not hold.
-fn require(holds: bool, reason: Reason) -> Result<(), Reason>
-    ensures { number_of result ≡ first_met ((reason_number reason, not holds) ∷ []) }
-{
-    if holds { Ok(()) } else { Err(reason) }
-}
 
 impl<'a> Lookup<'a> {
     // Whether the name of class c is that of a class below it. Only names with the same fingerprint are compared.
@@ -84,21 +76,18 @@ impl<'a> Lookup<'a> {
             ≡ first_met (class_tests self.now.sheets.now c head (class_record (groups self.now.sheets.now c))) }
     {
         let missing = self.absent(head.superclass) || self.absent(head.encloser);
-        require(!missing, Reason::NotThere)?;
-        require(
-            c != 0 || !has_flag(head.flags, INTERFACE),
-            Reason::WrongSort,
-        )?;
-        require(self.superclass_fits(c, head), Reason::WrongSort)?;
-        require(self.encloser_fits(c, head), Reason::WrongSort)?;
-        require(!self.name_met(c), Reason::NameTwice)
+        Reason::NotThere.unless(!missing)?;
+        Reason::WrongSort.unless(c != 0 || !has_flag(head.flags, INTERFACE))?;
+        Reason::WrongSort.unless(self.superclass_fits(c, head))?;
+        Reason::WrongSort.unless(self.encloser_fits(c, head))?;
+        Reason::NameTwice.unless(!self.name_met(c))
     }
 
     // A class that must be there.
     fn there(&self, class: usize) -> Result<(), Reason>
         ensures { number_of result ≡ first_met (target_tests self.now.sheets.now class) }
     {
-        require(class < self.sheets.count(), Reason::NotThere)
+        Reason::NotThere.unless(class < self.sheets.count())
     }
 
     // The class of a type, if it is of a class.
@@ -118,7 +107,7 @@ impl<'a> Lookup<'a> {
         ensures { number_of result ≡ first_met (implements_tests self.now.sheets.now c class) }
     {
         self.there(class)?;
-        require(class < c && self.asked[class].interface, Reason::WrongSort)
+        Reason::WrongSort.unless(class < c && self.asked[class].interface)
     }
 
     // A FIELD of class c.
@@ -127,10 +116,7 @@ impl<'a> Lookup<'a> {
         ensures { number_of result ≡ first_met (field_tests self.now.sheets.now c flags ty) }
     {
         self.type_there(ty)?;
-        require(
-            has_flag(flags, STATIC) || !self.asked[c].interface,
-            Reason::WrongSort,
-        )
+        Reason::WrongSort.unless(has_flag(flags, STATIC) || !self.asked[c].interface)
     }
 
     // How many records of class `class` others name by an index: MEMBERs of a library class, LOCALs of a user class.
@@ -151,7 +137,7 @@ impl<'a> Lookup<'a> {
             ≡ first_met (index_tests self.now.sheets.now (kind_number (indexed_kind side)) class index) }
     {
         self.there(class)?;
-        require(index < self.indexed(side, class), Reason::NotThere)
+        Reason::NotThere.unless(index < self.indexed(side, class))
     }
 
     // A USES of class c; the marks are those of the class and its enclosers.
@@ -160,7 +146,7 @@ impl<'a> Lookup<'a> {
             → number_of result ≡ first_met (uses_tests self.now.sheets.now c class index) }
     {
         self.index_there(Side::User, class, index)?;
-        require(marks[class] == 1, Reason::WrongSort)
+        Reason::WrongSort.unless(marks[class] == 1)
     }
 
     /// A record of class c; the marks are those of the class and its enclosers.

@@ -4,12 +4,14 @@ use mathlib.Core.Path.{◌≡◌, refl, sym, ap, ◌∙◌}
 use mathlib.Core.Bool.{Bool, true, false, not, beq, ◌&&◌, and-false}
 use mathlib.Core.Logic.{◌⊎◌, inl, inr, ⊎_elim}
 use mathlib.Core.List.{List}
-use Prim.Native.Nat.{ℕ, ◌+◌, ◌≤◌, ◌<◌}
+use Prim.Native.Nat.{ℕ, ◌+◌, ◌-◌, ◌≤◌, ◌<◌}
 use native.Mathlib.Decide.{ℕ_discrete}
 use native.Mathlib.Omega.{arith}
 use lib.Dec.{eqb}
 use lib.ListN.{length, take, drop, length-append, length-drop}
 use Rattle.std.proofs.lemmas.Bool.{true≢false, false≢true, eq-eqb, ne_eqb, cases_eq}
+use Rattle.std.specs.Prelude.{Some, None}
+use Rattle.std.proofs.lemmas.List.{take_rest}
 use Rattle.spec.specs.Lists.{any, concat}
 use Rattle.spec.specs.Record.{u16, is_class}
 use Rattle.spec.specs.Sheet.{whole_first, records_of, whole_end}
@@ -17,7 +19,7 @@ use Rattle.spec.specs.Refusals.{one_class, whole_group}
 use Rattle.laws.proofs.Parts.{part_length, part_kind}
 use Rattle.theory.proofs.Cut.{short_stop, records_stop}
 use Rattle.records.specs.Lengths.{whole_length}
-use Rattle.records.proofs.Lengths.{Stands, length_some, length_zero, records_here}
+use Rattle.records.proofs.Lengths.{Stands, length_some, whole_none, records_here}
 
 -- ---- the walk
 
@@ -107,17 +109,20 @@ module _ {s : List ℕ} {at : ℕ} (g : Going s at) where
       go (inl q) = rw (eq-eqb (length s) 0 q) (sym (none_at_all s (short_stop s (omega arith))))
       go (inr q) = rw (ne_eqb (length s) 0 q) (sym (g.same ∙ asked_later s at (λ z. q (omega (arith, g.within))) ∙ end_stop s at h))
 
-  module _ {n : ℕ} (e : n ≡ whole_length s at) where
-    pub go_torn : at < length s → n ≡ 0 → false ≡ whole_group s
-    go_torn h z =
-        let none = length_zero s at e z in
-        sym (g.same ∙ ⊎_elim (λ q. asked_first s at q ∙ none_at_all (drop at s) none) (λ q. asked_later s at q ∙ none_stop s at none h) (cases_eq at 0))
+  abbrev left : List ℕ
+  left = take (length s - at) (drop at s)
+
+  pub go_torn : at < length s → None ≡ whole_length left → false ≡ whole_group s
+  go_torn h e =
+      let none = whole_none (drop at s) (e ∙ ap whole_length (take_rest s at)) in
+      sym (g.same ∙ ⊎_elim (λ q. asked_first s at q ∙ none_at_all (drop at s) none) (λ q. asked_later s at q ∙ none_stop s at none h) (cases_eq at 0))
+
+  module _ {n : ℕ} (e : Some n ≡ whole_length left) where
+    pub stands : Stands s at n
+    stands = length_some s at (e ∙ ap whole_length (take_rest s at))
 
     -- k is the kind of the record at hand; it is a CLASS just at the start
-    module _ (z : n ≡ 0 → ⊥) {k : ℕ} (f : k ≡ u16 s (at + 2)) where
-      stands : Stands s at n
-      stands = length_some s at e z
-
+    module _ {k : ℕ} (f : k ≡ u16 s (at + 2)) where
       pub go_wrong : not (beq (eqb k 1) (eqb at 0)) ≡ true → false ≡ whole_group s
       go_wrong h = sym (g.same ∙ go (cases_eq at 0) (cases_eq k 1))
         where
@@ -128,7 +133,7 @@ module _ {s : List ℕ} {at : ℕ} (g : Going s at) where
           go (inr q) (inr p) = absurd (false≢true (rw (ne_eqb at 0 q, ne_eqb k 1 p) at h))
 
       pub go_right : not (beq (eqb k 1) (eqb at 0)) ≡ false → Going s (at + n)
-      go_right h = record { within = stands.ends; same = g.same ∙ go (cases_eq at 0) (cases_eq k 1) ∙ sym (asked_later s (at + n) (λ y. z (omega arith))) }
+      go_right h = record { within = stands.ends; same = g.same ∙ go (cases_eq at 0) (cases_eq k 1) ∙ sym (asked_later s (at + n) (λ y. omega (arith, stands.four))) }
         where
           go : (at ≡ 0) ⊎ (at ≡ 0 → ⊥) → (k ≡ 1) ⊎ (k ≡ 1 → ⊥) → asked s at ≡ others_only (drop (at + n) s)
           go (inl q) (inl p) = asked_first s at q ∙ class_first stands f p

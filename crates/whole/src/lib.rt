@@ -12,10 +12,9 @@ pub fn whole_group(group: &[u8]) -> bool
 {
     let mut at = 0;
     while at < group.len() {
-        let len = whole_length(group, at);
-        if len == 0 {
+        let Some(len) = whole_length(&group[at..]) else {
             return false;
-        }
+        };
         let kind = word_in(group, at + KIND_AT);
         let is_class = kind == Kind::Class.number();
         let is_first = at == 0;

@@ -1,38 +1,29 @@
-use Rattle.std.proofs.Common.{refl, sym, ◌∙◌, ◌+◌, ◌≤◌, length, arith}
-use Rattle.records.proofs.Between.{tiled_room}
-use Rattle.records.proofs.Walks.{walk_on}
-use Rattle.records.proofs.Nth.{seek_end, seek_found, seek_passed, seek_other}
+use Rattle.std.proofs.Common.{◌∙◌, sym, arith}
+use Rattle.records.proofs.Lined.{all_lined}
+use Rattle.records.proofs.Nth.{seek_start, seek_end, seek_room, seek_found, seek_passed, seek_other}
 use Rattle.records.proofs.nth_in.Goals as goal
-use Rattle.records.proofs.nth_in.Goals.{then-word_in-number+else-left-eq0, else-word_in-number}
+use Rattle.records.proofs.nth_in.Goals.{then-is+else-left-eq0, else-is}
 
--- length and kind of the record at hand can be read
-room : (c : goal.In-loop-at) → c.loop-at.at + 4 ≤ length c.args.bytes.now
-room c = tiled_room c.loop-at.invariant.place.tiled c.loop-at-test.true
+pub new-record-items-requires : goal.new-record-items-requires
+new-record-items-requires c = all_lined c.requires
 
-pub loop-at-init : goal.loop-at-init
-loop-at-init c = record { place = c.requires; rest = refl }
-
-pub word_in-requires : goal.word_in-requires
-word_in-requires c = omega (arith, room c)
+pub loop-record-init : goal.loop-record-init
+loop-record-init c = (tt, tt, seek_start _ _ (all_lined c.requires) (c.into_iter-record-iterator.ensures.into_iter_gives ∙ c.new-record-items.ensures.records))
 
 pub returns-then-left-eq0 : goal.returns-then-left-eq0
-returns-then-left-eq0 c = seek_found c.loop-at.invariant c.loop-at-test.true c.word_in.ensures (c.if-word_in-number.true ∙ c.number.ensures) c.if-left-eq0.true
+returns-then-left-eq0 c = seek_found c.loop-record.invariant.2 c.in-Some.ensures.steps (sym c.is.ensures ∙ c.if-is.true) c.if-left-eq0.true
 
-pub word_in-requires-in-loop-at : goal.word_in-requires-in-loop-at
-word_in-requires-in-loop-at c = omega (arith, tiled_room c.loop-at.invariant.place.tiled c.loop-at-test.true)
+pub overflow_add-at : goal.overflow_add-at
+overflow_add-at c = omega (arith, seek_room c.loop-record.invariant.2 c.in-Some.ensures.steps)
 
-pub loop-at-smaller : goal.loop-at-smaller
-loop-at-smaller c = omega (arith, (walk_on c.loop-at.invariant.place c.loop-at-test.true).0)
-
-pub loop-at-preserved : goal.loop-at-preserved
-loop-at-preserved c =
-    let inv = c.loop-at.invariant in
-    let low = c.loop-at-test.true in
-    let long = c.from-at.ensures ∙ c.word_in-in-loop-at.ensures in
-    elim c.if-word_in-number.branch [
-      | then-word_in-number+else-left-eq0 w ↦ seek_passed inv low long c.word_in.ensures (w.if-word_in-number.true ∙ c.number.ensures) w.if-left-eq0.false w.left-is
-      | else-word_in-number w ↦ seek_other inv low long c.word_in.ensures (λ e. w.if-word_in-number.false (e ∙ sym c.number.ensures)) w.left-is
+pub loop-record-preserved : goal.loop-record-preserved
+loop-record-preserved c =
+    let w = c.loop-record.invariant.2 in
+    let e = c.in-Some.ensures.steps in
+    elim c.if-is.branch [
+      | then-is+else-left-eq0 b ↦ (tt, tt, seek_passed w e c.len-at.ensures (sym c.is.ensures ∙ b.if-is.true) b.if-left-eq0.false b.left-is)
+      | else-is b ↦ (tt, tt, seek_other w e c.len-at.ensures (sym c.is.ensures ∙ b.if-is.false) b.left-is)
     ]
 
 pub returns : goal.returns
-returns c = seek_end c.loop-at.invariant c.loop-at-test.false
+returns c = seek_end c.loop-record.invariant.2 c.in-None.ensures.steps.0
