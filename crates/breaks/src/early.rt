@@ -39,16 +39,14 @@ pub fn names_forbidden(record: &Record, banned: &[u8]) -> bool
 fn member_allowed(group: &Group, i: usize) -> bool
     ensures { result ≡ bit 0 (flags (get_or (of_kind MEMBER group.now) i [])) }
 {
-    let mut left = i;
-    for record in group.records() {
-        if let Body::Member { flags } = record.body() {
-            if left == 0 {
-                return has_flag(flags, MEMBER_ALLOWED);
-            }
-            left -= 1;
-        }
-    }
-    false
+    group
+        .records()
+        .filter_map(|record| match record.body() {
+            Body::Member { flags } => Some(has_flag(flags, MEMBER_ALLOWED)),
+            _ => None,
+        })
+        .nth(i)
+        .unwrap_or(false)
 }
 
 /// Rule 2: the record refers to a member that is not allowed.

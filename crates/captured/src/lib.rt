@@ -13,14 +13,14 @@ ghost use Rattle.captured.specs.Seeds.{OneOf, Lowering, InLane, Offered, ByRecor
 
 use lanes::{EMPTY, LANE, entry};
 use markers::{DEEP_SELFLESS, IMMUTABLE, POWERLESS, has};
+use named::Along;
+use overlay::type_markers;
+use reach::{close, enclosers};
 use records::CLASS_LIMIT;
 use records::group::Group;
 use records::kind::Kind;
 use records::record::{Body, Ty};
 use sheets::formed::Formed;
-use named::Along;
-use overlay::type_markers;
-use reach::{close, enclosers};
 
 /// The markers whose captured variables are asked, a lane of owners each.
 #[derive(Clone, Copy, PartialEq, Eq, Debug)]
@@ -64,16 +64,14 @@ fn variable_type(group: &Group, i: usize) -> Ty
     requires { i < length (of_kind LOCAL group.now) }
     ensures { spec_ty result ≡ local_ty (get_or (of_kind LOCAL group.now) i []) }
 {
-    let mut left = i;
-    for record in group.records() {
-        if let Body::Local(ty) = record.body() {
-            if left == 0 {
-                return ty;
-            }
-            left -= 1;
-        }
-    }
-    unreachable!()
+    group
+        .records()
+        .filter_map(|record| match record.body() {
+            Body::Local(ty) => Some(ty),
+            _ => None,
+        })
+        .nth(i)
+        .unwrap()
 }
 
 // A lane of class m is lowered to the owner d if its marker is lacking.

@@ -14,7 +14,7 @@ use breaks::breaking::Step;
 use breaks::judging::Judging;
 use breaks::rule::{RULES, Rule};
 use overlay::known;
-use slots::{Late, rule_set};
+use slots::Late;
 
 /// Rule and record; 0 and 0 is clean.
 #[derive(Clone, Copy, PartialEq, Eq, Debug)]
@@ -39,7 +39,7 @@ fn first_class(judging: &Judging, rule: Rule, c: usize) -> Option<usize>
     let Rule::Late(late) = rule else {
         return Some(c);
     };
-    if !has(known(&judging.markers, c), rule_set(late)) {
+    if !has(known(&judging.markers, c), late.set()) {
         return None;
     }
     let head = judging.formed.sheets.group(c).head();
