@@ -12,6 +12,7 @@ use Rattle.spec.specs.Record.{bit, is_kind, MEMBER, REFERS, flags, target, index
 use Rattle.spec.specs.Sheet.{Group, of_kind}
 use Rattle.spec.specs.Rules.{member_allowed}
 use Rattle.laws.proofs.Bools.{true_t}
+use Rattle.breaks.specs.declared.bans.Ban.{Ban}
 use Rattle.breaks.specs.Bans.{closed_member, Bans, Partial, Refers}
 
 -- ---- a member that is not allowed
@@ -52,7 +53,7 @@ module _ {n : ℕ} {g : ℕ → Group} {r : List ℕ} (f : Refers n g r) (k : is
   refers_told ed ei eh eb = by_kind _ (ap not (eb ∙ rw (eh, ed, ei) refl))
 
   -- of a class of the library without a member that is not allowed
-  pub refers_open : {nlib : ℕ} {row : List ℕ} {d : ℕ} → d ≡ target r → Bans nlib g row → {maybe : Bool} → Partial nlib row d maybe → not maybe ≡ true → false ≡ (is_kind REFERS r && not (member_allowed g (target r) (index r)))
+  pub refers_open : {nlib : ℕ} {row : List Ban} {d : ℕ} → d ≡ target r → Bans nlib g row → {maybe : Bool} → Partial nlib row d maybe → not maybe ≡ true → false ≡ (is_kind REFERS r && not (member_allowed g (target r) (index r)))
   unfolding member_allowed
   refers_open {nlib} {d = d} ed b {maybe} o eo =
       by_kind false (sym (ap not (open_at (g (target r)) (index r) (f.member (true_t k)) (ap (λ (c : ℕ). any closed_member (g c)) (sym ed) ∙ none_closed))))
