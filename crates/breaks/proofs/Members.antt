@@ -1,46 +1,19 @@
--- Members that are allowed: one by its number, and those of a class without one that is not.
+-- Members that are allowed: those of a class without one that is not.
 -- Assumes nothing.
 use mathlib.Core.Path.{◌≡◌, refl, sym, ap, ◌∙◌}
 use mathlib.Core.Bool.{Bool, true, false, not, ◌&&◌, ◌||◌}
 use mathlib.Core.List.{List, [], ◌∷◌}
-use Prim.Native.Nat.{ℕ, zero, suc, ◌-◌, ◌<◌}
+use Prim.Native.Nat.{ℕ, zero, suc, ◌<◌}
 use native.Mathlib.Nat.{not-suc-le-zero, le_of_suc-le-suc}
-use native.Mathlib.Omega.{arith}
 use lib.ListN.{length, get_or}
 use lib.Dec.{ltb}
 use Rattle.spec.specs.Lists.{any, keep}
-use Rattle.spec.specs.Record.{u16, bit, is_kind, MEMBER, REFERS, flags, target, index}
+use Rattle.spec.specs.Record.{bit, is_kind, MEMBER, REFERS, flags, target, index}
 use Rattle.spec.specs.Sheet.{Group, of_kind}
 use Rattle.spec.specs.Rules.{member_allowed}
 use Rattle.laws.proofs.Bools.{true_t}
-use Rattle.laws.proofs.All.{keep_yes, keep_no}
+use Rattle.breaks.specs.declared.bans.Ban.{Ban}
 use Rattle.breaks.specs.Bans.{closed_member, Bans, Partial, Refers}
-
--- ---- members one after another
-
-module _ (r : List ℕ) (rs : Group) where
-  module _ (e : is_kind MEMBER r ≡ true) where
-    first : of_kind MEMBER (r ∷ rs) ≡ r ∷ of_kind MEMBER rs
-    unfolding of_kind
-    first = keep_yes (is_kind MEMBER) r rs e
-
-    pub member_here : get_or (of_kind MEMBER (r ∷ rs)) 0 [] ≡ r
-    member_here = ap (λ (h : Group). get_or h 0 []) first
-
-    pub member_next : (i : ℕ) → (i ≡ 0 → ⊥) → get_or (of_kind MEMBER (r ∷ rs)) i [] ≡ get_or (of_kind MEMBER rs) (i - 1) []
-    member_next i n = ap (λ (h : Group). get_or h i []) first ∙ later i n
-      where
-        later : (i : ℕ) → (i ≡ 0 → ⊥) → get_or (r ∷ of_kind MEMBER rs) i [] ≡ get_or (of_kind MEMBER rs) (i - 1) []
-        later zero n = absurd (n refl)
-        later (suc i) n = let z : suc i - 1 ≡ i = omega arith in ap (λ (k : ℕ). get_or (of_kind MEMBER rs) k []) (sym z)
-
-  pub member_other : is_kind MEMBER r ≡ false → (i : ℕ) → get_or (of_kind MEMBER (r ∷ rs)) i [] ≡ get_or (of_kind MEMBER rs) i []
-  unfolding of_kind
-  member_other e i = ap (λ (h : Group). get_or h i []) (keep_no (is_kind MEMBER) r rs e)
-
-pub no_member : (i : ℕ) → bit 0 (flags (get_or (of_kind MEMBER []) i [])) ≡ false
-unfolding of_kind keep flags u16 bit
-no_member i = refl
 
 -- ---- a member that is not allowed
 
@@ -80,7 +53,7 @@ module _ {n : ℕ} {g : ℕ → Group} {r : List ℕ} (f : Refers n g r) (k : is
   refers_told ed ei eh eb = by_kind _ (ap not (eb ∙ rw (eh, ed, ei) refl))
 
   -- of a class of the library without a member that is not allowed
-  pub refers_open : {nlib : ℕ} {row : List ℕ} {d : ℕ} → d ≡ target r → Bans nlib g row → {maybe : Bool} → Partial nlib row d maybe → not maybe ≡ true → false ≡ (is_kind REFERS r && not (member_allowed g (target r) (index r)))
+  pub refers_open : {nlib : ℕ} {row : List Ban} {d : ℕ} → d ≡ target r → Bans nlib g row → {maybe : Bool} → Partial nlib row d maybe → not maybe ≡ true → false ≡ (is_kind REFERS r && not (member_allowed g (target r) (index r)))
   unfolding member_allowed
   refers_open {nlib} {d = d} ed b {maybe} o eo =
       by_kind false (sym (ap not (open_at (g (target r)) (index r) (f.member (true_t k)) (ap (λ (c : ℕ). any closed_member (g c)) (sym ed) ∙ none_closed))))

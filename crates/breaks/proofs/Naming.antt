@@ -11,13 +11,14 @@ use Rattle.spec.specs.Sheet.{Group}
 use Rattle.spec.specs.Rules.{forbidden}
 use Rattle.named.specs.declared.Targets.{Targets}
 use Rattle.named.specs.Named.{listed, option_list}
+use Rattle.breaks.specs.declared.bans.Ban.{Ban}
 use Rattle.breaks.specs.Bans.{Bans, ClosedClass, NamesForbidden}
 
-pub some_closed : {row : List ℕ} {d : ℕ} {b : Bool} → ((nlib : ℕ) (g : ℕ → Group) → Bans nlib g row → b ≡ forbidden nlib g d) → ClosedClass row (Some d) b
+pub some_closed : {row : List Ban} {d : ℕ} {b : Bool} → ((nlib : ℕ) (g : ℕ → Group) → Bans nlib g row → b ≡ forbidden nlib g d) → ClosedClass row (Some d) b
 unfolding any
 some_closed {d = d} h = record { is = λ nlib g w. h nlib g w ∙ sym (or-false (forbidden nlib g d)) }
 
-pub none_closed : {row : List ℕ} → ClosedClass row None false
+pub none_closed : {row : List Ban} → ClosedClass row None false
 unfolding any
 none_closed = record { is = λ nlib g w. refl }
 
@@ -26,7 +27,7 @@ unfolding any
 any_append p [] ys = refl
 any_append p (x ∷ xs) ys = ap (λ (b : Bool). p x || b) (any_append p xs ys) ∙ sym (or_assoc (p x) (any p xs) (any p ys))
 
-module _ {row : List ℕ} (r : List ℕ) (t : Targets) (e : listed t ≡ references r) {a : Bool} (fst : ClosedClass row t.first a) where
+module _ {row : List Ban} (r : List ℕ) (t : Targets) (e : listed t ≡ references r) {a : Bool} (fst : ClosedClass row t.first a) where
   both : (nlib : ℕ) (g : ℕ → Group) → Bans nlib g row → any (forbidden nlib g) (references r) ≡ (a || any (forbidden nlib g) (option_list t.second))
   both nlib g w =
       ap (any (forbidden nlib g)) (sym e) ∙ any_append (forbidden nlib g) (option_list t.first) (option_list t.second)

@@ -1,39 +1,39 @@
 -- What is not allowed of the library's classes, as a row.
 -- Assumes nothing.
-use Rattle.std.specs.Prelude.{Bool, true, false, not, ◌&&◌, ◌||◌, Option, List, ◌≡◌, ℕ, ◌+◌, ◌≤◌, ◌<◌, T, ltb, length, get_or}
+use Rattle.std.specs.Prelude.{Bool, true, false, not, ◌&&◌, ◌||◌, Option, List, ◌≡◌, ℕ, ◌≤◌, ◌<◌, T, ltb, length, get_or}
 use Rattle.spec.specs.Lists.{any}
 use Rattle.spec.specs.Record.{bit, is_kind, MEMBER, REFERS, flags, target, index, references}
 use Rattle.spec.specs.Sheet.{Group, class_record, of_kind}
 use Rattle.spec.specs.Rules.{forbidden}
 use Rattle.named.specs.Named.{option_list}
-
--- 1 for a class that is not allowed, by its flags
-unfoldable pub closed_by : ℕ → ℕ
-closed_by f = elim (bit 8 f) [ true ↦ 0 | false ↦ 1 ]
+use Rattle.breaks.specs.declared.bans.Ban.{Ban}
 
 unfoldable pub closed_member : List ℕ → Bool
 closed_member r = is_kind MEMBER r && not (bit 0 (flags r))
 
--- 2 for a class with a member that is not allowed
-unfoldable pub part_by : Group → ℕ
-part_by h = elim (any closed_member h) [ true ↦ 2 | false ↦ 0 ]
+-- what is not allowed of a library class with these records: the class, by its flags, and some member
+abbrev pub ban_of : Group → Ban
+ban_of h = record { closed = not (bit 8 (flags (class_record h))); partly = any closed_member h }
 
--- the row has 1 for each library class that is not allowed and 2 more for one with a member that is not, 0 for every other number
-pub record Bans (nlib : ℕ) (g : ℕ → Group) (row : List ℕ) : Type 0 where
+abbrev pub nothing : Ban
+nothing = record { closed = false; partly = false }
+
+-- the row says what is not allowed of each library class, and nothing of every other number
+pub record Bans (nlib : ℕ) (g : ℕ → Group) (row : List Ban) : Type 0 where
   pub few : nlib ≤ 256
   pub long : length row ≡ 256
-  pub is : (d : ℕ) → get_or row d 0 ≡ elim (ltb d nlib) [ true ↦ closed_by (flags (class_record (g d))) + part_by (g d) | false ↦ 0 ]
+  pub is : (d : ℕ) → get_or row d nothing ≡ elim (ltb d nlib) [ true ↦ ban_of (g d) | false ↦ nothing ]
 
 -- by such a row: whether a class that a record may name is a library class that is not allowed
-pub record ClosedClass (row : List ℕ) (class : Option ℕ) (b : Bool) : Type 0 where
+pub record ClosedClass (row : List Ban) (class : Option ℕ) (b : Bool) : Type 0 where
   pub is : (nlib : ℕ) (g : ℕ → Group) → Bans nlib g row → b ≡ any (forbidden nlib g) (option_list class)
 
 -- and whether a record names one
-pub record NamesForbidden (row r : List ℕ) (b : Bool) : Type 0 where
+pub record NamesForbidden (row : List Ban) (r : List ℕ) (b : Bool) : Type 0 where
   pub is : (nlib : ℕ) (g : ℕ → Group) → Bans nlib g row → b ≡ any (forbidden nlib g) (references r)
 
 -- by such a row: whether class d is none of the library's, or has a member that is not allowed
-pub record Partial (nlib : ℕ) (row : List ℕ) (d : ℕ) (b : Bool) : Type 0 where
+pub record Partial (nlib : ℕ) (row : List Ban) (d : ℕ) (b : Bool) : Type 0 where
   pub is : (g : ℕ → Group) → Bans nlib g row → b ≡ (not (ltb d nlib) || any closed_member (g d))
 
 -- a REFERS record names a member that is there

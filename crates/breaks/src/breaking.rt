@@ -12,7 +12,7 @@ use crate::rule::Rule;
 use markers::{clash, has};
 use overlay::known;
 use records::record::{Body, Head, Record};
-use slots::{Late, base_breaks, field_set, head_set, rule_set};
+use slots::{Late, base_breaks, field_set, head_set};
 
 /// Where the walk over rules, classes and records stands: the rule, the class that is judged, the class that is asked, and the number of its record.
 #[derive(Clone, Copy)]
@@ -33,7 +33,7 @@ impl<'a> Judging<'a> {
     {
         let nlib = self.formed.sheets.library_count();
         let set = head_set(head, &self.markers, self.lanes, nlib, t);
-        if !has(set, rule_set(rule)) {
+        if !has(set, rule.set()) {
             return true;
         }
         match rule {
@@ -50,7 +50,7 @@ impl<'a> Judging<'a> {
     {
         match record.body() {
             Body::Class(head) => self.head_breaks(rule, step.class, step.asked, &head),
-            Body::Field { flags, ty } => !has(field_set(flags, ty, &self.markers), rule_set(rule)),
+            Body::Field { flags, ty } => !has(field_set(flags, ty, &self.markers), rule.set()),
             _ => false,
         }
     }

@@ -8,7 +8,7 @@ ghost use Rattle.sheets.specs.Sheets.{count, groups, library_count};
 ghost use Rattle.overlay.specs.Types.{Known};
 ghost use Rattle.breaks.specs.Bans.{Bans, ClosedClass, NamesForbidden, Refers};
 
-use crate::bans::{is_closed, partial};
+use crate::bans::{Ban, is_closed, partial};
 use markers::{ENUM, POWERLESS, THROWABLE, TOKEN, has};
 use named::named;
 use overlay::type_markers;
@@ -18,7 +18,7 @@ use records::{FINAL, MEMBER_ALLOWED, STATIC, has_flag};
 use sheets::Sheets;
 
 // Whether a class that a record may name is not allowed.
-fn closed_class(banned: &[u8], class: Option<usize>) -> bool
+fn closed_class(banned: &[Ban], class: Option<usize>) -> bool
     ensures { ClosedClass banned.now class result }
 {
     match class {
@@ -28,7 +28,7 @@ fn closed_class(banned: &[u8], class: Option<usize>) -> bool
 }
 
 /// Rule 1: the record names a class that is not allowed.
-pub fn names_forbidden(record: &Record, banned: &[u8]) -> bool
+pub fn names_forbidden(record: &Record, banned: &[Ban]) -> bool
     ensures { NamesForbidden banned.now record.now result }
 {
     let classes = named(record);
@@ -39,20 +39,18 @@ pub fn names_forbidden(record: &Record, banned: &[u8]) -> bool
 fn member_allowed(group: &Group, i: usize) -> bool
     ensures { result ≡ bit 0 (flags (get_or (of_kind MEMBER group.now) i [])) }
 {
-    let mut left = i;
-    for record in group.records() {
-        if let Body::Member { flags } = record.body() {
-            if left == 0 {
-                return has_flag(flags, MEMBER_ALLOWED);
-            }
-            left -= 1;
-        }
-    }
-    false
+    group
+        .records()
+        .filter_map(|record| match record.body() {
+            Body::Member { flags } => Some(has_flag(flags, MEMBER_ALLOWED)),
+            _ => None,
+        })
+        .nth(i)
+        .unwrap_or(false)
 }
 
 /// Rule 2: the record refers to a member that is not allowed.
-pub fn refers_forbidden(sheets: &Sheets, banned: &[u8], record: &Record) -> bool
+pub fn refers_forbidden(sheets: &Sheets, banned: &[Ban], record: &Record) -> bool
     requires refers { Refers (count sheets.now) (groups sheets.now) record.now }
     requires bans { Bans (library_count sheets.now) (groups sheets.now) banned.now }
     ensures { result ≡ (is_kind REFERS record.now && not (member_allowed (groups sheets.now) (target record.now) (index record.now))) }

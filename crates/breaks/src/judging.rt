@@ -3,6 +3,7 @@ ghost use Rattle.overlay.specs.Types.{Known};
 ghost use Rattle.captured.specs.Captured.{Shown};
 ghost use Rattle.breaks.specs.Bans.{Bans};
 
+use crate::bans::Ban;
 use records::CLASS_LIMIT;
 use sheets::formed::Formed;
 
@@ -11,7 +12,7 @@ use sheets::formed::Formed;
 pub struct Judging<'a> {
     pub formed: &'a Formed<'a>,
     pub markers: [u8; CLASS_LIMIT],
-    pub bans: [u8; CLASS_LIMIT],
+    pub bans: [Ban; CLASS_LIMIT],
     pub lanes: &'a [u8],
     pub ghost known: { Known (groups formed.now.sheets) markers },
     pub ghost banned: { Bans (library_count formed.now.sheets) (groups formed.now.sheets) bans },

@@ -1,3 +1,4 @@
+pub mod Picking
 pub mod Lowering
 pub mod Seeding
 pub mod Meaning

@@ -64,16 +64,14 @@ fn variable_type(group: &Group, i: usize) -> Ty
     requires { i < length (of_kind LOCAL group.now) }
     ensures { spec_ty result ≡ local_ty (get_or (of_kind LOCAL group.now) i []) }
 {
-    let mut left = i;
-    for record in group.records() {
-        if let Body::Local(ty) = record.body() {
-            if left == 0 {
-                return ty;
-            }
-            left -= 1;
-        }
-    }
-    unreachable!()
+    group
+        .records()
+        .filter_map(|record| match record.body() {
+            Body::Local(ty) => Some(ty),
+            _ => None,
+        })
+        .nth(i)
+        .unwrap()
 }
 
 // A lane of class m is lowered to the owner d if its marker is lacking.

@@ -65,13 +65,11 @@ pub fn rejudge(accepted: &Accepted, marks: &[u8], verdicts: &mut [u8], scratch: 
     let mut memo = accepted.memo();
     let mut markers = [0; CLASS_LIMIT];
     overlays(formed, &mut memo, &mut markers);
-    let mut banned = [0; CLASS_LIMIT];
-    bans(&formed.sheets, &mut banned);
     captures(formed, &markers, scratch);
     let survey = Survey::new(Judging {
         formed,
         markers,
-        bans: banned,
+        bans: bans(&formed.sheets),
         lanes: scratch,
     });
     rewrite(&survey, marks, verdicts);

@@ -14,7 +14,7 @@ use markers::has;
 use overlay::known;
 use records::group::Group;
 use records::{CLASS_LIMIT, INTERFACE, has_flag};
-use slots::{Late, rule_set};
+use slots::Late;
 
 /// Rule and record; 0 and 0 is clean.
 #[derive(Clone, Copy, PartialEq, Eq, Debug)]
@@ -39,7 +39,7 @@ fn first_class(judging: &Judging, rule: Rule, c: usize) -> Option<usize>
     let Rule::Late(late) = rule else {
         return Some(c);
     };
-    if !has(known(&judging.markers, c), rule_set(late)) {
+    if !has(known(&judging.markers, c), late.set()) {
         return None;
     }
     let head = judging.formed.sheets.group(c).head();

@@ -1,8 +1,8 @@
 -- Sets of markers bit by bit: those that a slot, a root, an encloser and captured variables pass.
 -- Assumes nothing.
 use mathlib.Core.Path.{◌≡◌, refl, sym, ap, ap₂, ◌∙◌}
-use mathlib.Core.Bool.{Bool, true, false, not, ◌&&◌, ◌||◌, and-true, and-false, or-true, or-false}
-use mathlib.Core.List.{List}
+use mathlib.Core.Bool.{Bool, true, false, not, ◌&&◌, ◌||◌, and-true, and-false, and_assoc, or-true, or-false}
+use mathlib.Core.List.{List, [], ◌∷◌}
 use Prim.Native.Nat.{ℕ, ◌-◌, ◌^◌}
 use lib.ListN.{get_or}
 use borrow.Author.Tests.{eq-eqb, ne_eqb}
@@ -18,6 +18,7 @@ use Rattle.overlay.specs.Types.{Known}
 use Rattle.captured.specs.declared.Lane.{Lane}
 use Rattle.captured.specs.declared.Lane.TheVariants as lane
 use Rattle.captured.specs.Captured.{lane_marker}
+use Rattle.captured.proofs.Lowering.{all_lanes}
 use Rattle.slots.specs.declared.Late.{Late}
 use Rattle.slots.specs.declared.Late.TheVariants.{Immutable, Powerless, Selfless, DeepSelfless}
 use Rattle.slots.specs.Slots.{rule_marker, root_breaks, Passes, slot_by, RootSet, encloser_has, encloser_by, lane_shows, captured_by, lane_by}
@@ -115,34 +116,55 @@ masked k e true mask = refl
 masked k e false mask = e
 
 module _ (row : List ℕ) (t : ℕ) where
-  pub lanes_pass : (s : ℕ) {a b c r : ℕ} → a ≡ lane_by row t lane.Immutable → b ≡ lane_by row t lane.Powerless → c ≡ lane_by row t lane.DeepSelfless → ((k : ℕ) → bit k s ≡ (bit k a && bit k b))
-      → ((k : ℕ) → bit k r ≡ (bit k s && bit k c)) → Passes (captured_by row t) r
+  -- none of these lanes shows that the marker is lacking
+  abbrev pub left_by : List Lane → ℕ → Bool
+  left_by [] k = true
+  left_by (lane ∷ lanes) k = bit k (lane_by row t lane) && left_by lanes k
+
+  -- the set and the lanes that are left tell of all
+  pub record Passing (set : ℕ) (left : List Lane) : Type 0 where
+    pub is : (rule : Late) → captured_by row t rule ≡ (bit (rule_marker rule) set && left_by left (rule_marker rule))
+
+  pub lanes_start : Passing 255 all_lanes
   unfolding bit lane_by
-  lanes_pass s {a} {b} {c} {r} ea eb ec es er =
-      passes_of {P = captured_by row t}
-      (three 0 refl ∙ one (lane_shows row t lane.Immutable) (lane_shows row t lane.Powerless) (lane_shows row t lane.DeepSelfless))
-      (three 1 refl ∙ two (lane_shows row t lane.Immutable) (lane_shows row t lane.Powerless) (lane_shows row t lane.DeepSelfless))
-      (three 2 refl ∙ none (lane_shows row t lane.Immutable) (lane_shows row t lane.Powerless) (lane_shows row t lane.DeepSelfless))
-      (three 7 refl ∙ last (lane_shows row t lane.Immutable) (lane_shows row t lane.Powerless) (lane_shows row t lane.DeepSelfless))
+  lanes_start = record {
+    is = late_cases (λ rule. captured_by row t rule ≡ (bit (rule_marker rule) 255 && left_by all_lanes (rule_marker rule)))
+        (sym (three 0 refl ∙ one (lane_shows row t lane.Immutable) (lane_shows row t lane.Powerless) (lane_shows row t lane.DeepSelfless)))
+        (sym (three 1 refl ∙ two (lane_shows row t lane.Immutable) (lane_shows row t lane.Powerless) (lane_shows row t lane.DeepSelfless)))
+        (sym (three 2 refl ∙ none (lane_shows row t lane.Immutable) (lane_shows row t lane.Powerless) (lane_shows row t lane.DeepSelfless)))
+        (sym (three 7 refl ∙ last (lane_shows row t lane.Immutable) (lane_shows row t lane.Powerless) (lane_shows row t lane.DeepSelfless)));
+  }
     where
       of : (k : ℕ) → bit k 255 ≡ true → (lane : Lane) → bit k (lane_by row t lane) ≡ (not (lane_shows row t lane) || bit k (255 - 2 ^ lane_marker lane))
       of k e lane = masked k e (lane_shows row t lane) (255 - 2 ^ lane_marker lane)
 
-      three : (k : ℕ) → bit k 255 ≡ true → bit k r
-          ≡ (((not (lane_shows row t lane.Immutable) || bit k 254) && (not (lane_shows row t lane.Powerless) || bit k 253)) && (not (lane_shows row t lane.DeepSelfless) || bit k 127))
+      three : (k : ℕ) → bit k 255 ≡ true → (bit k 255 && left_by all_lanes k)
+          ≡ ((not (lane_shows row t lane.Immutable) || bit k 254) && ((not (lane_shows row t lane.Powerless) || bit k 253) && (not (lane_shows row t lane.DeepSelfless) || bit k 127)))
       three k e =
-          er k
-          ∙ ap₂ (λ (p q : Bool). p && q)
-          (es k ∙ ap₂ (λ (p q : Bool). p && q) (ap (bit k) ea ∙ of k e lane.Immutable) (ap (bit k) eb ∙ of k e lane.Powerless)) (ap (bit k) ec ∙ of k e lane.DeepSelfless)
+          ap₂ (λ (p q : Bool). p && q) e
+          (ap₂ (λ (p q : Bool). p && q) (of k e lane.Immutable) (ap₂ (λ (p q : Bool). p && q) (of k e lane.Powerless) (and-true _ ∙ of k e lane.DeepSelfless)))
 
-      one : (x y z : Bool) → (((not x || false) && (not y || true)) && (not z || true)) ≡ not x
-      one x y z = rw (or-false (not x), or-true (not y), or-true (not z), and-true (not x), and-true (not x))
+      one : (x y z : Bool) → ((not x || false) && ((not y || true) && (not z || true))) ≡ not x
+      one x y z = rw (or-false (not x), or-true (not y), or-true (not z), and-true (not x))
 
-      two : (x y z : Bool) → (((not x || true) && (not y || false)) && (not z || true)) ≡ not y
+      two : (x y z : Bool) → ((not x || true) && ((not y || false) && (not z || true))) ≡ not y
       two x y z = rw (or-true (not x), or-false (not y), or-true (not z), and-true (not y))
 
-      none : (x y z : Bool) → (((not x || true) && (not y || true)) && (not z || true)) ≡ true
+      none : (x y z : Bool) → ((not x || true) && ((not y || true) && (not z || true))) ≡ true
       none x y z = rw (or-true (not x), or-true (not y), or-true (not z))
 
-      last : (x y z : Bool) → (((not x || true) && (not y || true)) && (not z || false)) ≡ not z
+      last : (x y z : Bool) → ((not x || true) && ((not y || true) && (not z || false))) ≡ not z
       last x y z = rw (or-true (not x), or-true (not y), or-false (not z))
+
+module _ {row : List ℕ} {t set : ℕ} where
+  pub lanes_next : {left left' : List Lane} {lane : Lane} → Passing row t set left → left ≡ lane ∷ left' → {x : ℕ} → x ≡ lane_by row t lane → {r : ℕ} → ((k : ℕ) → bit k r ≡ (bit k set && bit k x))
+      → Passing row t r left'
+  lanes_next {left' = left'} {lane = lane} w e {x} ex {r} er = record {
+    is = λ rule. w.is rule ∙ ap (λ (ls : List Lane). bit (rule_marker rule) set && left_by row t ls (rule_marker rule)) e ∙ step (rule_marker rule);
+  }
+    where
+      step : (k : ℕ) → (bit k set && (bit k (lane_by row t lane) && left_by row t left' k)) ≡ (bit k r && left_by row t left' k)
+      step k = rw (er k, ex) (sym (and_assoc (bit k set) (bit k (lane_by row t lane)) (left_by row t left' k)))
+
+  pub lanes_end : {left : List Lane} → Passing row t set left → left ≡ [] → Passes (captured_by row t) set
+  lanes_end w e = record { is = λ rule. sym (w.is rule ∙ ap (λ (ls : List Lane). bit (rule_marker rule) set && left_by row t ls (rule_marker rule)) e ∙ and-true (bit (rule_marker rule) set)) }

@@ -5,7 +5,7 @@
 ghost use Rattle.std.specs.Prelude.{◌≡◌, ◌^◌, ◌<◌};
 ghost use Rattle.slots.specs.Slots.{rule_number, rule_marker, Passes, slot_by, FieldSet, FieldsSet, RootSet, encloser_by, lane_by, captured_by, HeadSet, base_by};
 
-use captured::{Lane, lacking};
+use captured::{LANES, Lane, lacking};
 use markers::{ALL, DEEP_SELFLESS, IMMUTABLE, POWERLESS, SELFLESS, common, has, union};
 use overlay::{known, type_markers};
 use records::group::Group;
@@ -33,24 +33,24 @@ impl Late {
             Late::DeepSelfless => 10,
         }
     }
+
+    /// Its marker, as a set of its own.
+    pub fn set(self) -> u8
+        ensures { (result ≡ 2 ^ rule_marker self) × (0 < result) }
+    {
+        match self {
+            Late::Immutable => IMMUTABLE,
+            Late::Powerless => POWERLESS,
+            Late::Selfless => SELFLESS,
+            Late::DeepSelfless => DEEP_SELFLESS,
+        }
+    }
 }
 
 // What a field that changes can pass, and a transient one.
 const CHANGING: u8 = POWERLESS + DEEP_SELFLESS;
 
 const LASTING: u8 = ALL - SELFLESS;
-
-/// The marker of a rule, as a set of its own.
-pub fn rule_set(rule: Late) -> u8
-    ensures { (result ≡ 2 ^ rule_marker rule) × (0 < result) }
-{
-    match rule {
-        Late::Immutable => IMMUTABLE,
-        Late::Powerless => POWERLESS,
-        Late::Selfless => SELFLESS,
-        Late::DeepSelfless => DEEP_SELFLESS,
-    }
-}
 
 // By the flags of a field and the markers of its type. One that is not final passes neither rule 7 nor rule 9, a transient one not rule 9.
 fn slot_set(flags: u16, m: u8) -> u8
@@ -128,10 +128,11 @@ fn captured_set(row: &[u8], t: usize) -> u8
     requires { t < 256 }
     ensures { Passes (captured_by row.now t) result }
 {
-    let a = lane_set(row, Lane::Immutable, t);
-    let b = lane_set(row, Lane::Powerless, t);
-    let c = lane_set(row, Lane::DeepSelfless, t);
-    common(common(a, b), c)
+    let mut set = ALL;
+    for lane in LANES {
+        set = common(set, lane_set(row, lane, t));
+    }
+    set
 }
 
 /// Those that record 0 of class t passes, whose head this is: as a root, or by its encloser and its captured variables.

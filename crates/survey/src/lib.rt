@@ -17,7 +17,7 @@ use markers::{SELFLESS, clash, common, has};
 use records::group::Group;
 use records::record::{Head, Record};
 use records::{CLASS_LIMIT, INTERFACE, has_flag};
-use slots::{Late, base_breaks, fields_set, head_set, rule_set};
+use slots::{Late, base_breaks, fields_set, head_set};
 
 // The rules that ask slots.
 const LATE: [Late; 4] = [
@@ -83,7 +83,9 @@ fn passes(judging: &Judging) -> [u8; CLASS_LIMIT]
 fn covers(m: u8, set: u8) -> bool
     ensures { result ≡ not (any_late m (λ rule. not (bit (rule_marker rule) set))) }
 {
-    !LATE.iter().any(|rule| has(m, rule_set(*rule)) && !has(set, rule_set(*rule)))
+    !LATE
+        .iter()
+        .any(|rule| has(m, rule.set()) && !has(set, rule.set()))
 }
 
 // Rule 9's second part, for a class with the markers m.

@@ -17,7 +17,7 @@ head_set-set-requires c = omega (arith, c.requires.there, c.args.self.now.formed
 told : (c : After-has) → c.has.result ≡ not (head_slots (library_count c.args.self.now.formed.now.sheets) (groups c.args.self.now.formed.now.sheets) c.args.rule c.args.t)
 told c =
     let j = c.args.self.now in
-    marker_in c.args.rule c.head_set-set.result c.rule_set.ensures.0 c.has.ensures
+    marker_in c.args.rule c.head_set-set.result c.set.ensures.0 c.has.ensures
     ∙ head_is j.formed.now.sheets c.requires.there c.requires.head j.known j.shown (rw c.library_count-nlib.ensures at c.head_set-set.ensures) c.args.rule
 
 pub returns-then-not-has : goal.returns-then-not-has

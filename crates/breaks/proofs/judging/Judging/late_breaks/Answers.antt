@@ -28,7 +28,7 @@ returns-in-Field c =
     let one = group_one_class p.library p.user c.args.step.asked c.requires.asked_there in
     let w = rw c.in-Field.is at c.body.ensures in
     rule_field _ _ _ _ _ _ (λ (e : c.args.step.number ≡ 0). omega (arith, w.0, first_class one c.requires.standing e))
-    (field_told (groups p) j.known c.args.rule _ _ _ w c.field_set.ensures c.rule_set.ensures.0 c.has.ensures)
+    (field_told (groups p) j.known c.args.rule _ _ _ w c.field_set.ensures c.set.ensures.0 c.has.ensures)
 
 pub returns-in_default : goal.returns-in_default
 returns-in_default c =
