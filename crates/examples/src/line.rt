@@ -10,27 +10,17 @@ pub(crate) fn split_word(line: &[u8]) -> (&[u8], &[u8]) {
 
 // The value of a digit to the base 16.
 pub(crate) fn digit(byte: u8) -> Option<u8> {
-    match byte {
-        b'0'..=b'9' => Some(byte - b'0'),
-        b'A'..=b'F' => Some(byte - b'A' + 10),
-        _ => None,
-    }
+    let value = char::from(byte).to_digit(16)?;
+    u8::try_from(value).ok()
 }
 
-fn decimal(byte: u8) -> Option<usize> {
-    match digit(byte) {
-        Some(digit @ 0..=9) => Some(usize::from(digit)),
-        _ => None,
-    }
-}
-
-fn with_digit(x: usize, digit: usize) -> usize {
-    x.saturating_mul(10).saturating_add(digit)
+fn with_digit(x: usize, digit: u32) -> usize {
+    x.saturating_mul(10).saturating_add(digit as usize)
 }
 
 // The number whose digits stand at the start of `text`.
 pub(crate) fn number(text: &[u8]) -> usize {
     text.iter()
-        .map_while(|&byte| decimal(byte))
+        .map_while(|&byte| char::from(byte).to_digit(10))
         .fold(0, with_digit)
 }

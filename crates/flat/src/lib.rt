@@ -4,7 +4,7 @@
 ghost use Rattle.std.specs.Prelude.{◌≡◌, ◌-◌, ◌≤◌, ◌<◌, min, length};
 ghost use Rattle.spec.specs.Refusals.{scratch_length};
 ghost use Rattle.spec.specs.Promises.{cleared};
-ghost use Rattle.spec.specs.Verdicts.{user_verdict, flat_lines, flat_rewritten};
+ghost use Rattle.spec.specs.Verdicts.{user_verdict, flat_lines, flat_rewritten, bytes_of};
 ghost use Rattle.sheets.specs.Sheets.{count, library_count};
 ghost use Rattle.rules.specs.Line.{line_of};
 ghost use Rattle.flat.specs.Row.{put_at, chosen, faulted_in, marked_in};
@@ -15,19 +15,31 @@ use captured::captures;
 use form::accepted::Accepted;
 use overlay::overlays;
 use records::{CLASS_LIMIT, SCRATCH_BYTES, VERDICT_BYTES};
-use rules::{Verdict, Walk};
+use rules::{Fault, Walk};
 use survey::Survey;
 
 // ---- writing
 
+// A line of the row: rule and record; 0 and 0 is clean.
+#[tactic(auto, unfolding(spec::specs::Verdicts::bytes_of))]
+fn line(fault: Option<Fault>) -> [u8; VERDICT_BYTES]
+    ensures { result ≡ bytes_of (line_of fault) }
+{
+    match fault {
+        Some(fault) => [fault.rule.number(), fault.record],
+        None => [0, 0],
+    }
+}
+
 // Writes line i of the row.
-fn put(verdicts: &mut [u8], i: usize, verdict: Verdict)
+fn put(verdicts: &mut [u8], i: usize, fault: Option<Fault>)
     requires { i < flat_lines verdicts.old }
-    ensures { verdicts.new ≡ put_at i (line_of verdict) verdicts.old }
+    ensures { verdicts.new ≡ put_at i (line_of fault) verdicts.old }
 {
     let at = VERDICT_BYTES * i;
-    verdicts[at] = verdict.rule;
-    verdicts[at + 1] = verdict.record;
+    let [rule, record] = line(fault);
+    verdicts[at] = rule;
+    verdicts[at + 1] = record;
 }
 
 // Writes the verdict of each user class whose mark is 0. A clean class needs no walk over the rules.
@@ -42,12 +54,12 @@ fn rewrite(survey: &Survey, marks: &[u8], verdicts: &mut [u8])
     let mut walk = Walk::new(&survey.judging);
     for c in first..sheets.count() {
         if marks[c] == 0 {
-            let verdict = if survey.clean(c) {
-                Verdict { rule: 0, record: 0 }
+            let fault = if survey.clean(c) {
+                None
             } else {
                 walk.verdict_of(c)
             };
-            put(verdicts, c - first, verdict);
+            put(verdicts, c - first, fault);
         }
     }
 }

@@ -253,8 +253,8 @@ module _ {nlib : ℕ} {g : ℕ → Group} {c : ℕ} {rule : Rule} {t : ℕ} wher
             go (yes q) = own_low q y h
             go (no q) = let z : p ≡ 0 = at ∙ place_other c t k q in omega arith
 
-        pub record_hit : {i : ℕ} → rule ≡ rule_at i → i < 10 → RuleAt nlib g c i → {v : ℕ} → v ≡ number_of rule → verdict v p ≡ verdict_of nlib g c
-        record_hit {i} q h rules ev =
-            ap (λ (v : ℕ). verdict v p) (ev ∙ ap number_of q ∙ rule_number_is i h)
+        pub record_hit : {i : ℕ} → rule ≡ rule_at i → i < 10 → RuleAt nlib g c i → verdict (number_of rule) p ≡ verdict_of nlib g c
+        record_hit {i} q h rules =
+            ap (λ (v : ℕ). verdict v p) (ap number_of q ∙ rule_number_is i h)
             ∙ sym (first_found w user there i p h rules.clear (subst (λ (x : Rule). Stands c (walked nlib g x c) p) q stands)
             (λ y s. low y (subst (λ (x : Rule). Stands c (walked nlib g x c) y) (sym q) s)))

@@ -16,10 +16,10 @@ use records::group::Group;
 use records::{CLASS_LIMIT, INTERFACE, has_flag};
 use slots::Late;
 
-/// Rule and record; 0 and 0 is clean.
+/// A rule that a class breaks, and the lowest record that breaks it.
 #[derive(Clone, Copy, PartialEq, Eq, Debug)]
-pub struct Verdict {
-    pub rule: u8,
+pub struct Fault {
+    pub rule: Rule,
     pub record: u8,
 }
 
@@ -133,8 +133,8 @@ impl<'a> Walk<'a> {
         }
     }
 
-    /// The verdict of user class c. What this walk finds nothing under is kept, so that no superclass is walked again and again.
-    pub fn verdict_of(&mut self, c: usize) -> Verdict
+    /// The first rule that user class c breaks; none if it is clean. What this walk finds nothing under is kept, so that no superclass is walked again and again.
+    pub fn verdict_of(&mut self, c: usize) -> Option<Fault>
         requires user_class { library_count self.old.judging.now.formed.now.sheets ≤ c }
         requires there { c < count self.old.judging.now.formed.now.sheets }
         ensures verdict { line_of result ≡ verdict_of (library_count self.old.judging.now.formed.now.sheets) (groups self.old.judging.now.formed.now.sheets) c }
@@ -159,10 +159,8 @@ impl<'a> Walk<'a> {
                             number,
                         };
                         if judging.breaks(step, &record) {
-                            break 'judged Verdict {
-                                rule: rule.number(),
-                                record: place(c, t, number),
-                            };
+                            let record = place(c, t, number);
+                            break 'judged Some(Fault { rule, record });
                         }
                         if alone {
                             break;
@@ -174,7 +172,7 @@ impl<'a> Walk<'a> {
                     self.keep(late, first);
                 }
             }
-            Verdict { rule: 0, record: 0 }
+            None
         }
     }
 }

@@ -20,4 +20,4 @@ bounds-verdicts-at-2 c = simp length-set (omega (arith, line_room _ c.requires))
 
 pub returns : goal.returns
 unfolding put_at bytes_of
-returns c = rw add-one
+returns c = rw (add-one, c.line.ensures)

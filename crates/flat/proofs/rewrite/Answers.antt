@@ -24,14 +24,14 @@ loop-c-preserved c =
       | then-marks-c-eq0 w ↦ (
         rewrite_put inv.0 low w.if-marks-c-eq0.true c.requires.lines
             (elim w.if-clean.branch [
-              | then-clean v ↦ ap line_of v.verdict-is ∙ sym (clean_both _ (sym w.clean.ensures ∙ v.if-clean.true)) ∙ own_verdict p inv.0.low
-              | else-clean v ↦ ap line_of v.verdict-is ∙ (rw inv.1 at v.verdict_of-verdict.ensures.verdict) ∙ own_verdict p inv.0.low
+              | then-clean v ↦ ap line_of v.fault-is ∙ sym (clean_both _ (sym w.clean.ensures ∙ v.if-clean.true)) ∙ own_verdict p inv.0.low
+              | else-clean v ↦ ap line_of v.fault-is ∙ (rw inv.1 at v.verdict_of-fault.ensures.verdict) ∙ own_verdict p inv.0.low
             ])
             (rw c.library_count-first.ensures at (w.verdicts-is ∙ w.put.ensures)),
         ap (λ b. b.judging.now) w.walk-is
             ∙ elim w.if-clean.branch [
               | then-clean v ↦ ap (λ b. b.judging.now) v.walk-is ∙ inv.1
-              | else-clean v ↦ ap (λ b. b.judging.now) v.walk-is ∙ ap (λ b. b.now) v.verdict_of-verdict.ensures.judging ∙ inv.1
+              | else-clean v ↦ ap (λ b. b.judging.now) v.walk-is ∙ ap (λ b. b.now) v.verdict_of-fault.ensures.judging ∙ inv.1
             ],
       )
       | else-marks-c-eq0 w ↦ (rewrite_passed inv.0 low w.if-marks-c-eq0.false w.verdicts-is, ap (λ b. b.judging.now) w.walk-is ∙ inv.1)

@@ -62,8 +62,8 @@ breaks-requires c =
       first = λ q. f.one (only_asks _ _ _ q);
     }
 
-pub place-requires : goal.place-requires
-place-requires c =
+pub place-record-requires : goal.place-record-requires
+place-record-requires c =
     let s = c.in-Some-2.ensures.steps in
     let f = rw (← s.1) at c.loop-number.invariant.2 in
     omega (arith, record_few f s.0, group_few (indexed c.count-passed.ensures.passed) c.in-Some.t)
@@ -148,7 +148,7 @@ returns-then-breaks-clause-verdict c =
     let w = ground c.count-passed.ensures.passed j.formed.now.formed in
     let s = c.in-Some-2.ensures.steps in
     let f = rw (← s.1) at c.loop-number.invariant.2 in
-    record_hit f s.0 w c.requires.user_class c.requires.there (sym c.breaks.ensures ∙ c.if-breaks.true) c.place.ensures refl c.loop-rule-test.true c.loop-rule.invariant.1 c.number.ensures
+    record_hit f s.0 w c.requires.user_class c.requires.there (sym c.breaks.ensures ∙ c.if-breaks.true) c.place-record.ensures refl c.loop-rule-test.true c.loop-rule.invariant.1
 
 pub returns-after-loop-rule-clause-verdict : goal.returns-after-loop-rule-clause-verdict
 returns-after-loop-rule-clause-verdict c =
