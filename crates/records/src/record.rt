@@ -122,11 +122,11 @@ impl<'a> Record<'a> {
         self.bytes
     }
 
-    /// The record's kind.
+    /// The record's kind. There is one: with a default, which is never taken, a caller that asks for one kind makes one comparison.
     pub fn kind(&self) -> Kind
         ensures { kind_number result ≡ kind self.now }
     {
-        Kind::try_from(word_in(self.bytes, KIND_AT)).unwrap()
+        Kind::try_from(word_in(self.bytes, KIND_AT)).unwrap_or(Kind::Refers)
     }
 
     /// Whether the record is of a kind.
