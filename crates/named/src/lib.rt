@@ -9,11 +9,41 @@ ghost use Rattle.named.specs.Named.{listed, option_list, named_by, alone};
 
 use records::record::{Body, Record, Ty};
 
-/// The classes that a record names, in their order: at most two.
-#[derive(Clone, Copy)]
+/// The classes that a record names, at most two: they come in their order.
+#[derive(Drop)]
 pub struct Targets {
     pub first: Option<usize>,
     pub second: Option<usize>,
+}
+
+impl Targets {
+    // One class, or none.
+    fn alone(class: Option<usize>) -> Targets
+        ensures { result ≡ alone class }
+    {
+        Targets {
+            first: class,
+            second: None,
+        }
+    }
+}
+
+impl Iterator for Targets {
+    ghost use Rattle.std.specs.Iterator.{YieldsFirst, item_count};
+    ghost use Rattle.named.specs.Named.{listed};
+
+    type Item = usize;
+
+    ghost next_gives = { YieldsFirst listed };
+
+    ghost remaining = { item_count listed };
+
+    fn next(&mut self) -> Option<usize> {
+        match self.first.take() {
+            Some(class) => Some(class),
+            None => self.second.take(),
+        }
+    }
 }
 
 /// The records that a search goes along.
@@ -21,15 +51,6 @@ pub struct Targets {
 pub enum Along {
     Builds,
     Every,
-}
-
-fn alone(class: Option<usize>) -> Targets
-    ensures { result ≡ alone class }
-{
-    Targets {
-        first: class,
-        second: None,
-    }
 }
 
 // The class of a type.
@@ -58,13 +79,13 @@ pub fn named(record: &Record) -> Targets
             first: head.superclass,
             second: head.encloser,
         },
-        Body::Implements(class) => alone(Some(class)),
-        Body::Field { ty, .. } => alone(type_named(ty)),
-        Body::Local(ty) => alone(type_named(ty)),
-        Body::Uses { class, .. } => alone(Some(class)),
-        Body::Builds(class) => alone(Some(class)),
-        Body::Member { .. } => alone(None),
-        Body::Refers { class, .. } => alone(Some(class)),
+        Body::Implements(class) => Targets::alone(Some(class)),
+        Body::Field { ty, .. } => Targets::alone(type_named(ty)),
+        Body::Local(ty) => Targets::alone(type_named(ty)),
+        Body::Uses { class, .. } => Targets::alone(Some(class)),
+        Body::Builds(class) => Targets::alone(Some(class)),
+        Body::Member { .. } => Targets::alone(None),
+        Body::Refers { class, .. } => Targets::alone(Some(class)),
     }
 }
 
@@ -74,7 +95,7 @@ pub fn named_along(record: &Record, along: Along) -> Targets
 {
     match along {
         Along::Every => named(record),
-        Along::Builds => alone(built(record)),
+        Along::Builds => Targets::alone(built(record)),
     }
 }
 
@@ -82,6 +103,5 @@ pub fn named_along(record: &Record, along: Along) -> Targets
 pub fn names(record: &Record, t: usize) -> bool
     ensures { result ≡ elem t (references record.now) }
 {
-    let named = named(record);
-    named.first == Some(t) || named.second == Some(t)
+    named(record).any(|class| class == t)
 }

@@ -31,12 +31,7 @@ struct Last {
 fn class_names(group: &Group, t: usize) -> bool
     ensures { result ≡ elem t (group_references group.now) }
 {
-    for record in group.records() {
-        if names(&record, t) {
-            return true;
-        }
-    }
-    false
+    group.records().any(|record| names(&record, t))
 }
 
 // Whether a class below the last names it: all others are below.

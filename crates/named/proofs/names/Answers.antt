@@ -1,12 +1,14 @@
-use Rattle.std.proofs.Common.{rules}
-use borrow.Author.Tests.{tests}
-use Rattle.spec.specs.Lists.{any, elem}
+use Rattle.std.proofs.Common.{◌∙◌, rules, tests}
+use Rattle.std.proofs.lemmas.Iterator.Consumers.{YieldsList-from_first}
+use Rattle.std.proofs.lemmas.Iterator.Search.{any_from_yields_List}
+use lib.Dec.{eqb}
+use Rattle.spec.specs.Lists.{elem}
+use Rattle.records.proofs.Chains.{any_is}
+use Rattle.named.specs.Named.{listed}
 use Rattle.named.proofs.names.Goals as goal
 
-pub returns-then-eq : goal.returns-then-eq
-unfolding elem any
-returns-then-eq c = search (rules, tests)
-
-pub returns-else-eq : goal.returns-else-eq
-unfolding elem any
-returns-else-eq c = search (rules, tests)
+pub returns : goal.returns
+unfolding elem
+returns c =
+    any_from_yields_List (eqb c.args.t) _ _ _ c.any.ensures.ran (YieldsList-from_first (λ t. t) listed _ c.named.ensures) (λ x b q k. search (rules, tests))
+    ∙ any_is _ _
