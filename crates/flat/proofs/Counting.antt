@@ -1,77 +1,59 @@
 -- Counting along a row: faulted verdicts, marked classes.
 -- Assumes nothing.
-use mathlib.Core.Path.{◌≡◌, sym, ap, ◌∙◌}
+use mathlib.Core.Path.{◌≡◌, refl, sym, ap, ap₂, ◌∙◌, subst}
 use mathlib.Core.Bool.{Bool, true, false, not}
-use mathlib.Core.List.{List}
+use mathlib.Core.List.{List, [], ◌∷◌}
 use Prim.Native.Nat.{ℕ, zero, suc, ◌+◌, ◌*◌, ◌/◌, ◌≤◌, ◌<◌, min}
-use native.Mathlib.Numerals.{add-one}
+use native.Mathlib.Nat.{zero-add, add-zero, suc-add, add-suc, not-suc-le-zero, le_of_suc-le-suc}
 use native.Mathlib.Omega.{arith}
 use lib.Dec.{eqb}
-use lib.ListN.{length, get_or}
-use borrow.Author.Tests.{eq-eqb, ne_eqb}
-use mathlib.Core.Path.{refl, subst}
-use mathlib.Core.List.{[], ◌∷◌}
-use native.Mathlib.Nat.{zero-add, add-zero, suc-add, add-suc, not-suc-le-zero, le_of_suc-le-suc}
-use lib.ListN.{take}
+use lib.ListN.{length, get_or, take, drop}
+use lib.Seq.{get_or-drop}
 use Rattle.std.specs.List.{filter}
+use Rattle.std.specs.Simd.{first_chunks}
+use Rattle.std.proofs.lemmas.List.{take_min}
 use Rattle.spec.specs.Lists.{count, keep, span}
 use Rattle.spec.specs.Verdicts.{verdict_bytes, flat_lines, flat_at}
-use Rattle.laws.proofs.Count.{step, count_none, count_more}
 use Rattle.flat.specs.Row.{faulted_in, marked_in}
 
-module _ (row : List ℕ) (n : ℕ) where
-  pub lines_few : n < length row / verdict_bytes → n ≡ min n (flat_lines row)
-  unfolding flat_lines
-  lines_few h = omega arith
+-- ---- lines
 
-  pub lines_all : length row / verdict_bytes ≤ n → length row / verdict_bytes ≡ min n (flat_lines row)
-  unfolding flat_lines
-  lines_all h = omega arith
-
-  pub lines_room : {end : ℕ} → end ≡ min n (flat_lines row) → verdict_bytes * end ≤ length row
-  unfolding flat_lines
-  lines_room e = omega arith
-
--- ---- a count along the numbers below `end`
-
-pub record CountAt (p : ℕ → Bool) (end i m : ℕ) : Type 0 where
-  pub most : i ≤ end
-  pub few : m ≤ i
-  pub now : m ≡ count p (span 0 i)
-
-pub count_start : (p : ℕ → Bool) (end : ℕ) → CountAt p end 0 0
-count_start p end = record { most = omega arith; few = omega arith; now = sym (count_none p) }
-
-module _ {p : ℕ → Bool} {end i m : ℕ} (f : CountAt p end i m) (h : i < end) where
-  more : (b : Bool) → p i ≡ b → count p (span 0 (i + 1)) ≡ step b (count p (span 0 i))
-  more b e = ap (λ (k : ℕ). count p (span 0 k)) (add-one i) ∙ count_more p i ∙ ap (λ (x : Bool). step x (count p (span 0 i))) e
-
-  pub count_no : {m' : ℕ} → p i ≡ false → m' ≡ m → CountAt p end (i + 1) m'
-  count_no e q = record { most = omega arith; few = omega (arith, f.few); now = q ∙ f.now ∙ sym (more false e) }
-
-  pub count_yes : {m' : ℕ} → p i ≡ true → m' ≡ m + 1 → CountAt p end (i + 1) m'
-  count_yes e q = record { most = omega arith; few = omega (arith, f.few); now = q ∙ add-one m ∙ ap suc f.now ∙ sym (more true e) }
-
-pub count_end : {p : ℕ → Bool} {end i m : ℕ} → CountAt p end i m → end ≤ i → m ≡ count p (span 0 end)
-count_end {p} f h = f.now ∙ ap (λ (k : ℕ). count p (span 0 k)) (omega (arith, f.most))
-
--- ---- what is counted
+abbrev pub is_faulted : List ℕ → Bool
+is_faulted line = not (eqb (get_or line 0 0) 0)
 
 abbrev pub faulted_at : List ℕ → ℕ → Bool
 faulted_at row i = not (eqb (flat_at row i).rule 0)
 
-module _ (row : List ℕ) (i : ℕ) where
-  pub rule_clean : {x : ℕ} → x ≡ get_or row (verdict_bytes * i) 0 → x ≡ 0 → faulted_at row i ≡ false
-  unfolding flat_at
-  rule_clean e z = rw (eq-eqb (get_or row (verdict_bytes * i) 0) 0 (sym e ∙ z))
+front : (xs : List ℕ) → get_or (take 2 xs) 0 0 ≡ get_or xs 0 0
+front [] = refl
+front (x ∷ xs) = refl
 
-  pub rule_broken : {x : ℕ} → x ≡ get_or row (verdict_bytes * i) 0 → (x ≡ 0 → ⊥) → faulted_at row i ≡ true
-  unfolding flat_at
-  rule_broken e z = rw (ne_eqb (get_or row (verdict_bytes * i) 0) 0 (λ w. z (e ∙ w)))
+-- along a part of the row whose first line is number k
+lines_from : (all xs : List ℕ) (k m n : ℕ) → ((i : ℕ) → get_or all (verdict_bytes * k + i) 0 ≡ get_or xs i 0) → n ≤ m
+    → length (filter is_faulted (take n (first_chunks verdict_bytes m xs))) ≡ count (faulted_at all) (span k n)
+unfolding count span keep flat_at
+lines_from all xs k m zero h l = refl
+lines_from all xs k zero (suc n) h l = absurd (not-suc-le-zero l)
+lines_from all xs k (suc m) (suc n) h l =
+    go (is_faulted (take 2 xs)) refl
+    (lines_from all (drop 2 xs) (suc k) m n (λ i. ap (λ (j : ℕ). get_or all j 0) (omega arith) ∙ h (2 + i) ∙ sym (get_or-drop 2 xs i 0)) (le_of_suc-le-suc l))
+  where
+    here : faulted_at all k ≡ is_faulted (take 2 xs)
+    here = ap (λ (x : ℕ). not (eqb x 0)) (ap (λ (j : ℕ). get_or all j 0) (omega arith) ∙ h 0 ∙ sym (front xs))
 
-pub faulted_is : (row : List ℕ) {end k m : ℕ} → m ≡ count (faulted_at row) (span 0 end) → end ≡ k → m ≡ faulted_in row k
-unfolding faulted_in
-faulted_is row e q = e ∙ ap (λ (k : ℕ). count (faulted_at row) (span 0 k)) q
+    go : (b : Bool) → is_faulted (take 2 xs) ≡ b
+        → length (filter is_faulted (take n (first_chunks verdict_bytes m (drop 2 xs)))) ≡ length (keep (faulted_at all) (span (suc k) n))
+        → length (filter is_faulted (take 2 xs ∷ take n (first_chunks verdict_bytes m (drop 2 xs)))) ≡ length (keep (faulted_at all) (k ∷ span (suc k) n))
+    go true e f = rw (here, e, keep) (ap suc f)
+    go false e f = rw (here, e, keep) f
+
+-- the lines are the row's, and there are as many of them as it has
+pub faulted_is : (row : List ℕ) (n : ℕ) {lines : List (List ℕ)} → lines ≡ first_chunks verdict_bytes (length row / verdict_bytes) row → length lines ≡ length row / verdict_bytes
+    → length (filter is_faulted (take n lines)) ≡ faulted_in row (min n (flat_lines row))
+unfolding faulted_in flat_lines
+faulted_is row n {lines} e l =
+    ap (λ (xs : List (List ℕ)). length (filter is_faulted xs)) (sym (take_min n lines) ∙ ap₂ (λ (k : ℕ) (xs : List (List ℕ)). take (min n k) xs) l e)
+    ∙ lines_from row row 0 (length row / verdict_bytes) (min n (length row / verdict_bytes)) (λ i. ap (λ (j : ℕ). get_or row j 0) (omega arith)) (omega arith)
 
 -- ---- marks
 

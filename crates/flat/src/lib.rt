@@ -94,13 +94,8 @@ pub fn rejudge(accepted: &Accepted, marks: &[u8], verdicts: &mut [u8], scratch: 
 pub fn faulted(verdicts: &[u8], n: usize) -> usize
     ensures { result ≡ faulted_in verdicts.now (min n (flat_lines verdicts.now)) }
 {
-    let mut faulted = 0;
-    for i in 0..n.min(verdicts.len() / VERDICT_BYTES) {
-        if verdicts[VERDICT_BYTES * i] != 0 {
-            faulted += 1;
-        }
-    }
-    faulted
+    let (lines, _) = verdicts.as_chunks::<VERDICT_BYTES>();
+    lines.iter().take(n).filter(|[rule, _]| *rule != 0).count()
 }
 
 /// How many of the first n classes have the mark 0.

@@ -1,20 +1,19 @@
-use mathlib.Core.Path.{refl}
-use native.Mathlib.Omega.{arith}
-use Rattle.spec.specs.Verdicts.{flat_lines}
-use Rattle.flat.proofs.Counting.{count_start, count_no, count_yes, count_end, rule_clean, rule_broken, faulted_is}
+-- The chain counts the faulted ones of the first n lines.
+use mathlib.Core.Path.{◌≡◌, ◌∙◌}
+use lib.ListN.{take, length}
+use borrow.Author.Tests.{tests}
+use Rattle.std.proofs.Common.{rules}
+use Rattle.std.specs.List.{filter}
+use Rattle.std.proofs.lemmas.Iterator.{YieldsList-from_slice, YieldsList-from_take}
+use Rattle.std.proofs.lemmas.Iterator.Consumers.{YieldsList-at, YieldsList-from_filter, count_from_yields_List}
+use Rattle.flat.proofs.Counting.{is_faulted, faulted_is}
 use Rattle.flat.proofs.faulted.Goals as goal
-use Rattle.flat.proofs.faulted.Goals.{then-verdicts-i-ne0, else-verdicts-i-ne0}
-
-pub loop-i-init : goal.loop-i-init
-loop-i-init c = count_start _ _
-
-pub loop-i-preserved : goal.loop-i-preserved
-loop-i-preserved c =
-    elim c.if-verdicts-i-ne0.branch [
-      | then-verdicts-i-ne0 w ↦ count_yes c.loop-i.invariant (omega (arith, c.loop-i-test.true, c.min-i-end.ensures)) (rule_broken _ _ refl w.if-verdicts-i-ne0.true) w.faulted-is
-      | else-verdicts-i-ne0 w ↦ count_no c.loop-i.invariant (omega (arith, c.loop-i-test.true, c.min-i-end.ensures)) (rule_clean _ _ refl w.if-verdicts-i-ne0.false) w.faulted-is
-    ]
 
 pub returns : goal.returns
-unfolding flat_lines
-returns c = faulted_is _ (count_end c.loop-i.invariant (omega (arith, c.loop-i-test.false, c.min-i-end.ensures))) refl
+returns c =
+    let lines = c.as_chunks.result.0.now in
+    let counted : c.count.result ≡ length (filter is_faulted (take c.args.n lines)) =
+    count_from_yields_List c.filter.result _ c.count.ensures.ran
+    (YieldsList-from_filter _ is_faulted (YieldsList-at c.filter.ensures.source (YieldsList-from_take c.args.n (YieldsList-from_slice lines cc) c.take.ensures.count))
+    c.filter.ensures.closure (λ x r q k. search (rules, tests))) in
+    counted ∙ faulted_is c.args.verdicts.now c.args.n c.as_chunks.ensures.front c.as_chunks.ensures.front_len
