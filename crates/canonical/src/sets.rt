@@ -44,6 +44,10 @@ impl Set {
         requires { Shaped record.now }
         ensures { result ≡ number_in (set_number self) record.now }
     {
+        // Most records are of another kind, which is told without reading what they say.
+        if !record.is(self.kind()) {
+            return None;
+        }
         match (self, record.body()) {
             (Set::Implements, Body::Implements(class)) => Some(number(class, 0)),
             (Set::Uses, Body::Uses { class, index }) => Some(number(class, index)),
