@@ -4,14 +4,14 @@ use mathlib.Core.Path.{◌≡◌, refl, sym, ap, ap₂, ◌∙◌}
 use mathlib.Core.Bool.{Bool, true, false, not, ◌&&◌, ◌||◌}
 use mathlib.Core.List.{List}
 use mathlib.Core.Option.{Option, none, some}
-use Prim.Native.Nat.{ℕ, ◌+◌, ◌/◌, ◌≤◌, ◌<◌, min}
+use Prim.Native.Nat.{ℕ, ◌+◌, ◌≤◌, ◌<◌, min}
 use native.Mathlib.Omega.{arith}
 use lib.Dec.{T, eqb, ltb, lt→ltb, nltb→le}
 use lib.ListN.{length, get_or, take}
 use borrow.Author.Tests.{lt-ltb, le-ltb, ltb-true, ltb-false}
 use Rattle.spec.specs.Sheet.{class_count, total}
 use Rattle.spec.specs.Rules.{Verdict}
-use Rattle.spec.specs.Verdicts.{verdict_bytes, user_verdict, faulted, faulted_count, flat_lines, flat_at, flat_rewritten, flat}
+use Rattle.spec.specs.Verdicts.{user_verdict, faulted, faulted_count, flat_lines, flat_at, flat_rewritten, flat}
 use Rattle.spec.specs.Refusals.{Refusal, scratch_length, refuse_if, refuse_plain, present_refusal, short_refusal, judge_refusal}
 use Rattle.spec.specs.Promises.{counts_of, refused, accepted, cleared, judged_row, Judges}
 use Rattle.theory.proofs.Answers.{first_past, first_some}
@@ -72,7 +72,7 @@ module _ (library user : List ℕ) (used : ℕ) (verdicts scratch : List ℕ) wh
   sheets_stop o = stop (first_some _ o)
 
   module _ (o : present_refusal library user used ≡ none) {own : ℕ} (eo : own ≡ class_count sheet)
-      {x : Bool} (e : x ≡ (ltb (length verdicts / verdict_bytes) own || ltb (length scratch) scratch_length)) where
+      {x : Bool} (e : x ≡ (ltb (flat_lines verdicts) own || ltb (length scratch) scratch_length)) where
     short : refusal ≡ refuse_plain x 12
     unfolding judge_refusal short_refusal flat_lines
     short = first_past _ _ o ∙ rw (e, eo) refl
@@ -82,15 +82,15 @@ module _ (library user : List ℕ) (used : ℕ) (verdicts scratch : List ℕ) wh
     short_stop t = stop (short ∙ ap (λ (y : Bool). refuse_plain y 12) t)
 
     module _ (t : x ≡ false) where
-      long : T (not (ltb (length verdicts / verdict_bytes) own || ltb (length scratch) scratch_length))
+      long : T (not (ltb (flat_lines verdicts) own || ltb (length scratch) scratch_length))
       long = rw (sym e ∙ t) tt
 
       pub room : own ≤ flat_lines verdicts
       unfolding flat_lines
-      room = nltb→le _ _ (not_or_l (ltb (length verdicts / verdict_bytes) own) (ltb (length scratch) scratch_length) long)
+      room = nltb→le _ _ (not_or_l (ltb (flat_lines verdicts) own) (ltb (length scratch) scratch_length) long)
 
       pub enough : scratch_length ≤ length scratch
-      enough = nltb→le _ _ (not_or_r (ltb (length verdicts / verdict_bytes) own) (ltb (length scratch) scratch_length) long)
+      enough = nltb→le _ _ (not_or_r (ltb (flat_lines verdicts) own) (ltb (length scratch) scratch_length) long)
 
       fine : refusal ≡ none
       unfolding refuse_plain refuse_if

@@ -21,7 +21,7 @@ returns-then-lacks c =
     let k = (goal.at.returns-then-lacks c).After-user_count-classes in
     let h = c.in_ok-accepted.ensures in
     rw c.from.ensures (short_stop c.args.library.now c.args.user.now c.args.used c.args.verdicts.now c.args.scratch.now h.0
-    (own k) c.lacks.ensures c.if-lacks.true)
+    (own k) (rw c.of.ensures at c.lacks.ensures) c.if-lacks.true)
 
 pub rejudge-requires-clause-lines : goal.rejudge-requires-clause-lines
 unfolding total
@@ -29,18 +29,18 @@ rejudge-requires-clause-lines c =
     let k = (goal.at.rejudge-requires-clause-lines c).After-user_count-classes in
     let h = c.in_ok-accepted.ensures in
     let l =
-    room c.args.library.now c.args.user.now c.args.used c.args.verdicts.now c.args.scratch.now h.0 (own k) c.lacks.ensures c.if-lacks.false in
+    room c.args.library.now c.args.user.now c.args.used c.args.verdicts.now c.args.scratch.now h.0 (own k) (rw c.of.ensures at c.lacks.ensures) c.if-lacks.false in
     omega (arith, l, c.user_count-classes.ensures)
 
 pub rejudge-requires-clause-scratch : goal.rejudge-requires-clause-scratch
 rejudge-requires-clause-scratch c =
     let k = (goal.at.rejudge-requires-clause-scratch c).After-user_count-classes in
     let h = c.in_ok-accepted.ensures in
-    enough c.args.library.now c.args.user.now c.args.used c.args.verdicts.now c.args.scratch.now h.0 (own k) c.lacks.ensures c.if-lacks.false
+    enough c.args.library.now c.args.user.now c.args.used c.args.verdicts.now c.args.scratch.now h.0 (own k) (rw c.of.ensures at c.lacks.ensures) c.if-lacks.false
 
 pub returns : goal.returns
 returns c =
     let k = (goal.at.returns c).After-user_count-classes in
     let h = c.in_ok-accepted.ensures in
-    judged_all c.args.library.now c.args.user.now c.args.used c.args.verdicts.now c.args.scratch.now h.0 (own k) c.lacks.ensures c.if-lacks.false
+    judged_all c.args.library.now c.args.user.now c.args.used c.args.verdicts.now c.args.scratch.now h.0 (own k) (rw c.of.ensures at c.lacks.ensures) c.if-lacks.false
     _ (zeros 256) (rw h.1 at c.rejudge.ensures.verdicts) c.rejudge.ensures.scratch c.faulted.ensures
