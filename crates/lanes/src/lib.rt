@@ -19,18 +19,16 @@ pub fn entry(row: &[u8], i: usize) -> u8
 
 // 0 needs no mark: as an owner it only says that a class is reached, and any class may be.
 #[tactic(auto, unfolding(crate::specs::Lanes::fits_row))]
-fn fits(marks: &[u8], y: u8) -> bool
-    requires { 256 ≤ length marks.now }
+fn fits(marks: &[bool; LANE], y: u8) -> bool
     ensures { result ≡ fits_row marks.now y }
 {
-    y == 0 || marks[usize::from(y)] == 1
+    y == 0 || marks[usize::from(y)]
 }
 
 // Class m takes in lane k what t has there, if that is lower and fits m. Answers whether anything changes, so that a search knows when to end.
 #[tactic(auto, using(std::proofs::lemmas::List::get_or_default), unfolding(crate::specs::Lanes::lowers, crate::specs::Lanes::drawn))]
-fn draw(marks: &[u8], k: usize, m: usize, t: usize, row: &mut [u8]) -> bool
-    requires marks { 256 ≤ length marks.now }
-    requires there { (k * 256 + m < length row.old) × (k * 256 + t < length row.old) }
+fn draw(marks: &[bool; LANE], k: usize, m: usize, t: usize, row: &mut [u8]) -> bool
+    requires { (k * 256 + m < length row.old) × (k * 256 + t < length row.old) }
     ensures row { row.new ≡ drawn marks.now m t k row.old }
     ensures answer { result ≡ lowers marks.now m t k row.old }
 {
@@ -44,9 +42,16 @@ fn draw(marks: &[u8], k: usize, m: usize, t: usize, row: &mut [u8]) -> bool
 
 // The same in each lane. A record may name a class that is not there: nothing is drawn from it.
 #[tactic(auto, unfolding(crate::specs::Lanes::lanes_of, crate::specs::Lanes::drawn_lanes, crate::specs::Lanes::drew_lanes))]
-pub fn draw_lanes(marks: &[u8], n: usize, lanes: usize, m: usize, t: usize, row: &mut [u8]) -> bool
+pub fn draw_lanes(
+    marks: &[bool; LANE],
+    n: usize,
+    lanes: usize,
+    m: usize,
+    t: usize,
+    row: &mut [u8],
+) -> bool
     requires room { Room n lanes row.old }
-    requires long { (256 ≤ length marks.now) × (m < n) }
+    requires there { m < n }
     ensures row { row.new ≡ drawn_lanes marks.now m t (lanes_of n lanes t) row.old }
     ensures answer { result ≡ drew_lanes marks.now m t (lanes_of n lanes t) row.old }
 {

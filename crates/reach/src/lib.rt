@@ -3,17 +3,17 @@
 
 ghost use Rattle.std.specs.Prelude.{◌≡◌, true, [], ◌≤◌, ◌<◌, length};
 ghost use Rattle.sheets.specs.Sheets.{count, groups};
-ghost use Rattle.lanes.specs.Lanes.{Room, marked_up, Run, SettledAt, AllSettled, SeedsFit, Least};
+ghost use Rattle.lanes.specs.Lanes.{Room, Enclosers, Run, SettledAt, AllSettled, SeedsFit, Least};
 ghost use Rattle.named.specs.Named.{listed, option_list};
 ghost use Rattle.reach.specs.Reach.{named_in, steps_of, outer_of, lower_outer, DrawnNamed, Scanned, Content, dependent_row};
 
 use lanes::{EMPTY, LANE, draw_lanes, swept};
+use named::{Along, named_along};
 use records::CLASS_LIMIT;
 use records::group::Group;
 use records::kind::Kind;
 use sheets::Sheets;
 use sheets::formed::Formed;
-use named::{Along, named_along};
 
 // The encloser of class c, unless its number is not lower.
 fn outer(sheets: &Sheets, c: usize) -> Option<usize>
@@ -27,21 +27,23 @@ fn outer(sheets: &Sheets, c: usize) -> Option<usize>
     }
 }
 
-/// Writes 1 at each encloser of class m: of a row of zeros the marks of its enclosers are made so.
-pub fn enclosers(sheets: &Sheets, m: usize, marks: &mut [u8])
-    requires { (m < count sheets.now) × (m ≤ length marks.old) }
-    ensures { marks.new ≡ marked_up (outer_of (groups sheets.now)) m m marks.old }
+/// Marks each encloser of class m.
+pub fn enclosers(sheets: &Sheets, m: usize) -> [bool; CLASS_LIMIT]
+    requires { (m < count sheets.now) × (m ≤ 256) }
+    ensures { Enclosers (outer_of (groups sheets.now)) m result }
 {
+    let mut marks = [false; CLASS_LIMIT];
     let mut c = m;
     while let Some(e) = outer(sheets, c) {
-        marks[e] = 1;
+        marks[e] = true;
         c = e;
     }
+    marks
 }
 
 // Class m draws from one class that a record may name.
 fn draw_named(
-    marks: &[u8],
+    marks: &[bool; CLASS_LIMIT],
     n: usize,
     lanes: usize,
     m: usize,
@@ -49,7 +51,7 @@ fn draw_named(
     row: &mut [u8],
 ) -> bool
     requires room { Room n lanes row.old }
-    requires marks { (256 ≤ length marks.now) × (m < n) }
+    requires there { m < n }
     ensures { DrawnNamed marks.now n lanes m t row.old row.new result }
 {
     match t {
@@ -61,7 +63,7 @@ fn draw_named(
 // Class m, whose records these are, draws along all that they name, in a single lane until it has 0. The row of marks holds its enclosers.
 fn scan(
     group: &Group,
-    marks: &[u8],
+    marks: &[bool; CLASS_LIMIT],
     n: usize,
     along: Along,
     lanes: usize,
@@ -69,7 +71,7 @@ fn scan(
     row: &mut [u8],
 ) -> bool
     requires room { Room n lanes row.old }
-    requires marks { (length marks.now ≡ 256) × (m < n) }
+    requires there { m < n }
     ensures { Scanned group.now marks.now along n lanes m row.old row.new result }
 {
     let mut added = false;
@@ -153,8 +155,7 @@ fn visit(sheets: &Sheets, along: Along, lanes: usize, m: usize, row: &mut [u8]) 
     if !wants(&group, n, along, lanes, m, row) {
         return false;
     }
-    let mut marks = [0u8; CLASS_LIMIT];
-    enclosers(sheets, m, &mut marks);
+    let marks = enclosers(sheets, m);
     scan(&group, &marks, n, along, lanes, m, row)
 }
 

@@ -1,7 +1,6 @@
 -- Each way out is a law: the class has 0 already, it has no step, it wants nothing, or it has drawn.
 use native.Mathlib.Omega.{arith}
 use Rattle.sheets.specs.Sheets.{groups}
-use Rattle.lanes.proofs.Marking.{marks_enclosers}
 use Rattle.reach.proofs.Scanning.{scanned, visit_marked, visit_none}
 use Rattle.reach.proofs.Wanting.{visit_content}
 use Rattle.reach.proofs.visit.Goals as goal
@@ -17,5 +16,4 @@ returns-then-not-wants c = visit_content (groups c.args.sheets.now) c.args.along
 
 pub returns : goal.returns
 returns c =
-    scanned (groups c.args.sheets.now) c.group-group.ensures c.count-n.ensures.count c.scan.ensures
-    (marks_enclosers 256 (omega (arith, c.requires.there, c.requires.room.few)) c.enclosers.ensures)
+    scanned (groups c.args.sheets.now) c.group-group.ensures c.count-n.ensures.count c.scan.ensures c.enclosers-marks.ensures
