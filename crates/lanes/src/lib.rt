@@ -7,6 +7,13 @@ ghost use Rattle.lanes.specs.Lanes.{Room, fits_row, lowers, drawn, drawn_lanes, 
 // The entries of a lane, one a class.
 pub const LANE: usize = 256;
 
+/// How much of a row counts: the classes of each lane, and the lanes.
+#[derive(Clone, Copy)]
+pub struct Extent {
+    pub classes: usize,
+    pub lanes: usize,
+}
+
 // What an entry holds where there is no owner.
 pub const EMPTY: u8 = 255;
 
@@ -42,24 +49,17 @@ fn draw(marks: &[bool; LANE], k: usize, m: usize, t: usize, row: &mut [u8]) -> b
 
 // The same in each lane. A record may name a class that is not there: nothing is drawn from it.
 #[tactic(auto, unfolding(crate::specs::Lanes::lanes_of, crate::specs::Lanes::drawn_lanes, crate::specs::Lanes::drew_lanes))]
-pub fn draw_lanes(
-    marks: &[bool; LANE],
-    n: usize,
-    lanes: usize,
-    m: usize,
-    t: usize,
-    row: &mut [u8],
-) -> bool
-    requires room { Room n lanes row.old }
-    requires there { m < n }
-    ensures row { row.new ≡ drawn_lanes marks.now m t (lanes_of n lanes t) row.old }
-    ensures answer { result ≡ drew_lanes marks.now m t (lanes_of n lanes t) row.old }
+pub fn draw_lanes(marks: &[bool; LANE], extent: Extent, m: usize, t: usize, row: &mut [u8]) -> bool
+    requires room { Room extent.classes extent.lanes row.old }
+    requires there { m < extent.classes }
+    ensures row { row.new ≡ drawn_lanes marks.now m t (lanes_of extent.classes extent.lanes t) row.old }
+    ensures answer { result ≡ drew_lanes marks.now m t (lanes_of extent.classes extent.lanes t) row.old }
 {
-    if n <= t {
+    if extent.classes <= t {
         return false;
     }
     let mut added = false;
-    for k in 0..lanes {
+    for k in 0..extent.lanes {
         added |= draw(marks, k, m, t, row);
     }
     added

@@ -111,9 +111,9 @@ module _ {rs : Group} {marks : List Bool} {along : Along} {n lanes m : ℕ} {row
 -- ---- a class
 
 -- the records are those of class m
-pub scanned : (g : ℕ → Group) {along : Along} {n k lanes m : ℕ} {h : Group} {marks : List Bool} {row₀ row : List ℕ} {a : Bool} → h ≡ g m → k ≡ n → Scanned h marks along k lanes m row₀ row a
+pub scanned : (g : ℕ → Group) {along : Along} {n lanes m : ℕ} {h : Group} {marks : List Bool} {row₀ row : List ℕ} {a : Bool} → h ≡ g m → Scanned h marks along n lanes m row₀ row a
     → Enclosers (outer_of g) m marks → Run (steps_of g along) (outer_of g) n lanes (SettledAt (steps_of g along) (outer_of g) n lanes m) row₀ row a
-scanned g {along} eh ek f right = rw (← ek) (f.run (steps_of g along) (outer_of g) (ap (named_in along) (sym eh)) right)
+scanned g {along} eh f right = f.run (steps_of g along) (outer_of g) (ap (named_in along) (sym eh)) right
 
 -- the class has 0 already
 pub visit_marked : {step : ℕ → List ℕ} {outer : ℕ → ℕ} {n lanes m : ℕ} (s : List ℕ) → lanes ≡ 1 → m < length s → get_or s m 0 ≡ 0 → Run step outer n lanes (SettledAt step outer n lanes m) s s false
