@@ -6,8 +6,8 @@ ghost use Rattle.refusals.specs.Refusals.{sheet_number};
 use crate::name::name_fits;
 use records::kind::Kind;
 use records::{
-    CODE_AT, FIELD_TYPE_AT, FLAGS_AT, HEAD_BYTES, KIND_AT, LOCAL_TYPE_AT, NAME_AT,
-    TYPE_CLASS_AT, word_in,
+    CODE_AT, FIELD_TYPE_AT, FLAGS_AT, HEAD_BYTES, KIND_AT, LOCAL_TYPE_AT, NAME_AT, TYPE_CLASS_AT,
+    word_in,
 };
 use refusals::{Reason, Side};
 

@@ -11,12 +11,11 @@ ghost use Rattle.second.specs.Second.{absent, superclass_ok, encloser_ok, class_
 ghost use Rattle.second.specs.Second.{implements_tests, field_tests, index_tests, uses_tests};
 
 use crate::lookup::Lookup;
-use records::{INNER, INTERFACE, STATIC, has_flag};
-use records::CLASS_LIMIT;
+use fingerprints::met;
 use records::kind::Kind;
 use records::record::{Body, Head, Record, Ty};
+use records::{CLASS_LIMIT, INNER, INTERFACE, STATIC, has_flag};
 use refusals::{Reason, Side};
-use fingerprints::met;
 
 // Refuses with a reason what does not hold.
 fn require(holds: bool, reason: Reason) -> Result<(), Reason>

@@ -4,11 +4,11 @@ ghost use Rattle.sheets.specs.Sheets.{Passed, count, groups};
 ghost use Rattle.fingerprints.specs.Fingerprints.{Printed};
 ghost use Rattle.second.specs.Second.{Heads, Enclosing, indexed_kind, asked_of};
 
-use records::{CLASS_LIMIT, INTERFACE, has_flag};
+use fingerprints::prints;
 use records::kind::Kind;
+use records::{CLASS_LIMIT, INTERFACE, has_flag};
 use refusals::Side;
 use sheets::Sheets;
-use fingerprints::prints;
 
 /// What records ask of a class: whether it is an interface, and how many records it has that others name by an index.
 #[derive(Clone, Copy)]

@@ -11,13 +11,13 @@ ghost use Rattle.refusals.specs.Refusals.{Answers, answer_in};
 ghost use Rattle.sheets.specs.Sheets.{count, groups};
 ghost use Rattle.withdraw.specs.Last.{IsLast};
 
+use form::accepted::Found;
+use form::present;
+use named::names;
 use records::VERDICT_BYTES;
 use records::group::Group;
 use refusals::{Reason, Refusal};
 use sheets::Sheets;
-use form::accepted::Found;
-use form::present;
-use named::names;
 
 // The last class: its number, the byte where its group begins, and its line of the verdict row.
 #[derive(Clone, Copy)]
