@@ -3,7 +3,7 @@
 use mathlib.Core.Path.{◌≡◌, refl, sym, ap, ◌∙◌}
 use mathlib.Core.Bool.{Bool, true, false, not, ◌&&◌, ◌||◌}
 use mathlib.Core.List.{List, [], ◌∷◌}
-use Prim.Native.Nat.{ℕ, zero, suc, ◌+◌, ◌≤◌, ◌<◌}
+use Prim.Native.Nat.{ℕ, ◌+◌, ◌≤◌, ◌<◌}
 use native.Mathlib.Omega.{arith}
 use lib.Dec.{ltb}
 use lib.ListN.{length, get_or, set, replicate, length-set}
@@ -15,6 +15,7 @@ use Rattle.spec.specs.Lists.{any}
 use Rattle.spec.specs.Record.{bit, flags}
 use Rattle.spec.specs.Sheet.{Group, class_record, is_allowed}
 use Rattle.spec.specs.Rules.{forbidden}
+use Rattle.lanes.proofs.Rows.{same_all}
 use Rattle.breaks.specs.declared.bans.Ban.{Ban}
 use Rattle.breaks.specs.Bans.{ban_of, nothing, Bans}
 
@@ -37,12 +38,7 @@ pub record Banning (nlib : ℕ) (g : ℕ → Group) (row : List Ban) (d : ℕ) :
   pub above : (e : ℕ) → d ≤ e → get_or row e nothing ≡ nothing
 
 pub ban_start : {nlib : ℕ} {g : ℕ → Group} → Banning nlib g (replicate 256 nothing) 0
-ban_start = record { long = refl; below = λ d h. absurd (omega arith); above = λ d h. none 256 d }
-  where
-    none : (n d : ℕ) → get_or (replicate n nothing) d nothing ≡ nothing
-    none zero d = refl
-    none (suc n) zero = refl
-    none (suc n) (suc d) = none n d
+ban_start = record { long = refl; below = λ d h. absurd (omega arith); above = λ d h. same_all nothing 256 d }
 
 module _ {nlib : ℕ} {g : ℕ → Group} {row : List Ban} {d : ℕ} (w : Banning nlib g row d) where
   pub ban_next : d < nlib → nlib ≤ 256 → {b : Ban} → b ≡ ban_of (g d) → Banning nlib g (set row d b) (d + 1)

@@ -12,6 +12,7 @@ use native.Mathlib.Omega.{arith}
 use lib.Dec.{T, eqb}
 use lib.ListN.{length, get_or, set, length-set}
 use lib.Seq.{get_or-set_same, get_or-set_other}
+use Rattle.std.proofs.lemmas.Bool.{true≢false}
 use Rattle.spec.specs.Record.{bit}
 use Rattle.captured.specs.declared.Lane.{Lane}
 use Rattle.captured.specs.declared.Lane.TheVariants.{Immutable, Powerless, DeepSelfless}
@@ -142,11 +143,11 @@ every_lane Immutable = Memᴰ.head refl
 every_lane Powerless = Memᴰ.tail (Memᴰ.head refl)
 every_lane DeepSelfless = Memᴰ.tail (Memᴰ.tail (Memᴰ.head refl))
 
-module _ {marks : List ℕ} {markers m d : ℕ} where
-  pub not_offered : (s : List ℕ) → (get_or marks d 0 ≡ 1 → ⊥) → Lowering (Offered marks markers m d) s s
-  not_offered s n = lower_none s (λ i x q. absurd (n q.marked))
+module _ {marks : List Bool} {markers m d : ℕ} where
+  pub not_offered : (s : List ℕ) → get_or marks d false ≡ false → Lowering (Offered marks markers m d) s s
+  not_offered s n = lower_none s (λ i x q. absurd (true≢false (sym q.marked ∙ n)))
 
-  pub all_offered : {s s' : List ℕ} → get_or marks d 0 ≡ 1 → Lowering (OneOf (InLane markers m d) all_lanes) s s'
+  pub all_offered : {s s' : List ℕ} → get_or marks d false ≡ true → Lowering (OneOf (InLane markers m d) all_lanes) s s'
       → Lowering (Offered marks markers m d) s s'
   all_offered e f =
       lower_same f (λ i x q. record { marked = e; lane = q.one; allows = q.allows }) (λ i x q. record { one = q.lane; member = every_lane q.lane; allows = q.allows })

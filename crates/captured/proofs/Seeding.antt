@@ -1,7 +1,7 @@
 -- The seeds as they are written: record by record, class by class.
 -- Assumes nothing.
 use mathlib.Core.Path.{◌≡◌, refl, sym, ap, ap₂, ◌∙◌, subst}
-use mathlib.Core.Bool.{false}
+use mathlib.Core.Bool.{Bool, false}
 use mathlib.Core.List.{List, [], Memᴰ}
 use mathlib.Core.Logic.{inl, inr, ⊎_elim}
 use Prim.Native.Nat.{ℕ, ◌+◌, ◌<◌}
@@ -70,7 +70,7 @@ module _ (p : Pair) {m : ℕ} {r : List ℕ} (f : RecordFits (library_count p) (
   ty c j = local_ty (get_or (of_kind LOCAL (g c)) j [])
 
   -- the lanes whose marker the variable's type lacks are lowered to its owner
-  pub record_uses : {markers : ℕ} {marks s s' : List ℕ} → markers ≡ type_markers g (ty d i) → Enclosers (outer_of g) m marks → Lowering (Offered marks markers m d) s s'
+  pub record_uses : {markers : ℕ} {marks : List Bool} {s s' : List ℕ} → markers ≡ type_markers g (ty d i) → Enclosers (outer_of g) m marks → Lowering (Offered marks markers m d) s s'
       → Lowering (ByRecord g m r) s s'
   record_uses {markers} {marks} em right f = lower_same f there back
     where

@@ -1,6 +1,6 @@
 -- The seeds of the search for captured variables: an owner at each class that itself uses a variable whose type lacks a marker.
 -- Assumes nothing.
-use Rattle.std.specs.Prelude.{◌≡◌, false, ◌⊎◌, ℕ, ◌+◌, ◌*◌, ◌≤◌, ◌<◌, T, length, get_or}
+use Rattle.std.specs.Prelude.{◌≡◌, Bool, true, false, ◌⊎◌, ℕ, ◌+◌, ◌*◌, ◌≤◌, ◌<◌, T, length, get_or}
 use mathlib.Core.List.{List, [], Memᴰ}
 use Rattle.spec.specs.Record.{bit, is_kind, LOCAL, USES, target, index, local_ty}
 use Rattle.spec.specs.Sheet.{Group, of_kind}
@@ -32,8 +32,8 @@ pub record InLane (markers m d : ℕ) (lane : Lane) (i x : ℕ) : Type 0 where
   pub owner : x ≡ d
 
 -- so in any lane, if the row of marks holds d
-pub record Offered (marks : List ℕ) (markers m d i x : ℕ) : Type 0 where
-  pub marked : get_or marks d 0 ≡ 1
+pub record Offered (marks : List Bool) (markers m d i x : ℕ) : Type 0 where
+  pub marked : get_or marks d false ≡ true
   pub lane : Lane
   pub allows : InLane markers m d lane i x
 

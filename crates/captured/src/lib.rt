@@ -87,11 +87,11 @@ fn lower_lane(set: u8, lane: Lane, m: usize, d: usize, row: &mut [u8])
 }
 
 // So are all lanes, if d encloses m.
-fn offer(marks: &[u8], set: u8, m: usize, d: usize, row: &mut [u8])
-    requires { (m < 256) × (d < 256) × (256 ≤ length marks.now) × (768 ≤ length row.old) }
+fn offer(marks: &[bool; CLASS_LIMIT], set: u8, m: usize, d: usize, row: &mut [u8])
+    requires { (m < 256) × (d < 256) × (768 ≤ length row.old) }
     ensures { Lowering (Offered marks.now set m d) row.old row.new }
 {
-    if marks[d] != 1 {
+    if !marks[d] {
         return;
     }
     for lane in LANES {
@@ -106,8 +106,7 @@ fn seed_records(formed: &Formed, markers: &[u8], group: &Group, m: usize, row: &
     requires there { (m < count formed.now.sheets) × (768 ≤ length row.old) }
     ensures { Lowering (OneOf (ByRecord (groups formed.now.sheets) m) (groups formed.now.sheets m)) row.old row.new }
 {
-    let mut marks = [0u8; CLASS_LIMIT];
-    enclosers(&formed.sheets, m, &mut marks);
+    let marks = enclosers(&formed.sheets, m);
     for record in group.records() {
         if let Body::Uses { class, index } = record.body() {
             let ty = variable_type(&formed.sheets.group(class), index);

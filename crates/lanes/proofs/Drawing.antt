@@ -9,30 +9,30 @@ use native.Mathlib.Nat.{le_refl, not-suc-le-zero, le_of_suc-le-suc, eq-or-lt_of_
 use native.Mathlib.Decide.{ℕ_discrete}
 use native.Mathlib.Omega.{arith}
 use lib.Dec.{eqb, ltb}
-use lib.ListN.{length, get_or, set, length-set}
-use Rattle.std.proofs.lemmas.Bool.{eq-eqb, ne_eqb, eqb-true, lt-ltb, le-ltb, ltb-true, ltb-false, and_parts, cases_Bool, cases_lt}
+use lib.ListN.{length, set, length-set}
+use Rattle.std.proofs.lemmas.Bool.{eq-eqb, ne_eqb, lt-ltb, le-ltb, ltb-true, ltb-false, and_parts, cases_Bool, cases_lt}
 use Rattle.lanes.specs.Lanes.{OwnerFits, entry_at, Settled, Enclosers, fits_row, lowers, drawn, drawn_lanes, drew_lanes, lanes_of}
 use Rattle.lanes.proofs.Runs.{run_none, run_then, run_lower, Offered}
 
 -- ---- the row of marks says what fits
 
-module _ (marks : List ℕ) (outer : ℕ → ℕ) (m y : ℕ) (right : Enclosers outer m marks) where
+module _ (marks : List Bool) (outer : ℕ → ℕ) (m y : ℕ) (right : Enclosers outer m marks) where
   pub fits_only : fits_row marks y ≡ true → OwnerFits outer y m
   unfolding fits_row
   fits_only h = go (ℕ_discrete y 0)
     where
       go : Dec (y ≡ 0) → OwnerFits outer y m
       go (yes q) = inl q
-      go (no q) = inr (right.only y (eqb-true (get_or marks y 0) 1 (rw (ne_eqb y 0 q) at h)))
+      go (no q) = inr (right.only y (rw (ne_eqb y 0 q) at h))
 
   pub fits_every : OwnerFits outer y m → fits_row marks y ≡ true
   unfolding fits_row
   fits_every (inl q) = rw (eq-eqb y 0 q)
-  fits_every (inr i) = rw (eq-eqb (get_or marks y 0) 1 (right.every y i)) (or-true (eqb y 0))
+  fits_every (inr i) = rw (right.every y i) (or-true (eqb y 0))
 
 -- ---- one lane
 
-module _ (marks : List ℕ) (m t k : ℕ) (s : List ℕ) where
+module _ (marks : List Bool) (m t k : ℕ) (s : List ℕ) where
   drawn_none : lowers marks m t k s ≡ false → drawn marks m t k s ≡ s
   unfolding drawn
   drawn_none h = rw (h, drawn)
@@ -55,12 +55,12 @@ unfolding lanes_of
 lanes_past n lanes t h = rw (le-ltb t n h, lanes_of)
 
 -- the row s' and the answer r of all lanes
-abbrev pub Drawn : List ℕ → ℕ → ℕ → ℕ → ℕ → List ℕ → List ℕ → Bool → Type 0
+abbrev pub Drawn : List Bool → ℕ → ℕ → ℕ → ℕ → List ℕ → List ℕ → Bool → Type 0
 Drawn marks n lanes m t s s' r = (s' ≡ drawn_lanes marks m t (lanes_of n lanes t) s) × (r ≡ drew_lanes marks m t (lanes_of n lanes t) s)
 
 -- ---- what it does for the search
 
-module _ {marks : List ℕ} {n lanes m t : ℕ} (few : n ≤ 256) (hm : m < n) where
+module _ {marks : List Bool} {n lanes m t : ℕ} (few : n ≤ 256) (hm : m < n) where
   module _ (ht : t < n) (s : List ℕ) (long : lanes * 256 ≤ length s) (k : ℕ) (hk : k < lanes) where
     stays : lowers marks m t k s ≡ false → Offered marks n lanes m t (λ j. j ≡ k) s s false
     unfolding Settled lowers

@@ -1,6 +1,7 @@
--- Rows of numbers: a row of zeros, and what one write changes.
+-- Rows: one that is the same everywhere, and what one write changes.
 -- Assumes nothing.
 use mathlib.Core.Path.{◌≡◌, refl, sym, ◌∙◌}
+use mathlib.Core.Bool.{Bool, true, false}
 use mathlib.Core.List.{List, [], ◌∷◌}
 use mathlib.Core.Logic.{◌⊎◌, inl, inr}
 use Prim.Native.Nat.{ℕ, zero, suc, ◌+◌, ◌<◌}
@@ -11,27 +12,27 @@ use lib.ListN.{length, get_or, set, replicate}
 use lib.Seq.{get_or-set_same, get_or-set_other}
 use Rattle.lanes.specs.Lanes.{sum_of}
 
-pub zeros : (n x : ℕ) → ◌≡◌ {A = ℕ} (get_or (replicate n 0) x 0) 0
-zeros zero x = refl
-zeros (suc n) zero = refl
-zeros (suc n) (suc x) = zeros n x
+pub same_all : {A : Type 0} (a : A) (n x : ℕ) → get_or (replicate n a) x a ≡ a
+same_all a zero x = refl
+same_all a (suc n) zero = refl
+same_all a (suc n) (suc x) = same_all a n x
 
 -- ---- a mark is set
 
-pub marked_by : (s : List ℕ) (i x : ℕ) → get_or (set s i 1) x 0 ≡ 1 → (x ≡ i) ⊎ (get_or s x 0 ≡ 1)
+pub marked_by : (s : List Bool) (i x : ℕ) → get_or (set s i true) x false ≡ true → (x ≡ i) ⊎ (get_or s x false ≡ true)
 marked_by s i x h = go (ℕ_discrete x i)
   where
-    go : Dec (x ≡ i) → (x ≡ i) ⊎ (get_or s x 0 ≡ 1)
+    go : Dec (x ≡ i) → (x ≡ i) ⊎ (get_or s x false ≡ true)
     go (yes q) = inl q
-    go (no q) = inr (sym (get_or-set_other s i x 1 0 q) ∙ h)
+    go (no q) = inr (sym (get_or-set_other s i x true false q) ∙ h)
 
-pub marked_still : (s : List ℕ) (i x : ℕ) → i < length s → (x ≡ i) ⊎ (get_or s x 0 ≡ 1) → get_or (set s i 1) x 0 ≡ 1
+pub marked_still : (s : List Bool) (i x : ℕ) → i < length s → (x ≡ i) ⊎ (get_or s x false ≡ true) → get_or (set s i true) x false ≡ true
 marked_still s i x l h = go (ℕ_discrete x i) h
   where
-    go : Dec (x ≡ i) → (x ≡ i) ⊎ (get_or s x 0 ≡ 1) → get_or (set s i 1) x 0 ≡ 1
-    go (yes q) h = rw q (get_or-set_same s i 1 0 l)
+    go : Dec (x ≡ i) → (x ≡ i) ⊎ (get_or s x false ≡ true) → get_or (set s i true) x false ≡ true
+    go (yes q) h = rw q (get_or-set_same s i true false l)
     go (no q) (inl e) = absurd (q e)
-    go (no q) (inr e) = get_or-set_other s i x 1 0 q ∙ e
+    go (no q) (inr e) = get_or-set_other s i x true false q ∙ e
 
 -- ---- an entry is written
 

@@ -85,6 +85,6 @@ module _ (step : ℕ → List ℕ) (outer : ℕ → ℕ) (n lanes : ℕ) (s : Li
       go i (no q) = let u = get_or-set_other s (k * 256 + m) i (entry_at s k t) 255 q in omega arith
 
 -- Class m was offered what t has, in the lanes named. Only the row of marks was asked, so it holds for all steps and enclosers that the marks are right for.
-pub record Offered (marks : List ℕ) (n lanes m t : ℕ) (lane : ℕ → Type 0) (s₀ s : List ℕ) (r : Bool) : Type 0 where
+pub record Offered (marks : List Bool) (n lanes m t : ℕ) (lane : ℕ → Type 0) (s₀ s : List ℕ) (r : Bool) : Type 0 where
   pub run : (step : ℕ → List ℕ) (outer : ℕ → ℕ) → Memᴰ t (step m) → Enclosers outer m marks
       → Run step outer n lanes (λ s. (k : ℕ) → lane k → Settled outer n k m s t) s₀ s r

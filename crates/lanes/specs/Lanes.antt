@@ -18,23 +18,18 @@ pub data Nested (outer : ℕ → ℕ) (x : ℕ) : ℕ → Type 0 where
   direct : {m : ℕ} → outer m ≡ x → x < m → Nested outer x m
   deeper : {m e : ℕ} → outer m ≡ e → e < m → Nested outer x e → Nested outer x m
 
--- the row of marks holds 1 for the enclosers of m and for nothing else
-pub record Enclosers (outer : ℕ → ℕ) (m : ℕ) (marks : List ℕ) : Type 0 where
-  pub only : (x : ℕ) → get_or marks x 0 ≡ 1 → Nested outer x m
-  pub every : (x : ℕ) → Nested outer x m → get_or marks x 0 ≡ 1
-
--- the row with 1 written at each class that a walk up from class c comes to, in at most `left` steps
-unfoldable pub marked_up : (ℕ → ℕ) → ℕ → ℕ → List ℕ → List ℕ
-marked_up outer zero c row = row
-marked_up outer (suc left) c row = elim (ltb (outer c) c) [ true ↦ marked_up outer left (outer c) (set row (outer c) 1) | false ↦ row ]
+-- the row of marks holds true for the enclosers of m and for nothing else
+pub record Enclosers (outer : ℕ → ℕ) (m : ℕ) (marks : List Bool) : Type 0 where
+  pub only : (x : ℕ) → get_or marks x false ≡ true → Nested outer x m
+  pub every : (x : ℕ) → Nested outer x m → get_or marks x false ≡ true
 
 -- m may have the owner y: an encloser of m, or 0, which any class may have: it is the mark in a search for dependents
 abbrev pub OwnerFits : (ℕ → ℕ) → ℕ → ℕ → Type 0
 OwnerFits outer y m = (y ≡ 0) ⊎ Nested outer y m
 
 -- the same, asked of a row of marks
-unfoldable pub fits_row : List ℕ → ℕ → Bool
-fits_row marks y = eqb y 0 || eqb (get_or marks y 0) 1
+unfoldable pub fits_row : List Bool → ℕ → Bool
+fits_row marks y = eqb y 0 || get_or marks y false
 
 -- ---- what is to be found
 
@@ -96,19 +91,19 @@ pub record Run (step : ℕ → List ℕ) (outer : ℕ → ℕ) (n lanes : ℕ) (
 -- ---- one class draws from one other
 
 -- in lane k class t has an owner that is lower than that of m and fits m
-unfoldable pub lowers : List ℕ → ℕ → ℕ → ℕ → List ℕ → Bool
+unfoldable pub lowers : List Bool → ℕ → ℕ → ℕ → List ℕ → Bool
 lowers marks m t k row = ltb (entry_at row k t) (entry_at row k m) && fits_row marks (entry_at row k t)
 
 -- then m takes it, and nothing else changes
-unfoldable pub drawn : List ℕ → ℕ → ℕ → ℕ → List ℕ → List ℕ
+unfoldable pub drawn : List Bool → ℕ → ℕ → ℕ → List ℕ → List ℕ
 drawn marks m t k row = elim (lowers marks m t k row) [ true ↦ set row (k * 256 + m) (entry_at row k t) | false ↦ row ]
 
 -- the same in the first `lanes` lanes, one after another; and whether any of them changes
-unfoldable pub drawn_lanes : List ℕ → ℕ → ℕ → ℕ → List ℕ → List ℕ
+unfoldable pub drawn_lanes : List Bool → ℕ → ℕ → ℕ → List ℕ → List ℕ
 drawn_lanes marks m t zero row = row
 drawn_lanes marks m t (suc k) row = drawn marks m t k (drawn_lanes marks m t k row)
 
-unfoldable pub drew_lanes : List ℕ → ℕ → ℕ → ℕ → List ℕ → Bool
+unfoldable pub drew_lanes : List Bool → ℕ → ℕ → ℕ → List ℕ → Bool
 drew_lanes marks m t zero row = false
 drew_lanes marks m t (suc k) row = drew_lanes marks m t k row || lowers marks m t k (drawn_lanes marks m t k row)
 

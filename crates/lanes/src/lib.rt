@@ -7,6 +7,13 @@ ghost use Rattle.lanes.specs.Lanes.{Room, fits_row, lowers, drawn, drawn_lanes, 
 // The entries of a lane, one a class.
 pub const LANE: usize = 256;
 
+/// How much of a row counts: the classes of each lane, and the lanes.
+#[derive(Clone, Copy)]
+pub struct Extent {
+    pub classes: usize,
+    pub lanes: usize,
+}
+
 // What an entry holds where there is no owner.
 pub const EMPTY: u8 = 255;
 
@@ -19,18 +26,16 @@ pub fn entry(row: &[u8], i: usize) -> u8
 
 // 0 needs no mark: as an owner it only says that a class is reached, and any class may be.
 #[tactic(auto, unfolding(crate::specs::Lanes::fits_row))]
-fn fits(marks: &[u8], y: u8) -> bool
-    requires { 256 ≤ length marks.now }
+fn fits(marks: &[bool; LANE], y: u8) -> bool
     ensures { result ≡ fits_row marks.now y }
 {
-    y == 0 || marks[usize::from(y)] == 1
+    y == 0 || marks[usize::from(y)]
 }
 
 // Class m takes in lane k what t has there, if that is lower and fits m. Answers whether anything changes, so that a search knows when to end.
 #[tactic(auto, using(std::proofs::lemmas::List::get_or_default), unfolding(crate::specs::Lanes::lowers, crate::specs::Lanes::drawn))]
-fn draw(marks: &[u8], k: usize, m: usize, t: usize, row: &mut [u8]) -> bool
-    requires marks { 256 ≤ length marks.now }
-    requires there { (k * 256 + m < length row.old) × (k * 256 + t < length row.old) }
+fn draw(marks: &[bool; LANE], k: usize, m: usize, t: usize, row: &mut [u8]) -> bool
+    requires { (k * 256 + m < length row.old) × (k * 256 + t < length row.old) }
     ensures row { row.new ≡ drawn marks.now m t k row.old }
     ensures answer { result ≡ lowers marks.now m t k row.old }
 {
@@ -44,17 +49,17 @@ fn draw(marks: &[u8], k: usize, m: usize, t: usize, row: &mut [u8]) -> bool
 
 // The same in each lane. A record may name a class that is not there: nothing is drawn from it.
 #[tactic(auto, unfolding(crate::specs::Lanes::lanes_of, crate::specs::Lanes::drawn_lanes, crate::specs::Lanes::drew_lanes))]
-pub fn draw_lanes(marks: &[u8], n: usize, lanes: usize, m: usize, t: usize, row: &mut [u8]) -> bool
-    requires room { Room n lanes row.old }
-    requires long { (256 ≤ length marks.now) × (m < n) }
-    ensures row { row.new ≡ drawn_lanes marks.now m t (lanes_of n lanes t) row.old }
-    ensures answer { result ≡ drew_lanes marks.now m t (lanes_of n lanes t) row.old }
+pub fn draw_lanes(marks: &[bool; LANE], extent: Extent, m: usize, t: usize, row: &mut [u8]) -> bool
+    requires room { Room extent.classes extent.lanes row.old }
+    requires there { m < extent.classes }
+    ensures row { row.new ≡ drawn_lanes marks.now m t (lanes_of extent.classes extent.lanes t) row.old }
+    ensures answer { result ≡ drew_lanes marks.now m t (lanes_of extent.classes extent.lanes t) row.old }
 {
-    if n <= t {
+    if extent.classes <= t {
         return false;
     }
     let mut added = false;
-    for k in 0..lanes {
+    for k in 0..extent.lanes {
         added |= draw(marks, k, m, t, row);
     }
     added

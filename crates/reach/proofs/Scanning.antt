@@ -50,32 +50,32 @@ unfolding named_in gather
 named_nil along = refl
 
 -- the steps of m are those that the records name, and the marks are its enclosers
-abbrev Scans : Group → List ℕ → Along → ℕ → (ℕ → List ℕ) → (ℕ → ℕ) → Type 0
+abbrev Scans : Group → List Bool → Along → ℕ → (ℕ → List ℕ) → (ℕ → ℕ) → Type 0
 Scans rs marks along m step outer = (step m ≡ named_in along rs) × Enclosers outer m marks
 
-pub record ScanAt (rs : Group) (marks : List ℕ) (along : Along) (n lanes m : ℕ) (row₀ row : List ℕ) (a : Bool) (left : Group) : Type 0 where
+pub record ScanAt (rs : Group) (marks : List Bool) (along : Along) (n lanes m : ℕ) (row₀ row : List ℕ) (a : Bool) (left : Group) : Type 0 where
   pub room : Room n lanes row₀
   pub there : m < n
   pub long : length row ≡ length row₀
   pub visit : (step : ℕ → List ℕ) (outer : ℕ → ℕ) → Scans rs marks along m step outer → VisitAt step outer n lanes m marks row₀ row (named_in along left) a
 
-pub scan_start : (rs : Group) {marks : List ℕ} (along : Along) (n lanes m : ℕ) (row : List ℕ) → Room n lanes row → (length marks ≡ 256) × (m < n) → ScanAt rs marks along n lanes m row row false rs
+pub scan_start : (rs : Group) {marks : List Bool} (along : Along) (n lanes m : ℕ) (row : List ℕ) → Room n lanes row → m < n → ScanAt rs marks along n lanes m row row false rs
 scan_start rs {marks} along n lanes m row r z =
-    record { room = r; there = z.1; long = refl; visit = λ step outer h. visit_start step outer n lanes m marks row z.0 h.1 _ (sym h.0) }
+    record { room = r; there = z; long = refl; visit = λ step outer h. visit_start step outer n lanes m marks row h.1 _ (sym h.0) }
 
 or_false : (a : Bool) → (a || false) ≡ a
 or_false true = refl
 or_false false = refl
 
 -- from a class that the record may name
-draw_next : {step : ℕ → List ℕ} {outer : ℕ → ℕ} {n lanes m : ℕ} {marks s₀ s s' rest rest' : List ℕ} {a : Bool} (b : Bool) (o : Option ℕ) → Room n lanes s₀ → m < n → length s ≡ length s₀
+draw_next : {step : ℕ → List ℕ} {outer : ℕ → ℕ} {n lanes m : ℕ} {marks : List Bool} {s₀ s s' rest rest' : List ℕ} {a : Bool} (b : Bool) (o : Option ℕ) → Room n lanes s₀ → m < n → length s ≡ length s₀
     → VisitAt step outer n lanes m marks s₀ s rest a → rest ≡ option_list o ++ rest' → DrawnNamed marks n lanes m o s s' b → length s' ≡ length s
     → VisitAt step outer n lanes m marks s₀ s' rest' (a || b)
 draw_next {step} {outer} {n} {lanes} {m} {marks} {s₀} {s} {s'} {rest} {rest'} {a} b None r h q v e d l =
     rw (d.0, d.1, or_false a) (subst (λ (xs : List ℕ). VisitAt step outer n lanes m marks s₀ s xs a) e v)
 draw_next {s = s} b (Some t) r h q v e d l = visit_next v e (offered r.few h s (omega (arith, r.long, q)) d) l
 
-module _ {rs : Group} {marks : List ℕ} {along : Along} {n lanes m : ℕ} {row₀ row : List ℕ} {a : Bool} {left : Group} (f : ScanAt rs marks along n lanes m row₀ row a left) where
+module _ {rs : Group} {marks : List Bool} {along : Along} {n lanes m : ℕ} {row₀ row : List ℕ} {a : Bool} {left : Group} (f : ScanAt rs marks along n lanes m row₀ row a left) where
   pub scan_next : {r : List ℕ} {left' : Group} (t : Targets) (row₁ : List ℕ) {row₂ : List ℕ} (b c : Bool) → left ≡ r ∷ left' → listed t ≡ named_by along r → DrawnNamed marks n lanes m t.first row row₁ b
       → length row₁ ≡ length row → DrawnNamed marks n lanes m t.second row₁ row₂ c → length row₂ ≡ length row₁ → ScanAt rs marks along n lanes m row₀ row₂ ((a || b) || c) left'
   scan_next {r} {left'} t row₁ b c e et o q o' q' =
@@ -111,9 +111,9 @@ module _ {rs : Group} {marks : List ℕ} {along : Along} {n lanes m : ℕ} {row�
 -- ---- a class
 
 -- the records are those of class m
-pub scanned : (g : ℕ → Group) {along : Along} {n k lanes m : ℕ} {h : Group} {marks row₀ row : List ℕ} {a : Bool} → h ≡ g m → k ≡ n → Scanned h marks along k lanes m row₀ row a
+pub scanned : (g : ℕ → Group) {along : Along} {n lanes m : ℕ} {h : Group} {marks : List Bool} {row₀ row : List ℕ} {a : Bool} → h ≡ g m → Scanned h marks along n lanes m row₀ row a
     → Enclosers (outer_of g) m marks → Run (steps_of g along) (outer_of g) n lanes (SettledAt (steps_of g along) (outer_of g) n lanes m) row₀ row a
-scanned g {along} eh ek f right = rw (← ek) (f.run (steps_of g along) (outer_of g) (ap (named_in along) (sym eh)) right)
+scanned g {along} eh f right = f.run (steps_of g along) (outer_of g) (ap (named_in along) (sym eh)) right
 
 -- the class has 0 already
 pub visit_marked : {step : ℕ → List ℕ} {outer : ℕ → ℕ} {n lanes m : ℕ} (s : List ℕ) → lanes ≡ 1 → m < length s → get_or s m 0 ≡ 0 → Run step outer n lanes (SettledAt step outer n lanes m) s s false

@@ -56,8 +56,8 @@ module _ {rs : Group} {along : Along} {n lanes m : ℕ} {row : List ℕ} {left :
 
 -- ---- a class that wants nothing
 
-pub visit_content : (g : ℕ → Group) (along : Along) {outer : ℕ → ℕ} {n k lanes m : ℕ} (row : List ℕ) {h : Group} {told : Bool} → h ≡ g m → k ≡ n → Content row k lanes m (named_in along h) told
+pub visit_content : (g : ℕ → Group) (along : Along) {outer : ℕ → ℕ} {n lanes m : ℕ} (row : List ℕ) {h : Group} {told : Bool} → h ≡ g m → Content row n lanes m (named_in along h) told
     → told ≡ false → Run (steps_of g along) outer n lanes (SettledAt (steps_of g along) outer n lanes m) row row false
 unfolding SettledAt Settled
-visit_content g along row eh ek c e =
-    run_none row (λ k t hk x ht b f. c.is e t (subst (λ (h : Group). Memᴰ t (named_in along h)) (sym eh) x) (rw ek ht) k hk)
+visit_content g along row eh c e =
+    run_none row (λ k t hk x ht b f. c.is e t (subst (λ (h : Group). Memᴰ t (named_in along h)) (sym eh) x) ht k hk)

@@ -25,12 +25,12 @@ abbrev pub lower_outer : (ℕ → Group) → ℕ → Option ℕ
 lower_outer g m = elim (ltb (outer_of g m) m) [ true ↦ Some (outer_of g m) | false ↦ None ]
 
 -- class m has drawn what a class has that a record may name
-abbrev pub DrawnNamed : List ℕ → ℕ → ℕ → ℕ → Option ℕ → List ℕ → List ℕ → Bool → Type 0
+abbrev pub DrawnNamed : List Bool → ℕ → ℕ → ℕ → Option ℕ → List ℕ → List ℕ → Bool → Type 0
 DrawnNamed marks n lanes m None s s' r = (s' ≡ s) × (r ≡ false)
 DrawnNamed marks n lanes m (Some t) s s' r = (s' ≡ drawn_lanes marks m t (lanes_of n lanes t) s) × (r ≡ drew_lanes marks m t (lanes_of n lanes t) s)
 
 -- Class m has drawn along all that these records name. Only the records and the row of marks were asked, so it holds for all steps and enclosers that they are right for.
-pub record Scanned (rs : Group) (marks : List ℕ) (along : Along) (n lanes m : ℕ) (s₀ s : List ℕ) (r : Bool) : Type 0 where
+pub record Scanned (rs : Group) (marks : List Bool) (along : Along) (n lanes m : ℕ) (s₀ s : List ℕ) (r : Bool) : Type 0 where
   pub run : (step : ℕ → List ℕ) (outer : ℕ → ℕ) → step m ≡ named_in along rs → Enclosers outer m marks
       → Run step outer n lanes (SettledAt step outer n lanes m) s₀ s r
 

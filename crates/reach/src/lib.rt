@@ -3,11 +3,11 @@
 
 ghost use Rattle.std.specs.Prelude.{◌≡◌, true, [], ◌≤◌, ◌<◌, length};
 ghost use Rattle.sheets.specs.Sheets.{count, groups};
-ghost use Rattle.lanes.specs.Lanes.{Room, marked_up, Run, SettledAt, AllSettled, SeedsFit, Least};
+ghost use Rattle.lanes.specs.Lanes.{Room, Enclosers, Run, SettledAt, AllSettled, SeedsFit, Least};
 ghost use Rattle.named.specs.Named.{listed, option_list};
 ghost use Rattle.reach.specs.Reach.{named_in, steps_of, outer_of, lower_outer, DrawnNamed, Scanned, Content, dependent_row};
 
-use lanes::{EMPTY, LANE, draw_lanes, swept};
+use lanes::{EMPTY, Extent, LANE, draw_lanes, swept};
 use named::{Along, named_along};
 use records::CLASS_LIMIT;
 use records::group::Group;
@@ -27,33 +27,34 @@ fn outer(sheets: &Sheets, c: usize) -> Option<usize>
     }
 }
 
-/// Writes 1 at each encloser of class m: of a row of zeros the marks of its enclosers are made so.
-pub fn enclosers(sheets: &Sheets, m: usize, marks: &mut [u8])
-    requires { (m < count sheets.now) × (m ≤ length marks.old) }
-    ensures { marks.new ≡ marked_up (outer_of (groups sheets.now)) m m marks.old }
+/// Marks each encloser of class m.
+pub fn enclosers(sheets: &Sheets, m: usize) -> [bool; CLASS_LIMIT]
+    requires { (m < count sheets.now) × (m ≤ 256) }
+    ensures { Enclosers (outer_of (groups sheets.now)) m result }
 {
+    let mut marks = [false; CLASS_LIMIT];
     let mut c = m;
     while let Some(e) = outer(sheets, c) {
-        marks[e] = 1;
+        marks[e] = true;
         c = e;
     }
+    marks
 }
 
 // Class m draws from one class that a record may name.
 fn draw_named(
-    marks: &[u8],
-    n: usize,
-    lanes: usize,
+    marks: &[bool; CLASS_LIMIT],
+    extent: Extent,
     m: usize,
     t: Option<usize>,
     row: &mut [u8],
 ) -> bool
-    requires room { Room n lanes row.old }
-    requires marks { (256 ≤ length marks.now) × (m < n) }
-    ensures { DrawnNamed marks.now n lanes m t row.old row.new result }
+    requires room { Room extent.classes extent.lanes row.old }
+    requires there { m < extent.classes }
+    ensures { DrawnNamed marks.now extent.classes extent.lanes m t row.old row.new result }
 {
     match t {
-        Some(t) => draw_lanes(marks, n, lanes, m, t, row),
+        Some(t) => draw_lanes(marks, extent, m, t, row),
         None => false,
     }
 }
@@ -61,23 +62,22 @@ fn draw_named(
 // Class m, whose records these are, draws along all that they name, in a single lane until it has 0. The row of marks holds its enclosers.
 fn scan(
     group: &Group,
-    marks: &[u8],
-    n: usize,
+    marks: &[bool; CLASS_LIMIT],
     along: Along,
-    lanes: usize,
+    extent: Extent,
     m: usize,
     row: &mut [u8],
 ) -> bool
-    requires room { Room n lanes row.old }
-    requires marks { (length marks.now ≡ 256) × (m < n) }
-    ensures { Scanned group.now marks.now along n lanes m row.old row.new result }
+    requires room { Room extent.classes extent.lanes row.old }
+    requires there { m < extent.classes }
+    ensures { Scanned group.now marks.now along extent.classes extent.lanes m row.old row.new result }
 {
     let mut added = false;
     for record in group.records() {
         let targets = named_along(&record, along);
-        added |= draw_named(marks, n, lanes, m, targets.first, row);
-        added |= draw_named(marks, n, lanes, m, targets.second, row);
-        if lanes == 1 && row[m] == 0 {
+        added |= draw_named(marks, extent, m, targets.first, row);
+        added |= draw_named(marks, extent, m, targets.second, row);
+        if extent.lanes == 1 && row[m] == 0 {
             return added;
         }
     }
@@ -85,18 +85,18 @@ fn scan(
 }
 
 // Whether a class has in some lane a lower owner than m. A class that is not there has none.
-fn has_lower(row: &[u8], n: usize, lanes: usize, m: usize, t: Option<usize>) -> bool
-    requires room { Room n lanes row.now }
-    requires there { m < n }
-    ensures { Content row.now n lanes m (option_list t) result }
+fn has_lower(row: &[u8], extent: Extent, m: usize, t: Option<usize>) -> bool
+    requires room { Room extent.classes extent.lanes row.now }
+    requires there { m < extent.classes }
+    ensures { Content row.now extent.classes extent.lanes m (option_list t) result }
 {
     let Some(t) = t else {
         return false;
     };
-    if n <= t {
+    if extent.classes <= t {
         return false;
     }
-    for k in 0..lanes {
+    for k in 0..extent.lanes {
         if row[k * LANE + t] < row[k * LANE + m] {
             return true;
         }
@@ -105,17 +105,17 @@ fn has_lower(row: &[u8], n: usize, lanes: usize, m: usize, t: Option<usize>) -> 
 }
 
 // Whether class m, whose records these are, names a class that has in some lane a lower owner.
-fn wants(group: &Group, n: usize, along: Along, lanes: usize, m: usize, row: &[u8]) -> bool
-    requires room { Room n lanes row.now }
-    requires there { m < n }
-    ensures { Content row.now n lanes m (named_in along group.now) result }
+fn wants(group: &Group, along: Along, extent: Extent, m: usize, row: &[u8]) -> bool
+    requires room { Room extent.classes extent.lanes row.now }
+    requires there { m < extent.classes }
+    ensures { Content row.now extent.classes extent.lanes m (named_in along group.now) result }
 {
     for record in group.records() {
         let targets = named_along(&record, along);
-        if has_lower(row, n, lanes, m, targets.first) {
+        if has_lower(row, extent, m, targets.first) {
             return true;
         }
-        if has_lower(row, n, lanes, m, targets.second) {
+        if has_lower(row, extent, m, targets.second) {
             return true;
         }
     }
@@ -136,38 +136,38 @@ fn steps_nowhere(sheets: &Sheets, along: Along, m: usize) -> bool
 
 // Class m draws along all that its records name, unless there is nothing to draw: in a single lane nothing is lower than 0; a class may have no step;
 // or nothing named has a lower owner. Only then its enclosers are looked up.
-fn visit(sheets: &Sheets, along: Along, lanes: usize, m: usize, row: &mut [u8]) -> bool
-    requires room { Room (count sheets.now) lanes row.old }
-    requires there { m < count sheets.now }
-    ensures { Run (steps_of (groups sheets.now) along) (outer_of (groups sheets.now)) (count sheets.now) lanes
-        (SettledAt (steps_of (groups sheets.now) along) (outer_of (groups sheets.now)) (count sheets.now) lanes m) row.old row.new result }
+fn visit(sheets: &Sheets, along: Along, extent: Extent, m: usize, row: &mut [u8]) -> bool
+    requires count { extent.classes ≡ count sheets.now }
+    requires room { Room extent.classes extent.lanes row.old }
+    requires there { m < extent.classes }
+    ensures { Run (steps_of (groups sheets.now) along) (outer_of (groups sheets.now)) extent.classes extent.lanes
+        (SettledAt (steps_of (groups sheets.now) along) (outer_of (groups sheets.now)) extent.classes extent.lanes m) row.old row.new result }
 {
-    if lanes == 1 && row[m] == 0 {
+    if extent.lanes == 1 && row[m] == 0 {
         return false;
     }
     if steps_nowhere(sheets, along, m) {
         return false;
     }
-    let n = sheets.count();
     let group = sheets.group(m);
-    if !wants(&group, n, along, lanes, m, row) {
+    if !wants(&group, along, extent, m, row) {
         return false;
     }
-    let mut marks = [0u8; CLASS_LIMIT];
-    enclosers(sheets, m, &mut marks);
-    scan(&group, &marks, n, along, lanes, m, row)
+    let marks = enclosers(sheets, m);
+    scan(&group, &marks, along, extent, m, row)
 }
 
 // Each class draws once, in rising or in falling order.
-fn sweep(sheets: &Sheets, along: Along, lanes: usize, up: bool, row: &mut [u8]) -> bool
-    requires room { Room (count sheets.now) lanes row.old }
-    ensures { Run (steps_of (groups sheets.now) along) (outer_of (groups sheets.now)) (count sheets.now) lanes
-        (AllSettled (steps_of (groups sheets.now) along) (outer_of (groups sheets.now)) (count sheets.now) lanes) row.old row.new result }
+fn sweep(sheets: &Sheets, along: Along, extent: Extent, up: bool, row: &mut [u8]) -> bool
+    requires count { extent.classes ≡ count sheets.now }
+    requires room { Room extent.classes extent.lanes row.old }
+    ensures { Run (steps_of (groups sheets.now) along) (outer_of (groups sheets.now)) extent.classes extent.lanes
+        (AllSettled (steps_of (groups sheets.now) along) (outer_of (groups sheets.now)) extent.classes extent.lanes) row.old row.new result }
 {
-    let n = sheets.count();
     let mut added = false;
-    for i in 0..n {
-        added |= visit(sheets, along, lanes, swept(up, n, i), row);
+    for i in 0..extent.classes {
+        let m = swept(up, extent.classes, i);
+        added |= visit(sheets, along, extent, m, row);
     }
     added
 }
@@ -178,8 +178,10 @@ pub fn close(sheets: &Sheets, along: Along, lanes: usize, row: &mut [u8])
     requires seeds_fit { SeedsFit (outer_of (groups sheets.now)) (count sheets.now) lanes row.old }
     ensures { Least (steps_of (groups sheets.now) along) (outer_of (groups sheets.now)) (count sheets.now) lanes row.old row.new }
 {
+    let classes = sheets.count();
+    let extent = Extent { classes, lanes };
     let mut up = true;
-    while sweep(sheets, along, lanes, up, row) {
+    while sweep(sheets, along, extent, up, row) {
         up = !up;
     }
 }

@@ -5,11 +5,11 @@ use Rattle.captured.specs.declared.Lane.TheVariants.{Immutable}
 use Rattle.captured.proofs.Lowering.{all_lanes, left_next, left_none, not_offered, all_offered}
 use Rattle.captured.proofs.offer.Goals as goal
 
-pub returns-then-marks-d-ne1 : goal.returns-then-marks-d-ne1
-returns-then-marks-d-ne1 c = not_offered _ c.if-marks-d-ne1.true
+pub returns-then-not-marks-d : goal.returns-then-not-marks-d
+returns-then-not-marks-d c = not_offered _ c.if-not-marks-d.true
 
 pub loop-lane-preserved : goal.loop-lane-preserved
 loop-lane-preserved c = left_next c.loop-lane.invariant (drop_more all_lanes c.loop-lane.lane-index Immutable (omega arith)) c.lower_lane.ensures
 
 pub returns : goal.returns
-returns c = all_offered c.if-marks-d-ne1.false (left_none c.loop-lane.invariant (drop_of_length-le all_lanes (omega arith)))
+returns c = all_offered c.if-not-marks-d.false (left_none c.loop-lane.invariant (drop_of_length-le all_lanes (omega arith)))

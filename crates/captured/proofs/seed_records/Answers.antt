@@ -4,7 +4,6 @@ use native.Mathlib.Omega.{arith}
 use Rattle.laws.proofs.All.{All}
 use Rattle.theory.proofs.Accept.{RecordFits, form_fits}
 use Rattle.sheets.specs.Sheets.{count, groups, library_count}
-use Rattle.lanes.proofs.Marking.{marks_enclosers}
 use Rattle.captured.proofs.Lowering.{left_all, left_next, left_none}
 use Rattle.captured.proofs.Seeding.{record_other, variable_markers, owner_there, variable_there, record_uses}
 use Rattle.captured.proofs.seed_records.Goals as goal
@@ -29,19 +28,18 @@ pub offer-requires : goal.offer-requires
 offer-requires c =
     let fits = rw c.in-Some.ensures.steps at c.loop-record.invariant.2 in
     let owner : c.in-Uses.class < count c.args.formed.now.sheets = owner_there c.args.formed.now.sheets fits.0 (rw c.in-Uses.is at c.body.ensures) in
-    omega (arith, c.args.formed.now.few, c.requires.there, c.enclosers.auto.marks, c.loop-record.auto.row)
+    omega (arith, c.args.formed.now.few, c.requires.there, c.loop-record.auto.row)
 
 pub loop-record-preserved-in-Uses : goal.loop-record-preserved-in-Uses
 loop-record-preserved-in-Uses c =
     let p = c.args.formed.now.sheets in
     let fits = rw c.in-Some.ensures.steps at c.loop-record.invariant.2 in
-    let w = rw c.in-Uses.is at c.body.ensures in
-    let right = marks_enclosers 256 (omega (arith, c.requires.there, c.args.formed.now.few)) c.enclosers.ensures in (
+    let w = rw c.in-Uses.is at c.body.ensures in (
       tt,
       tt,
       fits.1,
       left_next c.loop-record.invariant.3 c.in-Some.ensures.steps
-          (record_uses p fits.0 w (variable_markers c.requires.known c.type_markers.ensures (rw c.group.ensures at c.variable_type-ty.ensures)) right c.offer.ensures),
+          (record_uses p fits.0 w (variable_markers c.requires.known c.type_markers.ensures (rw c.group.ensures at c.variable_type-ty.ensures)) c.enclosers-marks.ensures c.offer.ensures),
     )
 
 pub loop-record-preserved : goal.loop-record-preserved

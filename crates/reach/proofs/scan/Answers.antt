@@ -11,8 +11,8 @@ pub loop-record-init : goal.loop-record-init
 loop-record-init c = (
   tt,
   tt,
-  subst (λ (left : List (List ℕ)). ScanAt c.args.group.now c.args.marks.now c.args.along c.args.n c.args.lanes c.args.m c.args.row.now c.args.row.now false left)
-      (sym (c.into_iter-record-iterator.ensures.into_iter_gives ∙ c.records-record-items.ensures.records)) (scan_start _ _ _ _ _ _ c.requires.room c.requires.marks),
+  subst (λ (left : List (List ℕ)). ScanAt c.args.group.now c.args.marks.now c.args.along c.args.extent.classes c.args.extent.lanes c.args.m c.args.row.now c.args.row.now false left)
+      (sym (c.into_iter-record-iterator.ensures.into_iter_gives ∙ c.records-record-items.ensures.records)) (scan_start _ _ _ _ _ _ c.requires.room c.requires.there),
 )
 
 pub returns-then-row-m-eq0 : goal.returns-then-row-m-eq0
@@ -20,7 +20,7 @@ returns-then-row-m-eq0 c =
     let next = scan_next c.loop-record.invariant.2 c.named_along-targets.result c.draw_named-added.new.row c.draw_named-added.result c.draw_named-added-in-loop-record.result
     c.in-Some.ensures.steps c.named_along-targets.ensures c.draw_named-added.ensures c.draw_named-added.auto.row c.draw_named-added-in-loop-record.ensures
     c.draw_named-added-in-loop-record.auto.row in
-    scan_zero next c.if-lanes-eq1.true (omega (arith, next.long, c.requires.room.long, c.requires.marks)) c.if-row-m-eq0.true
+    scan_zero next c.if-extent-eq1.true (omega (arith, next.long, c.requires.room.long, c.requires.room.few, c.requires.there)) c.if-row-m-eq0.true
 
 pub loop-record-preserved : goal.loop-record-preserved
 loop-record-preserved c = (
