@@ -127,5 +127,8 @@ pub fn whole_length(bytes: &[u8]) -> Option<usize>
         return None;
     }
     let len = usize::from(word_in(bytes, 0));
-    (HEAD_BYTES..=bytes.len()).contains(&len).then_some(len)
+    if len < HEAD_BYTES || bytes.len() < len {
+        return None;
+    }
+    Some(len)
 }
