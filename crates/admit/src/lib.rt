@@ -8,10 +8,10 @@ ghost use Rattle.refusals.specs.Refusals.{Answers};
 ghost use Rattle.form.specs.Accepting.{FoundIn};
 ghost use Rattle.admit.specs.Admitting.{admit_refusal, Plain};
 
-use records::{SCRATCH_BYTES, SHEET_LIMIT};
-use refusals::{Reason, Refusal};
 use form::accepted::Found;
 use form::check;
+use records::{SCRATCH_BYTES, SHEET_LIMIT};
+use refusals::{Reason, Refusal};
 use view::{Cut, Draft};
 use whole::whole_group;
 

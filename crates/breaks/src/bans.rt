@@ -5,11 +5,11 @@ ghost use Rattle.spec.specs.Sheet.{Group};
 ghost use Rattle.sheets.specs.Sheets.{groups, library_count};
 ghost use Rattle.breaks.specs.Bans.{closed_by, closed_member, part_by, Bans, Partial};
 
-use records::{ALLOWED, MEMBER_ALLOWED, has_flag};
+use overlay::known;
 use records::group::Group;
 use records::record::{Body, Record};
+use records::{ALLOWED, MEMBER_ALLOWED, has_flag};
 use sheets::Sheets;
-use overlay::known;
 
 // 1 for a class that is not allowed, by its flags; else 0.
 fn closed(flags: u16) -> u8

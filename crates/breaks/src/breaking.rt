@@ -10,8 +10,8 @@ use crate::early::{lets_out, names_forbidden, refers_forbidden, reserved, static
 use crate::judging::Judging;
 use crate::rule::Rule;
 use markers::{clash, has};
-use records::record::{Body, Head, Record};
 use overlay::known;
+use records::record::{Body, Head, Record};
 use slots::{Late, base_breaks, field_set, head_set, rule_set};
 
 /// Where the walk over rules, classes and records stands: the rule, the class that is judged, the class that is asked, and the number of its record.

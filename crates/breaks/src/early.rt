@@ -10,12 +10,12 @@ ghost use Rattle.breaks.specs.Bans.{Bans, ClosedClass, NamesForbidden, Refers};
 
 use crate::bans::{is_closed, partial};
 use markers::{ENUM, POWERLESS, THROWABLE, TOKEN, has};
-use records::{FINAL, MEMBER_ALLOWED, STATIC, has_flag};
-use records::group::Group;
-use records::record::{Body, Record};
-use sheets::Sheets;
 use named::named;
 use overlay::type_markers;
+use records::group::Group;
+use records::record::{Body, Record};
+use records::{FINAL, MEMBER_ALLOWED, STATIC, has_flag};
+use sheets::Sheets;
 
 // Whether a class that a record may name is not allowed.
 fn closed_class(banned: &[u8], class: Option<usize>) -> bool

@@ -13,14 +13,14 @@ ghost use Rattle.captured.specs.Seeds.{OneOf, Lowering, InLane, Offered, ByRecor
 
 use lanes::{EMPTY, LANE, entry};
 use markers::{DEEP_SELFLESS, IMMUTABLE, POWERLESS, has};
+use named::Along;
+use overlay::type_markers;
+use reach::{close, enclosers};
 use records::CLASS_LIMIT;
 use records::group::Group;
 use records::kind::Kind;
 use records::record::{Body, Ty};
 use sheets::formed::Formed;
-use named::Along;
-use overlay::type_markers;
-use reach::{close, enclosers};
 
 /// The markers whose captured variables are asked, a lane of owners each.
 #[derive(Clone, Copy, PartialEq, Eq, Debug)]

@@ -9,12 +9,12 @@ ghost use Rattle.sheets.specs.Sheets.{count, library_count};
 ghost use Rattle.rules.specs.Line.{line_of};
 ghost use Rattle.flat.specs.Row.{put_at, chosen, faulted_in, marked_in};
 
-use records::{CLASS_LIMIT, SCRATCH_BYTES, VERDICT_BYTES};
 use breaks::bans::bans;
 use breaks::judging::Judging;
 use captured::captures;
 use form::accepted::Accepted;
 use overlay::overlays;
+use records::{CLASS_LIMIT, SCRATCH_BYTES, VERDICT_BYTES};
 use rules::{Verdict, Walk};
 use survey::Survey;
 

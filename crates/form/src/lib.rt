@@ -14,13 +14,13 @@ ghost use Rattle.form.specs.Accepting.{FoundIn};
 
 use accepted::{Accepted, Found};
 use markers::clash;
+use overlay::overlay;
 use passes::both_passes;
 use records::{CLASS_LIMIT, SHEET_LIMIT};
 use refusals::{Reason, Refusal, Side};
+use second::second_pass;
 use sheets::Sheets;
 use sheets::formed::Formed;
-use overlay::overlay;
-use second::second_pass;
 use view::Draft;
 
 // Whether the deemed markers of class c are refused: they clash, or class 0 has any.

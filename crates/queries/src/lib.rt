@@ -9,11 +9,11 @@ ghost use Rattle.refusals.specs.Refusals.{Answers, answer_in, sheet_number};
 ghost use Rattle.sheets.specs.Sheets.{count};
 ghost use Rattle.queries.specs.Answers.{part_of};
 
-use records::NAME_AT;
-use refusals::{Reason, Refusal, Side};
 use form::accepted::{Accepted, Found};
 use form::present;
 use overlay::overlay_in_turn;
+use records::NAME_AT;
+use refusals::{Reason, Refusal, Side};
 
 /// Where a name stands: its sheet, the byte where it begins, and how long it is.
 #[derive(Clone, Copy, PartialEq, Eq, Debug)]

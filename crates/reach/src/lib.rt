@@ -8,12 +8,12 @@ ghost use Rattle.named.specs.Named.{listed, option_list};
 ghost use Rattle.reach.specs.Reach.{named_in, steps_of, outer_of, lower_outer, DrawnNamed, Scanned, Content, dependent_row};
 
 use lanes::{EMPTY, LANE, draw_lanes, swept};
+use named::{Along, named_along};
 use records::CLASS_LIMIT;
 use records::group::Group;
 use records::kind::Kind;
 use sheets::Sheets;
 use sheets::formed::Formed;
-use named::{Along, named_along};
 
 // The encloser of class c, unless its number is not lower.
 fn outer(sheets: &Sheets, c: usize) -> Option<usize>

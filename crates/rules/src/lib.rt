@@ -7,13 +7,13 @@ ghost use Rattle.sheets.specs.Sheets.{count, groups, library_count};
 ghost use Rattle.rules.specs.Line.{line_of};
 ghost use Rattle.rules.specs.Walk.{Kept, Empty, climbed, first_class, lane_of, next_class, only_first};
 
-use markers::has;
-use records::{CLASS_LIMIT, INTERFACE, has_flag};
-use records::group::Group;
 use breaks::breaking::Step;
 use breaks::judging::Judging;
 use breaks::rule::{RULES, Rule};
+use markers::has;
 use overlay::known;
+use records::group::Group;
+use records::{CLASS_LIMIT, INTERFACE, has_flag};
 use slots::{Late, rule_set};
 
 /// Rule and record; 0 and 0 is clean.

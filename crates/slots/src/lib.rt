@@ -5,12 +5,12 @@
 ghost use Rattle.std.specs.Prelude.{◌≡◌, ◌^◌, ◌<◌};
 ghost use Rattle.slots.specs.Slots.{rule_number, rule_marker, Passes, slot_by, FieldSet, FieldsSet, RootSet, encloser_by, lane_by, captured_by, HeadSet, base_by};
 
+use captured::{Lane, lacking};
 use markers::{ALL, DEEP_SELFLESS, IMMUTABLE, POWERLESS, SELFLESS, common, has, union};
+use overlay::{known, type_markers};
 use records::group::Group;
 use records::record::{Body, Head, Ty};
 use records::{FINAL, INNER, STATIC, TRANSIENT, has_flag};
-use captured::{Lane, lacking};
-use overlay::{known, type_markers};
 
 /// The rules that ask slots, each of the classes that have its marker.
 #[derive(Clone, Copy, PartialEq, Eq, Debug)]

@@ -11,12 +11,12 @@ ghost use Rattle.slots.specs.Slots.{base_by, rule_marker};
 ghost use Rattle.breaks.specs.Bans.{Refers};
 ghost use Rattle.survey.specs.Survey.{is_clean, head_by, any_late, record_breaks, ClassSet, Passing};
 
-use markers::{SELFLESS, clash, common, has};
-use records::{CLASS_LIMIT, INTERFACE, has_flag};
-use records::group::Group;
-use records::record::{Head, Record};
 use breaks::early::{lets_out, names_forbidden, refers_forbidden, reserved, static_breaks};
 use breaks::judging::Judging;
+use markers::{SELFLESS, clash, common, has};
+use records::group::Group;
+use records::record::{Head, Record};
+use records::{CLASS_LIMIT, INTERFACE, has_flag};
 use slots::{Late, base_breaks, fields_set, head_set, rule_set};
 
 // The rules that ask slots.

@@ -12,22 +12,21 @@ ghost use Rattle.sheets.specs.Sheets.{count};
 ghost use Rattle.verifier.specs.Answers.{counts_in};
 ghost use Rattle.verifier.specs.Changing.{Puts, Touched, cut_at, putting};
 
-pub use canonical::canonical;
-pub use queries::{Place, marks, name, name_place};
-pub use records::{SCRATCH_BYTES, VERDICT_BYTES};
-pub use refusals::{Reason, Refusal, Side};
-pub use withdraw::withdraw;
-
-use edit::write;
-use lanes::EMPTY;
-use records::CLASS_LIMIT;
-use sheets::formed::Formed;
 use admit::{Room, admit};
+pub use canonical::canonical;
+use edit::write;
 use flat::{faulted, marked, rejudge};
 use form::accepted::{Accepted, Found};
 use form::present;
+use lanes::EMPTY;
+pub use queries::{Place, marks, name, name_place};
 use reach::dependents;
+use records::CLASS_LIMIT;
+pub use records::{SCRATCH_BYTES, VERDICT_BYTES};
+pub use refusals::{Reason, Refusal, Side};
+use sheets::formed::Formed;
 use view::Cut;
+pub use withdraw::withdraw;
 
 /// How many user classes there are, and how many are faulted.
 #[derive(Clone, Copy, PartialEq, Eq, Debug)]
