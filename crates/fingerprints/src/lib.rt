@@ -33,7 +33,7 @@ pub fn prints(sheets: &Sheets, row: &mut [u16])
     }
 }
 
-/// Whether an entry is `print`. All are read, so that many are compared at once.
+/// Whether an entry is `print`. All are read, so that many are compared at once; as a fold it is slower.
 pub fn met(row: &[u16], print: u16) -> bool
     ensures { result ≡ elem print row.now }
 {
