@@ -53,7 +53,8 @@ module _ {n : ℕ} {g : ℕ → Group} {r : List ℕ} (f : Refers n g r) (k : is
   refers_told ed ei eh eb = by_kind _ (ap not (eb ∙ rw (eh, ed, ei) refl))
 
   -- of a class of the library without a member that is not allowed
-  pub refers_open : {nlib : ℕ} {row : List Ban} {d : ℕ} → d ≡ target r → Bans nlib g row → {maybe : Bool} → Partial nlib row d maybe → not maybe ≡ true → false ≡ (is_kind REFERS r && not (member_allowed g (target r) (index r)))
+  pub refers_open : {nlib : ℕ} {row : List Ban} {d : ℕ} → d ≡ target r → Bans nlib g row → {maybe : Bool} → Partial nlib row d maybe → not maybe ≡ true
+      → false ≡ (is_kind REFERS r && not (member_allowed g (target r) (index r)))
   unfolding member_allowed
   refers_open {nlib} {d = d} ed b {maybe} o eo =
       by_kind false (sym (ap not (open_at (g (target r)) (index r) (f.member (true_t k)) (ap (λ (c : ℕ). any closed_member (g c)) (sym ed) ∙ none_closed))))

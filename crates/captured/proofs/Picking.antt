@@ -25,7 +25,8 @@ module _ {A : Type 0} (k : ℕ) (f : List ℕ → A) where
   all_picked (r ∷ h) = go (is_kind k r) (all_picked h)
     where
       go : (b : Bool) → filter_map picked h ≡ map f (keep (is_kind k) h)
-          → cons_option (elim b as (λ (_ : Bool). Option A) [ true ↦ Some (f r) | false ↦ None ]) (filter_map picked h) ≡ map f (elim b as (λ (_ : Bool). Group) [ true ↦ r ∷ keep (is_kind k) h | false ↦ keep (is_kind k) h ])
+          → cons_option (elim b as (λ (_ : Bool). Option A) [ true ↦ Some (f r) | false ↦ None ]) (filter_map picked h)
+          ≡ map f (elim b as (λ (_ : Bool). Group) [ true ↦ r ∷ keep (is_kind k) h | false ↦ keep (is_kind k) h ])
       go true e = ap (λ (xs : List A). f r ∷ xs) e
       go false e = e
 

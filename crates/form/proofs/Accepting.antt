@@ -58,7 +58,8 @@ pub record Sizes (library user : List ℕ) (used : ℕ) : Type 0 where
 
 pub sizes_told : (library user : List ℕ) (used : ℕ) → size_refusal library user used ≡ none → Sizes library user used
 sizes_told library user used e =
-    let l : length library ≤ 32768 = ltb-false 32768 (length library) (false_if (ltb 32768 (length library)) (λ q. some≢none _ (sym (library_long library user used (ltb-true 32768 (length library) q)) ∙ e))) in
+    let l : length library ≤ 32768 =
+    ltb-false 32768 (length library) (false_if (ltb 32768 (length library)) (λ q. some≢none _ (sym (library_long library user used (ltb-true 32768 (length library) q)) ∙ e))) in
     let u : used ≤ min (length user) 32768 =
     ltb-false (min (length user) 32768) used (false_if (ltb (min (length user) 32768) used) (λ q. some≢none _ (sym (used_long library user used l (ltb-true (min (length user) 32768) used q)) ∙ e))) in
     record { library_size = l; used_size = omega arith; in_buffer = omega arith }

@@ -106,7 +106,8 @@ module _ {sheet head group tail : List ℕ} (p : Parted sheet head group tail) w
     pub sheet_stops : {r : Refusal} → shifted 0 (pass_refusal 1 n (head ++ (group ++ tail))) ≡ some r → pass_refusal 1 n sheet ≡ some r
     sheet_stops e = rw p.joined (sym (shifted_zero (pass_refusal 1 n (head ++ (group ++ tail)))) ∙ e)
 
-    pub sheet_answer : (q : Result ℕ Refused) → Counted (shifted 0 (pass_refusal 1 n (head ++ (group ++ tail)))) q (n + class_count (head ++ (group ++ tail))) → Counted (pass_refusal 1 n sheet) q (n + class_count sheet)
+    pub sheet_answer : (q : Result ℕ Refused) → Counted (shifted 0 (pass_refusal 1 n (head ++ (group ++ tail)))) q (n + class_count (head ++ (group ++ tail)))
+        → Counted (pass_refusal 1 n sheet) q (n + class_count sheet)
     sheet_answer q w = rw (p.joined, ← shifted_zero (pass_refusal 1 n (head ++ (group ++ tail)))) w
 
     pub sheet_rows : {row₀ row : List ℕ} → Filled (pass_refusal 1 n (head ++ (group ++ tail))) n 0 (head ++ (group ++ tail)) row₀ row → Filled (pass_refusal 1 n sheet) n 0 sheet row₀ row

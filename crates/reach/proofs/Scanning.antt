@@ -76,7 +76,8 @@ draw_next {step} {outer} {n} {lanes} {m} {marks} {s₀} {s} {s'} {rest} {rest'} 
 draw_next {s = s} b (Some t) r h q v e d l = visit_next v e (offered r.few h s (omega (arith, r.long, q)) d) l
 
 module _ {rs : Group} {marks : List Bool} {along : Along} {n lanes m : ℕ} {row₀ row : List ℕ} {a : Bool} {left : Group} (f : ScanAt rs marks along n lanes m row₀ row a left) where
-  pub scan_next : {r : List ℕ} {left' : Group} (t : Targets) (row₁ : List ℕ) {row₂ : List ℕ} (b c : Bool) → left ≡ r ∷ left' → listed t ≡ named_by along r → DrawnNamed marks n lanes m t.first row row₁ b
+  pub scan_next : {r : List ℕ} {left' : Group} (t : Targets) (row₁ : List ℕ) {row₂ : List ℕ} (b c : Bool)
+      → left ≡ r ∷ left' → listed t ≡ named_by along r → DrawnNamed marks n lanes m t.first row row₁ b
       → length row₁ ≡ length row → DrawnNamed marks n lanes m t.second row₁ row₂ c → length row₂ ≡ length row₁ → ScanAt rs marks along n lanes m row₀ row₂ ((a || b) || c) left'
   scan_next {r} {left'} t row₁ b c e et o q o' q' =
       record {

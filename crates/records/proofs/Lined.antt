@@ -96,7 +96,8 @@ module _ {s : List ℕ} (w : OneClass s) where
   pub class_long : (13 ≤ u16 s 0) × (u16 s 0 ≤ length s)
   class_long =
       let f = first_lem w.lined (some_bytes w) in
-      let k : 1 ≡ kind (take (u16 s 0) s) = sym (eqb→eq (kind (take (u16 s 0) s)) 1 (subst (λ (r : List ℕ). T (is_class r)) class_here (class_first (λ _. Unit {0}) (records_of s) w.one (all_tt (records_of s))).1)) in
+      let k : 1 ≡ kind (take (u16 s 0) s) = sym (eqb→eq (kind (take (u16 s 0) s)) 1
+      (subst (λ (r : List ℕ). T (is_class r)) class_here (class_first (λ _. Unit {0}) (records_of s) w.one (all_tt (records_of s))).1)) in
       let l = long class_fits 1 k in
       (omega (arith, l, length-take-le (u16 s 0) s f.ends), f.ends)
 

@@ -136,7 +136,8 @@ module _ {nlib n : ℕ} {g : ℕ → Group} (w : Ground nlib n g) where
         first : (b : Bool) → Option ℕ
         first b = elim b as (λ (_ : Bool). Option ℕ) [ true ↦ optional (sup c) | false ↦ None ]
 
-        from : (b : Bool) → judged_for g (rule_marker rule) c ≡ b → only_if (judged_for g (rule_marker rule) c) (gather (above nlib g c) (superclasses (g c))) ≡ only_if b (gather (above nlib g c) (superclasses (g c)))
+        from : (b : Bool) → judged_for g (rule_marker rule) c ≡ b
+            → only_if (judged_for g (rule_marker rule) c) (gather (above nlib g c) (superclasses (g c))) ≡ only_if b (gather (above nlib g c) (superclasses (g c)))
         from b e = ap (λ (x : Bool). only_if x (gather (above nlib g c) (superclasses (g c)))) e
 
         go : (b : Bool) → judged_for g (rule_marker rule) c ≡ b → Begins nlib g (Late rule) c (first_class g (Late rule) c)

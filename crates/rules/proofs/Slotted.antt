@@ -205,7 +205,8 @@ module _ {nlib n : ℕ} {g : ℕ → Group} (w : Ground nlib n g) where
         found_head {t} {x} m l h e (inr b) =
             inr (inr (and_l (has_base rule) (eqb t c) (and_l (has_base rule && eqb t c) (base_breaks g c) b), and_r (has_base rule && eqb t c) (base_breaks g c) b), e)
 
-        found_user : {t k x : ℕ} {r : List ℕ} → Memᴰ t (lineage nlib g c) → At (asked nlib g (Late rule) t) k r → T (breaks_at nlib g (Late rule) c t k r) → place_in c (record { class = t; record_number = k })
+        found_user : {t k x : ℕ} {r : List ℕ} → Memᴰ t (lineage nlib g c) → At (asked nlib g (Late rule) t) k r → T (breaks_at nlib g (Late rule) c t k r)
+            → place_in c (record { class = t; record_number = k })
             ≡ x → Found x
         unfolding field_breaks slot_fault field_slot
         found_user {t} {k} {x} {r} m a b p = go (ℕ_discrete k 0)
@@ -229,7 +230,8 @@ module _ {nlib n : ℕ} {g : ℕ → Group} (w : Ground nlib n g) where
                 from_slot (field_slot t (k, r)) m (field_in at (and_l (is_instance_field r) (not (slot_fits g rule (field_slot t (k, r)))) q))
                 (and_r (is_instance_field r) (not (slot_fits g rule (field_slot t (k, r)))) q) p
 
-        found_root : {t k x : ℕ} {r : List ℕ} → Memᴰ t (root nlib g c) → At (asked nlib g (Late rule) t) k r → T (breaks_at nlib g (Late rule) c t k r) → place_in c (record { class = t; record_number = k }) ≡ x
+        found_root : {t k x : ℕ} {r : List ℕ} → Memᴰ t (root nlib g c) → At (asked nlib g (Late rule) t) k r → T (breaks_at nlib g (Late rule) c t k r)
+            → place_in c (record { class = t; record_number = k }) ≡ x
             → Found x
         found_root {t} {k} {x} {r} m a b p =
             let l : t < nlib = ((root_is nlib g w.falls c t user).0 m).library in

@@ -14,7 +14,8 @@ found : (c : After-nth) → c.nth.result ≡ Some (ty_of (local_ty (get_or (of_k
 found c =
     sym (option_map_id c.nth.result)
     ∙ nth_from_yields_List _ _ _ c.nth.ensures.ran
-    (YieldsList-from_filter_map _ (picked LOCAL (λ r. ty_of (local_ty r))) (YieldsList-at c.filter_map.ensures.source (YieldsList-from_first (λ r. r) (λ rs. rs) c.args.group.now c.records.ensures.records))
+    (YieldsList-from_filter_map _ (picked LOCAL (λ r. ty_of (local_ty r)))
+    (YieldsList-at c.filter_map.ensures.source (YieldsList-from_first (λ r. r) (λ rs. rs) c.args.group.now c.records.ensures.records))
     c.filter_map.ensures.closure (λ x r q k. search (rules, tests)))
     ∙ nth_picked LOCAL (λ r. ty_of (local_ty r)) c.args.group.now c.args.i c.requires
 

@@ -33,7 +33,8 @@ within_stops c =
     let f = c.parts.ensures in
     let a = c.in_ok-before.ensures.answer in
     sheet_stops f c.args.base
-    (answer c.args.base 0 (seams_of f).0 a.0 a.1 (sym (zero-add _)) (Err c.in_err-within.field-0.0) (stops c.in_ok-before.before (length c.parts.result.head.now) (seams_of f).1 c.in_err-within.ensures.answer))
+    (answer c.args.base 0 (seams_of f).0 a.0 a.1 (sym (zero-add _)) (Err c.in_err-within.field-0.0)
+    (stops c.in_ok-before.before (length c.parts.result.head.now) (seams_of f).1 c.in_err-within.ensures.answer))
 
 pub returns-in_err-within-clause-answer : goal.returns-in_err-within-clause-answer
 returns-in_err-within-clause-answer c =

@@ -14,7 +14,8 @@ use Rattle.rules.specs.Walk.{rule_at}
 use Rattle.rules.proofs.Ground.{ground}
 use Rattle.rules.proofs.Ascent.{left, below}
 use Rattle.rules.proofs.Stepping.{only_asks}
-use Rattle.rules.proofs.Judging.{ClassAt, Past, class_start, class_end, class_next, rule_start, rule_end, record_left, record_start, record_end, record_only, record_next, record_here, record_few, record_hit}
+use Rattle.rules.proofs.Judging.{ClassAt, Past, class_start, class_end, class_next, rule_start, rule_end}
+use Rattle.rules.proofs.Judging.{record_left, record_start, record_end, record_only, record_next, record_here, record_few, record_hit}
 use Rattle.rules.proofs.Keeping.{climb_at, keep_from}
 use Rattle.rules.proofs.Walk.verdict_of.Goals as goal
 use Rattle.rules.proofs.Walk.verdict_of.Goals.{After-next_class, After-climb-next-in-Some, in-None, in-Some-2+else-breaks+then-alone, in-Late, in_default-rule}
@@ -78,7 +79,8 @@ loop-number-preserved c =
     ((tt, tt, inl (omega (arith, record_left next, record_few f s.0, group_few (indexed c.count-passed.ensures.passed) c.in-Some.t))), tt, next)
 
 -- all records of the class are asked, or the first alone is
-past : (c : After-next_class) → Past (library_count c.args.self.now.judging.now.formed.now.sheets) (groups c.args.self.now.judging.now.formed.now.sheets) c.args.c (rule_at c.loop-rule.rule-index) c.in-Some.t
+past : (c : After-next_class)
+    → Past (library_count c.args.self.now.judging.now.formed.now.sheets) (groups c.args.self.now.judging.now.formed.now.sheets) c.args.c (rule_at c.loop-rule.rule-index) c.in-Some.t
 past c = elim c.match-next-2.branch [
   | in-None w ↦ record_end c.loop-number.invariant.2 w.in-None.ensures.steps.0.0
   | in-Some-2+else-breaks+then-alone w ↦

@@ -46,7 +46,8 @@ pub returns-clause-steps : goal.returns-clause-steps
 returns-clause-steps c =
     sym c.self.view_is
     ∙ here c.self.invariant (more _ c.is_empty.ensures c.if-is_empty.false)
-    ∙ ap₂ (λ (r : List ℕ) (s : List ℕ). r ∷ records_of s) (sym (front_is _ c.from-len.ensures c.word_in.ensures c.split_at.ensures.front)) (sym (back_is _ c.from-len.ensures c.word_in.ensures c.split_at.ensures.back))
+    ∙ ap₂ (λ (r : List ℕ) (s : List ℕ). r ∷ records_of s) (sym (front_is _ c.from-len.ensures c.word_in.ensures c.split_at.ensures.front))
+    (sym (back_is _ c.from-len.ensures c.word_in.ensures c.split_at.ensures.back))
 
 pub returns-clause-goes : goal.returns-clause-goes
 returns-clause-goes c =
