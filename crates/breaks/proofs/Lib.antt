@@ -1,5 +1,4 @@
 pub mod Banning
-pub mod Naming
 pub mod Statics
 pub mod Members
 pub mod Places

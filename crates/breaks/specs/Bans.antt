@@ -1,11 +1,10 @@
 -- What is not allowed of the library's classes, as a row.
 -- Assumes nothing.
-use Rattle.std.specs.Prelude.{Bool, true, false, not, ◌&&◌, ◌||◌, Option, List, ◌≡◌, ℕ, ◌≤◌, ◌<◌, T, ltb, length, get_or}
+use Rattle.std.specs.Prelude.{Bool, true, false, not, ◌&&◌, ◌||◌, List, ◌≡◌, ℕ, ◌≤◌, ◌<◌, T, ltb, length, get_or}
 use Rattle.spec.specs.Lists.{any}
 use Rattle.spec.specs.Record.{bit, is_kind, MEMBER, REFERS, flags, target, index, references}
 use Rattle.spec.specs.Sheet.{Group, class_record, of_kind}
 use Rattle.spec.specs.Rules.{forbidden}
-use Rattle.named.specs.Named.{option_list}
 use Rattle.breaks.specs.declared.bans.Ban.{Ban}
 
 unfoldable pub closed_member : List ℕ → Bool
@@ -24,11 +23,7 @@ pub record Bans (nlib : ℕ) (g : ℕ → Group) (row : List Ban) : Type 0 where
   pub long : length row ≡ 256
   pub is : (d : ℕ) → get_or row d nothing ≡ elim (ltb d nlib) [ true ↦ ban_of (g d) | false ↦ nothing ]
 
--- by such a row: whether a class that a record may name is a library class that is not allowed
-pub record ClosedClass (row : List Ban) (class : Option ℕ) (b : Bool) : Type 0 where
-  pub is : (nlib : ℕ) (g : ℕ → Group) → Bans nlib g row → b ≡ any (forbidden nlib g) (option_list class)
-
--- and whether a record names one
+-- by such a row: whether a record names a class that is not allowed
 pub record NamesForbidden (row : List Ban) (r : List ℕ) (b : Bool) : Type 0 where
   pub is : (nlib : ℕ) (g : ℕ → Group) → Bans nlib g row → b ≡ any (forbidden nlib g) (references r)
 

@@ -6,7 +6,7 @@ ghost use Rattle.spec.specs.Markers.{Token, Throwable, Enum};
 ghost use Rattle.spec.specs.Rules.{member_allowed, static_breaks};
 ghost use Rattle.sheets.specs.Sheets.{count, groups, library_count};
 ghost use Rattle.overlay.specs.Types.{Known};
-ghost use Rattle.breaks.specs.Bans.{Bans, ClosedClass, NamesForbidden, Refers};
+ghost use Rattle.breaks.specs.Bans.{Bans, NamesForbidden, Refers};
 
 use crate::bans::{Ban, is_closed, partial};
 use markers::{ENUM, POWERLESS, THROWABLE, TOKEN, has};
@@ -17,22 +17,11 @@ use records::record::{Body, Record};
 use records::{FINAL, MEMBER_ALLOWED, STATIC, has_flag};
 use sheets::Sheets;
 
-// Whether a class that a record may name is not allowed.
-fn closed_class(banned: &[Ban], class: Option<usize>) -> bool
-    ensures { ClosedClass banned.now class result }
-{
-    match class {
-        Some(d) => is_closed(banned, d),
-        None => false,
-    }
-}
-
 /// Rule 1: the record names a class that is not allowed.
 pub fn names_forbidden(record: &Record, banned: &[Ban]) -> bool
     ensures { NamesForbidden banned.now record.now result }
 {
-    let classes = named(record);
-    closed_class(banned, classes.first) || closed_class(banned, classes.second)
+    named(record).any(|d| is_closed(banned, d))
 }
 
 // Whether member i of a class is allowed.

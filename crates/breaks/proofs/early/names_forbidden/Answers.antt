@@ -1,8 +1,14 @@
-use Rattle.breaks.proofs.Naming.{names_first, names_second}
+use Rattle.std.proofs.Common.{◌∙◌, rules, tests}
+use Rattle.std.proofs.lemmas.Iterator.Consumers.{YieldsList-from_first}
+use Rattle.std.proofs.lemmas.Iterator.Search.{any_from_yields_List}
+use Rattle.spec.specs.Rules.{forbidden}
+use Rattle.named.specs.Named.{listed}
+use Rattle.records.proofs.Chains.{any_is}
 use Rattle.breaks.proofs.early.names_forbidden.Goals as goal
 
-pub returns-then-closed_class : goal.returns-then-closed_class
-returns-then-closed_class c = names_first c.args.record.now c.named-classes.result c.named-classes.ensures c.closed_class.ensures c.if-closed_class.true
-
-pub returns-else-closed_class : goal.returns-else-closed_class
-returns-else-closed_class c = names_second c.args.record.now c.named-classes.result c.named-classes.ensures c.closed_class.ensures c.if-closed_class.false c.closed_class-else-closed_class.ensures
+pub returns : goal.returns
+returns c = record {
+  is = λ nlib g w.
+      any_from_yields_List (forbidden nlib g) _ _ _ c.any.ensures.ran (YieldsList-from_first (λ t. t) listed _ c.named.ensures) (λ x b q k. search (rules, tests))
+      ∙ any_is _ _;
+}
