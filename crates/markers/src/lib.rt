@@ -45,7 +45,7 @@ const CLOSURES: [u8; 256] = [
 pub fn closure(m: u8) -> u8
     ensures { result ≡ closure_of m }
 {
-    CLOSURES[m as usize]
+    CLOSURES[usize::from(m)]
 }
 
 // The markers of both sets.
