@@ -14,7 +14,9 @@ use named::named;
 use overlay::type_markers;
 use records::group::Group;
 use records::record::{Body, Record};
-use records::{FINAL, MEMBER_ALLOWED, STATIC, has_flag};
+use records::{
+    CALLS_OWN_METHOD, CONSTRUCTS_INNER, FINAL, LETS_THIS_OUT, MEMBER_ALLOWED, STATIC, has_flag,
+};
 use sheets::Sheets;
 
 /// Rule 1: the record names a class that is not allowed.
@@ -77,5 +79,7 @@ pub fn static_breaks(record: &Record, markers: &[u8]) -> bool
 pub fn lets_out(flags: u16) -> bool
     ensures { result ≡ (bit 5 flags || bit 6 flags || bit 7 flags) }
 {
-    has_flag(flags, 5) || has_flag(flags, 6) || has_flag(flags, 7)
+    has_flag(flags, CALLS_OWN_METHOD)
+        || has_flag(flags, CONSTRUCTS_INNER)
+        || has_flag(flags, LETS_THIS_OUT)
 }

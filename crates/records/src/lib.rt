@@ -58,6 +58,18 @@ pub const INTERFACE: u32 = 0;
 
 pub const INNER: u32 = 1;
 
+pub const OVERRIDES_EQUALS: u32 = 2;
+
+pub const OVERRIDES_HASH_CODE: u32 = 3;
+
+pub const CALLS_SUPER_EQUALS: u32 = 4;
+
+pub const CALLS_OWN_METHOD: u32 = 5;
+
+pub const CONSTRUCTS_INNER: u32 = 6;
+
+pub const LETS_THIS_OUT: u32 = 7;
+
 pub const ALLOWED: u32 = 8;
 
 pub const MEMBER_ALLOWED: u32 = 0;

@@ -144,6 +144,7 @@ impl<'a> Walk<'a> {
         let sheets = &judging.formed.sheets;
         let _passed = sheets.count();
         let nlib = sheets.library_count();
+        // The form that document 01 names: loops from rule 1 on, left from inside by a label.
         'judged: {
             for rule in RULES {
                 let first = first_class(judging, rule, c);

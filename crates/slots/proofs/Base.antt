@@ -3,10 +3,7 @@
 use mathlib.Core.Path.{◌≡◌, refl, sym, ap, ◌∙◌}
 use mathlib.Core.Bool.{Bool, true, false, not, ◌&&◌, ◌||◌, or-false}
 use mathlib.Core.List.{List, [], ◌∷◌, append-nil}
-use Prim.Native.Nat.{ℕ, ◌+◌, ◌*◌, ◌/◌, ◌%◌, ◌<◌}
-use native.Mathlib.Decide.{ℕ_discrete}
-use native.Mathlib.Omega.{arith}
-use lib.Arith.{mod-mul}
+use Prim.Native.Nat.{ℕ, ◌/◌, ◌%◌, ◌<◌}
 use lib.Dec.{eqb}
 use lib.ListN.{get_or}
 use borrow.Author.Tests.{eq-eqb, ne_eqb}
@@ -23,27 +20,6 @@ use Rattle.records.specs.Kinds.{optional, head_of}
 use Rattle.sheets.specs.Sheets.{Pair, count, groups}
 use Rattle.overlay.specs.Types.{Known}
 use Rattle.slots.specs.Slots.{if_there, base_breaks, base_by}
-
--- ---- three flags as one number
-
-three : (a b c : ℕ) → a < 2 → b < 2 → c < 2 → eqb (a + 2 * b + 4 * c) 3 ≡ (eqb a 1 && eqb b 1 && not (eqb c 1))
-three a b c ha hb hc = go (ℕ_discrete a 1) (ℕ_discrete b 1) (ℕ_discrete c 1)
-  where
-    go : Dec (a ≡ 1) → Dec (b ≡ 1) → Dec (c ≡ 1) → eqb (a + 2 * b + 4 * c) 3 ≡ (eqb a 1 && eqb b 1 && not (eqb c 1))
-    go (no p) q r = rw (ne_eqb (a + 2 * b + 4 * c) 3 (λ z. omega arith), ne_eqb a 1 p)
-    go (yes e) (no q) r = rw (ne_eqb (a + 2 * b + 4 * c) 3 (λ z. omega arith), eq-eqb a 1 e, ne_eqb b 1 q)
-    go (yes e) (yes f) (yes g) = rw (ne_eqb (a + 2 * b + 4 * c) 3 (λ z. omega arith), eq-eqb a 1 e, eq-eqb b 1 f, eq-eqb c 1 g)
-    go (yes e) (yes f) (no r) = let z : a + 2 * b + 4 * c ≡ 3 = omega arith in rw (eq-eqb (a + 2 * b + 4 * c) 3 z, eq-eqb a 1 e, eq-eqb b 1 f, ne_eqb c 1 r)
-
--- flags 2 and 3 set and 4 clear
-two_of_three : (f : ℕ) → eqb (f / 4 % 8) 3 ≡ (bit 2 f && bit 3 f && not (bit 4 f))
-unfolding bit
-two_of_three f =
-    let h : f / 4 / 2 ≡ f / 8 = omega arith in
-    let q : f / 8 / 2 ≡ f / 16 = omega arith in
-    let e : f / 4 % 8 ≡ f / 4 % 2 + 2 * (f / 8 % 2) + 4 * (f / 16 % 2) =
-    rw (← q) (omega (arith, mod-mul (f / 4) {m = 4} {c = 2} (omega arith) (omega arith), mod-mul (f / 8) {m = 2} {c = 2} (omega arith) (omega arith), ap (λ (x : ℕ). x % 4) h)) in
-    ap (λ (x : ℕ). eqb x 3) e ∙ three (f / 4 % 2) (f / 8 % 2) (f / 16 % 2) (omega arith) (omega arith) (omega arith)
 
 -- ---- as the code finds it
 
@@ -62,8 +38,8 @@ module _ (head : Head) (markers : List ℕ) where
     pub base_other : y ≡ false → (s ≡ 0 → ⊥) → true ≡ base_by head markers
     base_other h n = rw (e, has, h, ne_eqb s 0 n)
 
-    pub base_zero : y ≡ false → s ≡ 0 → not (eqb (head.flags / 4 % 8) 3) ≡ base_by head markers
-    base_zero h z = rw (e, has, h, eq-eqb s 0 z) (ap not (two_of_three head.flags))
+    pub base_zero : y ≡ false → s ≡ 0 → {b : Bool} → b ≡ (bit 2 head.flags && bit 3 head.flags && not (bit 4 head.flags)) → not b ≡ base_by head markers
+    base_zero h z q = rw (e, has, h, eq-eqb s 0 z) (ap not q)
 
 -- ---- as the definition has it
 

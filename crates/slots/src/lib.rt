@@ -2,7 +2,8 @@
 // Markers and captured variables stand in their rows.
 #![tactic(auto)]
 
-ghost use Rattle.std.specs.Prelude.{◌≡◌, ◌^◌, ◌<◌};
+ghost use Rattle.std.specs.Prelude.{◌≡◌, ◌^◌, ◌<◌, ◌&&◌, not};
+ghost use Rattle.spec.specs.Record.{bit};
 ghost use Rattle.slots.specs.Slots.{rule_number, rule_marker, Passes, slot_by, FieldSet, FieldsSet, RootSet, encloser_by, lane_by, captured_by, HeadSet, base_by};
 
 use captured::{LANES, Lane, lacking};
@@ -10,7 +11,10 @@ use markers::{ALL, DEEP_SELFLESS, IMMUTABLE, POWERLESS, SELFLESS, common, has, u
 use overlay::{known, type_markers};
 use records::group::Group;
 use records::record::{Body, Head, Ty};
-use records::{FINAL, INNER, STATIC, TRANSIENT, has_flag};
+use records::{
+    CALLS_SUPER_EQUALS, FINAL, INNER, OVERRIDES_EQUALS, OVERRIDES_HASH_CODE, STATIC, TRANSIENT,
+    has_flag,
+};
 
 /// The rules that ask slots, each of the classes that have its marker.
 #[derive(Clone, Copy, PartialEq, Eq, Debug)]
@@ -146,6 +150,15 @@ pub fn head_set(head: &Head, markers: &[u8], lanes: &[u8], nlib: usize, t: usize
     common(encloser_set(head, markers), captured_set(lanes, t))
 }
 
+// A class has an equals and a hashCode of its own that do not ask Object's.
+fn has_own_equals(flags: u16) -> bool
+    ensures { result ≡ (bit 2 flags && bit 3 flags && not (bit 4 flags)) }
+{
+    has_flag(flags, OVERRIDES_EQUALS)
+        && has_flag(flags, OVERRIDES_HASH_CODE)
+        && !has_flag(flags, CALLS_SUPER_EQUALS)
+}
+
 /// Rule 9's second part: the superclass is not Selfless, nor class 0 with two flags.
 pub fn base_breaks(head: &Head, markers: &[u8]) -> bool
     ensures { result ≡ base_by head.now markers.now }
@@ -156,5 +169,5 @@ pub fn base_breaks(head: &Head, markers: &[u8]) -> bool
     if has(known(markers, s), SELFLESS) {
         return false;
     }
-    s != 0 || head.flags / 4 % 8 != 3
+    s != 0 || !has_own_equals(head.flags)
 }

@@ -13,4 +13,4 @@ returns-then-s-ne0 c =
     ap not (ne_eqb _ _ c.if-s-ne0.true) ∙ base_other c.args.head.now c.args.markers.now c.in-Some.is c.known.ensures c.has.ensures c.if-has.false c.if-s-ne0.true
 
 pub returns-else-s-ne0 : goal.returns-else-s-ne0
-returns-else-s-ne0 c = base_zero c.args.head.now c.args.markers.now c.in-Some.is c.known.ensures c.has.ensures c.if-has.false c.if-s-ne0.false
+returns-else-s-ne0 c = base_zero c.args.head.now c.args.markers.now c.in-Some.is c.known.ensures c.has.ensures c.if-has.false c.if-s-ne0.false c.has_own_equals.ensures
