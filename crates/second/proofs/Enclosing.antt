@@ -73,20 +73,23 @@ module _ (p : Pair) where
       let o = one_record (groups p e) (group_one_class p.library p.user e h) in
       rw (o, append-nil (unless_none (encloser (class_record (groups p e))))) (gathered (encloser (class_record (groups p e))) (enclosers_in (groups p) left))
 
-module _ {marks : List Bool} (z : marks ≡ replicate 256 false) where
-  room : length marks ≡ 256
-  room = ap length z ∙ length-replicate {A = Bool} 256 false
+-- no class is marked
+abbrev unmarked : List Bool
+unmarked = replicate 256 false
 
-  unmarked : (p : Pair) (c t : ℕ) → t < 256 → met marks t (c ∷ enclosers_in (groups p) (c + 1) c) ≡ elem t (c ∷ enclosers (groups p) c)
-  unfolding met enclosers
-  unmarked p c t l = let e : c + 1 ≡ suc c = omega arith in rw (z, get_or-replicate {A = Bool} 256 t false false l, e)
+room : length unmarked ≡ 256
+room = length-replicate {A = Bool} 256 false
 
-  pub rising_start : {p : Pair} {c left : ℕ} → count p ≤ 256 → c < count p → left ≡ c + 1 → Rising p c c left (set marks c true)
-  rising_start {p} {c} few h el = rw el (record {
-    there = h;
-    long = length-set marks c true ∙ room;
-    same = λ t l. mark_one marks c t _ (omega (arith, room)) ∙ unmarked p c t (omega arith);
-  })
+all_left : (p : Pair) (c t : ℕ) → t < 256 → met unmarked t (c ∷ enclosers_in (groups p) (c + 1) c) ≡ elem t (c ∷ enclosers (groups p) c)
+unfolding met enclosers
+all_left p c t l = let e : c + 1 ≡ suc c = omega arith in rw (get_or-replicate {A = Bool} 256 t false false l, e)
+
+pub rising_start : {p : Pair} {c left : ℕ} → count p ≤ 256 → c < count p → left ≡ c + 1 → Rising p c c left (set (replicate 256 false) c true)
+rising_start {p} {c} few h el = rw el (record {
+  there = h;
+  long = length-set unmarked c true ∙ room;
+  same = λ t l. mark_one unmarked c t _ (omega (arith, room)) ∙ all_left p c t (omega arith);
+})
 
 module _ {p : Pair} {c e left : ℕ} {marks : List Bool} (few : count p ≤ 256) (r : Rising p c e left marks) where
   -- none is left

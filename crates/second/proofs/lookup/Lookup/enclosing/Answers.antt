@@ -1,9 +1,9 @@
-use Rattle.std.proofs.Common.{refl, ◌+◌, ◌-◌, arith}
+use Rattle.std.proofs.Common.{◌+◌, ◌-◌, arith}
 use Rattle.second.proofs.Enclosing.{encloser_is, rising_start, rising_step, rising_stop, rising_none, rising_end}
 use Rattle.second.proofs.lookup.Lookup.enclosing.Goals as goal
 
 pub loop-init : goal.loop-init
-loop-init c = rising_start refl c.count-n.ensures.passed.few c.requires.there (omega arith)
+loop-init c = rising_start c.count-n.ensures.passed.few c.requires.there (omega arith)
 
 pub returns-in_default : goal.returns-in_default
 returns-in_default c =
