@@ -49,7 +49,6 @@ impl Ban {
 pub fn bans(sheets: &Sheets) -> [Ban; CLASS_LIMIT]
     ensures { Bans (library_count sheets.now) (groups sheets.now) result }
 {
-    let _passed = sheets.count();
     let mut row = [NOTHING; CLASS_LIMIT];
     for d in 0..sheets.library_count() {
         row[d] = Ban::of(&sheets.group(d));

@@ -35,7 +35,6 @@ fn deemed(formed: &Formed, memo: &mut [Option<u8>]) -> Result<(), Refusal>
     requires memo { memo.old ≡ replicate 256 None }
     ensures answer { Answers (deemed_refusal formed.now.sheets.library formed.now.sheets.user) result (λ _. memo.new ≡ memo_of (groups formed.now.sheets) (library_count formed.now.sheets)) }
 {
-    let _passed = formed.sheets.count();
     for c in 0..formed.sheets.library_count() {
         if deemed_breaks(c, overlay(formed, c, memo)) {
             return Err(Refusal {

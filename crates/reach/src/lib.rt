@@ -127,7 +127,6 @@ fn steps_nowhere(sheets: &Sheets, along: Along, m: usize) -> bool
     requires { m < count sheets.now }
     ensures { result ≡ true → steps_of (groups sheets.now) along m ≡ [] }
 {
-    let _passed = sheets.count();
     match along {
         Along::Every => false,
         Along::Builds => m < sheets.library_count() || !sheets.group(m).has(Kind::Builds),

@@ -121,7 +121,6 @@ impl<'a> Walk<'a> {
         ensures { self.new.judging ≡ self.old.judging }
     {
         let sheets = &self.judging.formed.sheets;
-        let _passed = sheets.count();
         let nlib = sheets.library_count();
         let mut next = class;
         while let Some(t) = next {
@@ -142,7 +141,6 @@ impl<'a> Walk<'a> {
     {
         let judging = self.judging;
         let sheets = &judging.formed.sheets;
-        let _passed = sheets.count();
         let nlib = sheets.library_count();
         // The form that document 01 names: loops from rule 1 on, left from inside by a label.
         'judged: {

@@ -22,24 +22,24 @@ use Rattle.sheets.specs.Sheets.{Pair, count, groups}
 use Rattle.second.specs.Second.{Enclosing}
 
 -- a class is marked, or is one of those that are left
-unfoldable pub met : List ℕ → ℕ → List ℕ → Bool
-met row t more = eqb (get_or row t 0) 1 || elem t more
+unfoldable pub met : List Bool → ℕ → List ℕ → Bool
+met row t more = get_or row t false || elem t more
 
 -- one of those that are left is marked
-mark_one : (row : List ℕ) (d t : ℕ) (more : List ℕ) → d < length row → met (set row d 1) t more ≡ met row t (d ∷ more)
+mark_one : (row : List Bool) (d t : ℕ) (more : List ℕ) → d < length row → met (set row d true) t more ≡ met row t (d ∷ more)
 unfolding met elem any
 mark_one row d t more l = go (ℕ_discrete t d)
   where
-    go : Dec (t ≡ d) → met (set row d 1) t more ≡ met row t (d ∷ more)
-    go (yes q) = rw (q, get_or-set_same row d 1 0 l, eq-eqb d d refl, or-true (eqb (get_or row d 0) 1))
-    go (no q) = rw (get_or-set_other row d t 1 0 q, ne_eqb t d q)
+    go : Dec (t ≡ d) → met (set row d true) t more ≡ met row t (d ∷ more)
+    go (yes q) = rw (q, get_or-set_same row d true false l, eq-eqb d d refl, or-true (get_or row d false))
+    go (no q) = rw (get_or-set_other row d t true false q, ne_eqb t d q)
 
 -- the encloser that stands in a class's CLASS record
 pub encloser_is : {h : Head} {q g : Group} → h ≡ head_of (class_record q) → q ≡ g → h.encloser ≡ optional (encloser (class_record g))
 encloser_is eh eq = ap (λ (h : Head). h.encloser) eh ∙ ap (λ (q : Group). optional (encloser (class_record q))) eq
 
 -- the walk from c is at class e and may go up `left` times
-pub record Rising (p : Pair) (c e left : ℕ) (row : List ℕ) : Type 0 where
+pub record Rising (p : Pair) (c e left : ℕ) (row : List Bool) : Type 0 where
   pub there : e < count p
   pub long : length row ≡ 256
   pub same : (t : ℕ) → t < count p → met row t (enclosers_in (groups p) left e) ≡ elem t (c ∷ enclosers (groups p) c)
@@ -73,26 +73,29 @@ module _ (p : Pair) where
       let o = one_record (groups p e) (group_one_class p.library p.user e h) in
       rw (o, append-nil (unless_none (encloser (class_record (groups p e))))) (gathered (encloser (class_record (groups p e))) (enclosers_in (groups p) left))
 
-module _ {marks : List ℕ} (z : marks ≡ replicate 256 0) where
-  room : length marks ≡ 256
-  room = ap length z ∙ length-replicate {A = ℕ} 256 0
+-- no class is marked
+abbrev unmarked : List Bool
+unmarked = replicate 256 false
 
-  unmarked : (p : Pair) (c t : ℕ) → t < 256 → met marks t (c ∷ enclosers_in (groups p) (c + 1) c) ≡ elem t (c ∷ enclosers (groups p) c)
-  unfolding met enclosers
-  unmarked p c t l = let e : c + 1 ≡ suc c = omega arith in rw (z, get_or-replicate {A = ℕ} 256 t 0 0 l, e)
+room : length unmarked ≡ 256
+room = length-replicate {A = Bool} 256 false
 
-  pub rising_start : {p : Pair} {c left : ℕ} → count p ≤ 256 → c < count p → left ≡ c + 1 → Rising p c c left (set marks c 1)
-  rising_start {p} {c} few h el = rw el (record {
-    there = h;
-    long = length-set marks c 1 ∙ room;
-    same = λ t l. mark_one marks c t _ (omega (arith, room)) ∙ unmarked p c t (omega arith);
-  })
+all_left : (p : Pair) (c t : ℕ) → t < 256 → met unmarked t (c ∷ enclosers_in (groups p) (c + 1) c) ≡ elem t (c ∷ enclosers (groups p) c)
+unfolding met enclosers
+all_left p c t l = let e : c + 1 ≡ suc c = omega arith in rw (get_or-replicate {A = Bool} 256 t false false l, e)
 
-module _ {p : Pair} {c e left : ℕ} {marks : List ℕ} (few : count p ≤ 256) (r : Rising p c e left marks) where
+pub rising_start : {p : Pair} {c left : ℕ} → count p ≤ 256 → c < count p → left ≡ c + 1 → Rising p c c left (set (replicate 256 false) c true)
+rising_start {p} {c} few h el = rw el (record {
+  there = h;
+  long = length-set unmarked c true ∙ room;
+  same = λ t l. mark_one unmarked c t _ (omega (arith, room)) ∙ all_left p c t (omega arith);
+})
+
+module _ {p : Pair} {c e left : ℕ} {marks : List Bool} (few : count p ≤ 256) (r : Rising p c e left marks) where
   -- none is left
   over : ((t : ℕ) → t < count p → met marks t [] ≡ elem t (c ∷ enclosers (groups p) c)) → Enclosing p c marks
   unfolding met elem any
-  over f = record { long = omega (arith, r.long); marks = λ t l. sym (or-false (eqb (get_or marks t 0) 1)) ∙ f t l }
+  over f = record { long = omega (arith, r.long); marks = λ t l. sym (or-false (get_or marks t false)) ∙ f t l }
 
   pub rising_end : left ≤ 0 → Enclosing p c marks
   unfolding enclosers_in
@@ -115,10 +118,10 @@ module _ {p : Pair} {c e left : ℕ} {marks : List ℕ} (few : count p ≤ 256) 
       unfolding named
       here t h = rw q at (from t h)
 
-      pub rising_step : up < count p → Rising p c up m (set marks up 1)
+      pub rising_step : up < count p → Rising p c up m (set marks up true)
       rising_step h = record {
         there = h;
-        long = length-set marks up 1 ∙ r.long;
+        long = length-set marks up true ∙ r.long;
         same = λ t l. mark_one marks up t _ (omega (arith, r.long)) ∙ here t l;
       }
 

@@ -108,10 +108,10 @@ pub record Heads (p : Pair) (row : List Asked) : Type 0 where
   pub locals : (d : ℕ) → d < library_count p → length (of_kind LOCAL (groups p d)) ≡ 0
   pub members : (d : ℕ) → library_count p ≤ d → d < count p → length (of_kind MEMBER (groups p d)) ≡ 0
 
--- the row has 1 at class c and its enclosers, and at none else of the classes
-pub record Enclosing (p : Pair) (c : ℕ) (row : List ℕ) : Type 0 where
+-- the row marks class c and its enclosers, and none else of the classes
+pub record Enclosing (p : Pair) (c : ℕ) (row : List Bool) : Type 0 where
   pub long : count p ≤ length row
-  pub marks : (t : ℕ) → t < count p → eqb (get_or row t 0) 1 ≡ elem t (c ∷ enclosers (groups p) c)
+  pub marks : (t : ℕ) → t < count p → get_or row t false ≡ elem t (c ∷ enclosers (groups p) c)
 
 -- ---- the whole
 

@@ -141,19 +141,19 @@ impl<'a> Lookup<'a> {
     }
 
     // A USES of class c; the marks are those of the class and its enclosers.
-    fn uses_fits(&self, marks: &[u8; CLASS_LIMIT], class: usize, index: usize) -> Result<(), Reason>
+    fn uses_fits(&self, marks: &[bool; CLASS_LIMIT], class: usize, index: usize) -> Result<(), Reason>
         ensures { (c : ℕ) → Enclosing self.now.sheets.now c marks.now
             → number_of result ≡ first_met (uses_tests self.now.sheets.now c class index) }
     {
         self.index_there(Side::User, class, index)?;
-        Reason::WrongSort.unless(marks[class] == 1)
+        Reason::WrongSort.unless(marks[class])
     }
 
     /// A record of class c; the marks are those of the class and its enclosers.
     pub fn record_fits(
         &self,
         c: usize,
-        marks: &[u8; CLASS_LIMIT],
+        marks: &[bool; CLASS_LIMIT],
         record: &Record,
     ) -> Result<(), Reason>
         requires there { c < count self.now.sheets.now }

@@ -11,7 +11,6 @@ mod fits;
 mod lookup;
 
 use lookup::Lookup;
-use records::CLASS_LIMIT;
 use refusals::Refusal;
 use sheets::Sheets;
 
@@ -22,8 +21,7 @@ fn class_pass(lookup: &Lookup, c: usize) -> Result<(), Refusal>
     ensures { Answers (class_refusal lookup.now.sheets.now c) result (λ _. Unit {0}) }
 {
     let sheets = lookup.sheets;
-    let mut marks = [0; CLASS_LIMIT];
-    lookup.mark_enclosers(c, &mut marks);
+    let marks = lookup.enclosing(c);
     let mut byte = sheets.start(c);
     for record in sheets.group(c).records() {
         if let Err(reason) = lookup.record_fits(c, &marks, &record) {

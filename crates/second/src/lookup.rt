@@ -1,5 +1,5 @@
 // What records ask of the classes that they name: it stands in rows, so that no sheet is read for it again.
-ghost use Rattle.std.specs.Prelude.{◌≡◌, ◌<◌, replicate};
+ghost use Rattle.std.specs.Prelude.{◌≡◌, ◌<◌};
 ghost use Rattle.sheets.specs.Sheets.{Passed, count, groups};
 ghost use Rattle.fingerprints.specs.Fingerprints.{Printed};
 ghost use Rattle.second.specs.Second.{Heads, Enclosing, indexed_kind, asked_of};
@@ -72,24 +72,25 @@ impl<'a> Lookup<'a> {
         }
     }
 
-    /// Marks class c and its enclosers by 1 in a row of zeros, so that a USES asks by one comparison.
-    pub fn mark_enclosers(&self, c: usize, marks: &mut [u8; CLASS_LIMIT])
+    /// Marks class c and its enclosers in a row, so that a USES asks by one look.
+    pub fn enclosing(&self, c: usize) -> [bool; CLASS_LIMIT]
         requires there { c < count self.now.sheets.now }
-        requires unmarked { marks.old ≡ replicate 256 0 }
-        ensures { Enclosing self.now.sheets.now c marks.new }
+        ensures { Enclosing self.now.sheets.now c result }
     {
         let sheets = self.sheets;
         let n = sheets.count();
-        marks[c] = 1;
+        let mut marks = [false; CLASS_LIMIT];
+        marks[c] = true;
         let mut at = c;
         for _ in 0..c + 1 {
             match sheets.group(at).head().encloser {
                 Some(up) if up < n => {
-                    marks[up] = 1;
+                    marks[up] = true;
                     at = up;
                 }
-                _ => return,
+                _ => break,
             }
         }
+        marks
     }
 }

@@ -58,7 +58,8 @@ impl<'a> Sheets<'a> {
 
     /// How many classes the library has.
     pub fn library_count(&self) -> usize
-        ensures { result ≡ library_count self.now }
+        ensures count { result ≡ library_count self.now }
+        ensures passed { Passed self.now }
     {
         self.index.classes.library
     }

@@ -4,7 +4,7 @@ use Rattle.captured.proofs.Seeding.{all_start, all_next, all_end}
 use Rattle.captured.proofs.seed.Goals as goal
 
 pub loop-m-init : goal.loop-m-init
-loop-m-init c = rw c.library_count-m.ensures (all_start c.count-m-end.ensures.passed _)
+loop-m-init c = rw c.library_count-m.ensures.count (all_start c.count-m-end.ensures.passed _)
 
 pub loop-m-preserved : goal.loop-m-preserved
 loop-m-preserved c = all_next c.loop-m.invariant c.seed_class.ensures

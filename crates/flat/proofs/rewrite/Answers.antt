@@ -9,11 +9,11 @@ use Rattle.flat.proofs.rewrite.Goals as goal
 use Rattle.flat.proofs.rewrite.Goals.{then-marks-c-eq0, then-clean, else-clean, else-marks-c-eq0}
 
 pub loop-c-init : goal.loop-c-init
-loop-c-init c = (rw c.library_count-first.ensures (rewrite_start _ _ _ _ _ (library_low c.args.survey.now.judging.formed.now.sheets)), ap (λ b. b.now) c.new-walk.ensures)
+loop-c-init c = (rw c.library_count-first.ensures.count (rewrite_start _ _ _ _ _ (library_low c.args.survey.now.judging.formed.now.sheets)), ap (λ b. b.now) c.new-walk.ensures)
 
 pub put-requires : goal.put-requires
 put-requires c =
-    omega (arith, lines_same c.loop-c.invariant.0 c.requires.lines, c.loop-c.invariant.0.low, c.loop-c-test.true, c.loop-c.auto.c-end, c.count-c-end.ensures.count, c.library_count-first.ensures)
+    omega (arith, lines_same c.loop-c.invariant.0 c.requires.lines, c.loop-c.invariant.0.low, c.loop-c-test.true, c.loop-c.auto.c-end, c.count-c-end.ensures.count, c.library_count-first.ensures.count)
 
 pub loop-c-preserved : goal.loop-c-preserved
 loop-c-preserved c =
@@ -27,7 +27,7 @@ loop-c-preserved c =
               | then-clean v ↦ ap line_of v.fault-is ∙ sym (clean_both _ (sym w.clean.ensures ∙ v.if-clean.true)) ∙ own_verdict p inv.0.low
               | else-clean v ↦ ap line_of v.fault-is ∙ (rw inv.1 at v.verdict_of-fault.ensures.verdict) ∙ own_verdict p inv.0.low
             ])
-            (rw c.library_count-first.ensures at (w.verdicts-is ∙ w.put.ensures)),
+            (rw c.library_count-first.ensures.count at (w.verdicts-is ∙ w.put.ensures)),
         ap (λ b. b.judging.now) w.walk-is
             ∙ elim w.if-clean.branch [
               | then-clean v ↦ ap (λ b. b.judging.now) v.walk-is ∙ inv.1

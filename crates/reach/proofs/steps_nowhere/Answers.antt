@@ -10,7 +10,7 @@ use Rattle.reach.proofs.steps_nowhere.Goals as goal
 
 pub returns-then-m-library_count : goal.returns-then-m-library_count
 returns-then-m-library_count c e =
-    rw c.in-Builds.is (nowhere (groups c.args.sheets.now) c.args.m (library_builds_none c.count-passed.ensures.passed (omega (arith, c.if-m-library_count.true, c.library_count.ensures))))
+    rw c.in-Builds.is (nowhere (groups c.args.sheets.now) c.args.m (library_builds_none c.library_count.ensures.passed (omega (arith, c.if-m-library_count.true, c.library_count.ensures.count))))
 
 pub returns-else-m-library_count : goal.returns-else-m-library_count
 returns-else-m-library_count c e =

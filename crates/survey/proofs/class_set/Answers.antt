@@ -12,13 +12,13 @@ head_is : (c : After-head_set-first) → c.head-head.result ≡ head_of (class_r
 head_is c = c.head-head.ensures ∙ ap (λ (h : Group). head_of (class_record h)) c.group-group.ensures
 
 first_is : (c : After-head_set-first) → let j = c.args.judging.now in HeadSet j.markers j.lanes.now c.head-head.result (library_count j.formed.now.sheets) c.args.t c.head_set-first.result
-first_is c = rw c.library_count-nlib.ensures at c.head_set-first.ensures
+first_is c = rw c.library_count-nlib.ensures.count at c.head_set-first.ensures
 
 concrete : (c : After-is_interface) → c.head-head.result ≡ head_of (class_record (groups c.args.judging.now.formed.now.sheets c.args.t)) → c.is_interface.result ≡ false
     → Concrete c.args.judging.now.formed.now.sheets c.args.t c.head-head.result
 concrete c e i = record {
   passed = c.requires.passed;
-  user_class = omega (arith, c.if-t-nlib.false, c.library_count-nlib.ensures);
+  user_class = omega (arith, c.if-t-nlib.false, c.library_count-nlib.ensures.count);
   there = c.requires.there;
   says = e;
   concrete = interface_is _ _ e c.is_interface.ensures ∙ i;
@@ -27,7 +27,7 @@ concrete c e i = record {
 pub returns-then-t-nlib : goal.returns-then-t-nlib
 returns-then-t-nlib c =
     let j = c.args.judging.now in
-    class_library _ j.formed.now.formed (omega (arith, c.if-t-nlib.true, c.library_count-nlib.ensures)) j.known (first_is (goal.at.returns-then-t-nlib c).After-head_set-first)
+    class_library _ j.formed.now.formed (omega (arith, c.if-t-nlib.true, c.library_count-nlib.ensures.count)) j.known (first_is (goal.at.returns-then-t-nlib c).After-head_set-first)
 
 pub returns-then-is_interface : goal.returns-then-is_interface
 returns-then-is_interface c =

@@ -11,15 +11,15 @@ pub loop-d-init : goal.loop-d-init
 loop-d-init c = ban_start
 
 pub group-requires : goal.group-requires
-group-requires c = omega (arith, c.loop-d-test.true, c.library_count-d-end.ensures, library_low c.args.sheets.now)
+group-requires c = omega (arith, c.loop-d-test.true, c.library_count-d-end.ensures.count, library_low c.args.sheets.now)
 
 pub loop-d-preserved : goal.loop-d-preserved
 loop-d-preserved c =
-    let few : library_count c.args.sheets.now ≤ 256 = omega (arith, c.count-passed.ensures.passed.few, library_low c.args.sheets.now) in
-    ban_next c.loop-d.invariant (omega (arith, c.loop-d-test.true, c.library_count-d-end.ensures)) few (c.of.ensures ∙ ap ban_of c.group.ensures)
+    let few : library_count c.args.sheets.now ≤ 256 = omega (arith, c.library_count-d-end.ensures.passed.few, library_low c.args.sheets.now) in
+    ban_next c.loop-d.invariant (omega (arith, c.loop-d-test.true, c.library_count-d-end.ensures.count)) few (c.of.ensures ∙ ap ban_of c.group.ensures)
 
 pub returns : goal.returns
 returns c =
-    let few : library_count c.args.sheets.now ≤ 256 = omega (arith, c.count-passed.ensures.passed.few, library_low c.args.sheets.now) in
-    let e : c.loop-d.d ≡ library_count c.args.sheets.now = omega (arith, c.loop-d-test.false, c.loop-d.auto.d-end, c.library_count-d-end.ensures) in
+    let few : library_count c.args.sheets.now ≤ 256 = omega (arith, c.library_count-d-end.ensures.passed.few, library_low c.args.sheets.now) in
+    let e : c.loop-d.d ≡ library_count c.args.sheets.now = omega (arith, c.loop-d-test.false, c.loop-d.auto.d-end, c.library_count-d-end.ensures.count) in
     ban_end few (subst (Banning (library_count c.args.sheets.now) (groups c.args.sheets.now) c.loop-d.row) e c.loop-d.invariant)

@@ -9,7 +9,7 @@ use Rattle.breaks.proofs.early.refers_forbidden.Goals as goal
 pub returns-then-not-partial : goal.returns-then-not-partial
 returns-then-not-partial c =
     refers_open c.requires.refers (is_of _ c.body.result c.body.ensures (ap body_kind c.in-Refers.is)) c.in-Refers.ensures.1 c.requires.bans
-    (subst (λ (k : ℕ). Partial k c.args.banned.now c.in-Refers.class c.partial.result) c.library_count.ensures c.partial.ensures) (ap not c.if-not-partial.true)
+    (subst (λ (k : ℕ). Partial k c.args.banned.now c.in-Refers.class c.partial.result) c.library_count.ensures.count c.partial.ensures) (ap not c.if-not-partial.true)
 
 pub returns : goal.returns
 returns c =

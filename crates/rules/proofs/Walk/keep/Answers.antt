@@ -23,7 +23,7 @@ next c =
     let j = c.args.self.now.judging.now in
     let e = rw c.in-Some.is at c.loop-next.invariant.1 in
     let s = ap (λ (h : Head). h.superclass) c.head-next.ensures ∙ ap (λ (g : Group). optional (superclass (class_record g))) c.group.ensures in
-    keep_next j.formed.now.sheets (ground c.count-passed.ensures.passed j.formed.now.formed) e (rw c.library_count-nlib.ensures at c.if-t-nlib.false) s
+    keep_next j.formed.now.sheets (ground c.library_count-nlib.ensures.passed j.formed.now.formed) e (rw c.library_count-nlib.ensures.count at c.if-t-nlib.false) s
 
 pub loop-next-smaller : goal.loop-next-smaller
 loop-next-smaller c = omega (arith, (next c).1, ap rank c.in-Some.is)

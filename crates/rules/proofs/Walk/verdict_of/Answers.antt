@@ -26,20 +26,20 @@ loop-rule-init c = (refl, rule_start)
 pub loop-next-init : goal.loop-next-init
 loop-next-init c =
     let j = c.args.self.now.judging.now in
-    let w = ground c.count-passed.ensures.passed j.formed.now.formed in
+    let w = ground c.library_count-nlib.ensures.passed j.formed.now.formed in
     let begins = class_start w c.requires.user_class c.requires.there _ c.first_class-first.ensures in
     (climb_at j.formed.now.sheets w c.requires.user_class c.requires.there (rw c.loop-rule.invariant.0 at c.loop-rule.self.is_kept) _ _ begins c.climb-next.ensures).0
 
 pub climb-next-requires : goal.climb-next-requires
 climb-next-requires c =
     let j = c.args.self.now.judging.now in
-    let w = ground c.count-passed.ensures.passed j.formed.now.formed in
+    let w = ground c.library_count-nlib.ensures.passed j.formed.now.formed in
     rw c.loop-rule.invariant.0 (below w c.requires.user_class c.requires.there _ (class_start w c.requires.user_class c.requires.there _ c.first_class-first.ensures).spot)
 
 pub group-group-requires : goal.group-group-requires
 group-group-requires c =
     let j = c.args.self.now.judging.now in
-    let w = ground c.count-passed.ensures.passed j.formed.now.formed in
+    let w = ground c.library_count-nlib.ensures.passed j.formed.now.formed in
     below w c.requires.user_class c.requires.there (Some c.in-Some.t) (rw c.in-Some.is at c.loop-next.invariant.spot)
 
 pub loop-number-init : goal.loop-number-init
@@ -52,7 +52,7 @@ loop-number-init c =
 pub breaks-requires : goal.breaks-requires
 breaks-requires c =
     let j = c.args.self.now.judging.now in
-    let w = ground c.count-passed.ensures.passed j.formed.now.formed in
+    let w = ground c.library_count-nlib.ensures.passed j.formed.now.formed in
     let s = c.in-Some-2.ensures.steps in
     let f = rw (← s.1) at c.loop-number.invariant.2 in
     record {
@@ -67,16 +67,16 @@ pub place-record-requires : goal.place-record-requires
 place-record-requires c =
     let s = c.in-Some-2.ensures.steps in
     let f = rw (← s.1) at c.loop-number.invariant.2 in
-    omega (arith, record_few f s.0, group_few (indexed c.count-passed.ensures.passed) c.in-Some.t)
+    omega (arith, record_few f s.0, group_few (indexed c.library_count-nlib.ensures.passed) c.in-Some.t)
 
 pub loop-number-preserved : goal.loop-number-preserved
 loop-number-preserved c =
     let s = c.in-Some-2.ensures.steps in
     let f = rw (← s.1) at c.loop-number.invariant.2 in
-    let alone = rw c.library_count-nlib.ensures at c.first_only-alone.ensures in
+    let alone = rw c.library_count-nlib.ensures.count at c.first_only-alone.ensures in
     let j : c.next.new.self.count ≡ c.in-Some-2.number + 1 = omega (arith, s.1, s.2) in
     let next = record_next f s.0 (sym c.breaks.ensures ∙ c.if-breaks.false) (sym alone ∙ c.if-alone.false) j in
-    ((tt, tt, inl (omega (arith, record_left next, record_few f s.0, group_few (indexed c.count-passed.ensures.passed) c.in-Some.t))), tt, next)
+    ((tt, tt, inl (omega (arith, record_left next, record_few f s.0, group_few (indexed c.library_count-nlib.ensures.passed) c.in-Some.t))), tt, next)
 
 -- all records of the class are asked, or the first alone is
 past : (c : After-next_class)
@@ -86,7 +86,7 @@ past c = elim c.match-next-2.branch [
   | in-Some-2+else-breaks+then-alone w ↦
       let s = w.in-Some-2.ensures.steps in
       let f = rw (← s.1) at c.loop-number.invariant.2 in
-      let alone = rw c.library_count-nlib.ensures at c.first_only-alone.ensures in
+      let alone = rw c.library_count-nlib.ensures.count at c.first_only-alone.ensures in
       record_only f s.0 (sym w.breaks.ensures ∙ w.if-breaks.false) (sym alone ∙ w.if-alone.true)
 ]
 
@@ -96,14 +96,14 @@ next : (c : After-next_class)
     × (left c.args.c c.next_class.result < left c.args.c (Some c.in-Some.t))
 next c =
     let j = c.args.self.now.judging.now in
-    let w = ground c.count-passed.ensures.passed j.formed.now.formed in
-    let e = rw (c.library_count-nlib.ensures, c.group-group.ensures) at c.next_class.ensures in
+    let w = ground c.library_count-nlib.ensures.passed j.formed.now.formed in
+    let e = rw (c.library_count-nlib.ensures.count, c.group-group.ensures) at c.next_class.ensures in
     class_next w c.requires.user_class c.requires.there (past c) (rw c.in-Some.is at c.loop-next.invariant.spot) e
 
 pub climb-next-requires-in-Some : goal.climb-next-requires-in-Some
 climb-next-requires-in-Some c =
     let j = c.args.self.now.judging.now in
-    let w = ground c.count-passed.ensures.passed j.formed.now.formed in
+    let w = ground c.library_count-nlib.ensures.passed j.formed.now.formed in
     rw c.loop-rule.invariant.0 (below w c.requires.user_class c.requires.there _ (next c).0.spot)
 
 -- or the class that is judged
@@ -112,7 +112,7 @@ upward : (c : After-climb-next-in-Some)
     × (left c.args.c c.climb-next-in-Some.result < left c.args.c (Some c.in-Some.t))
 upward c =
     let j = c.args.self.now.judging.now in
-    let w = ground c.count-passed.ensures.passed j.formed.now.formed in
+    let w = ground c.library_count-nlib.ensures.passed j.formed.now.formed in
     let n = next (goal.at.After-climb-next-in-Some c).After-next_class in
     let u = climb_at j.formed.now.sheets w c.requires.user_class c.requires.there (rw c.loop-rule.invariant.0 at c.loop-rule.self.is_kept) _ _ n.0 c.climb-next-in-Some.ensures in
     (u.0, omega (arith, n.1, u.1))
@@ -127,7 +127,7 @@ pub keep-requires : goal.keep-requires
 keep-requires c =
     let j = c.args.self.now.judging.now in
     let p = j.formed.now.sheets in
-    let w = ground c.count-passed.ensures.passed j.formed.now.formed in
+    let w = ground c.library_count-nlib.ensures.passed j.formed.now.formed in
     let first = rw c.in-Late.is at c.first_class-first.ensures in
     let past = rw (c.in-Late.is, c.in_default.is) at c.loop-next.invariant in
     rw c.loop-rule.invariant.0
@@ -136,7 +136,7 @@ keep-requires c =
 pub loop-rule-preserved : goal.loop-rule-preserved
 loop-rule-preserved c =
     let j = c.args.self.now.judging.now in
-    let w = ground c.count-passed.ensures.passed j.formed.now.formed in (
+    let w = ground c.library_count-nlib.ensures.passed j.formed.now.formed in (
       elim c.match-rule.branch [
         | in-Late w ↦ ap (λ (s : Walk). s.judging) w.self-is ∙ w.keep.ensures ∙ c.loop-rule.invariant.0
         | in_default-rule w ↦ ap (λ (s : Walk). s.judging) w.self-is ∙ c.loop-rule.invariant.0
@@ -147,7 +147,7 @@ loop-rule-preserved c =
 pub returns-then-breaks-clause-verdict : goal.returns-then-breaks-clause-verdict
 returns-then-breaks-clause-verdict c =
     let j = c.args.self.now.judging.now in
-    let w = ground c.count-passed.ensures.passed j.formed.now.formed in
+    let w = ground c.library_count-nlib.ensures.passed j.formed.now.formed in
     let s = c.in-Some-2.ensures.steps in
     let f = rw (← s.1) at c.loop-number.invariant.2 in
     record_hit f s.0 w c.requires.user_class c.requires.there (sym c.breaks.ensures ∙ c.if-breaks.true) c.place-record.ensures refl c.loop-rule-test.true c.loop-rule.invariant.1
@@ -155,4 +155,4 @@ returns-then-breaks-clause-verdict c =
 pub returns-after-loop-rule-clause-verdict : goal.returns-after-loop-rule-clause-verdict
 returns-after-loop-rule-clause-verdict c =
     let j = c.args.self.now.judging.now in
-    sym (rule_end (ground c.count-passed.ensures.passed j.formed.now.formed) c.requires.user_class c.requires.there c.loop-rule.invariant.1 c.loop-rule-test.false)
+    sym (rule_end (ground c.library_count-nlib.ensures.passed j.formed.now.formed) c.requires.user_class c.requires.there c.loop-rule.invariant.1 c.loop-rule-test.false)

@@ -18,7 +18,7 @@ told : (c : After-has) → c.has.result ≡ not (head_slots (library_count c.arg
 told c =
     let j = c.args.self.now in
     marker_in c.args.rule c.head_set-set.result c.set.ensures.0 c.has.ensures
-    ∙ head_is j.formed.now.sheets c.requires.there c.requires.head j.known j.shown (rw c.library_count-nlib.ensures at c.head_set-set.ensures) c.args.rule
+    ∙ head_is j.formed.now.sheets c.requires.there c.requires.head j.known j.shown (rw c.library_count-nlib.ensures.count at c.head_set-set.ensures) c.args.rule
 
 pub returns-then-not-has : goal.returns-then-not-has
 returns-then-not-has c = let p = goal.at.returns-then-not-has c in head_lacks _ _ _ _ _ (told p.After-has) (ap not c.if-not-has.true)

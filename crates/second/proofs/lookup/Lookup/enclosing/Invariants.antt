@@ -1,6 +1,6 @@
 use Rattle.std.proofs.Common.{◌+◌, ◌-◌}
 use Rattle.second.proofs.Enclosing.{Rising}
-use Rattle.second.proofs.lookup.Lookup.mark_enclosers.Given as goal
+use Rattle.second.proofs.lookup.Lookup.enclosing.Given as goal
 
 -- the walk is at a class, with as many steps left
 abbrev pub invariant-loop : goal.invariant-loop

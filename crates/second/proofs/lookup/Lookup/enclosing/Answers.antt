@@ -1,9 +1,9 @@
 use Rattle.std.proofs.Common.{◌+◌, ◌-◌, arith}
 use Rattle.second.proofs.Enclosing.{encloser_is, rising_start, rising_step, rising_stop, rising_none, rising_end}
-use Rattle.second.proofs.lookup.Lookup.mark_enclosers.Goals as goal
+use Rattle.second.proofs.lookup.Lookup.enclosing.Goals as goal
 
 pub loop-init : goal.loop-init
-loop-init c = rising_start c.requires.unmarked c.count-n.ensures.passed.few c.requires.there (omega arith)
+loop-init c = rising_start c.count-n.ensures.passed.few c.requires.there (omega arith)
 
 pub returns-in_default : goal.returns-in_default
 returns-in_default c =
@@ -20,5 +20,5 @@ loop-preserved c =
     let k = c.args.c + 1 - (c.loop.counter + 1) in
     rising_step c.count-n.ensures.passed.few c.loop.invariant k (omega arith) (encloser_is c.head.ensures c.group.ensures) c.in-Some.is (omega arith)
 
-pub returns : goal.returns
-returns c = rising_end c.count-n.ensures.passed.few c.loop.invariant (omega arith)
+pub returns-after-loop : goal.returns-after-loop
+returns-after-loop c = rising_end c.count-n.ensures.passed.few c.loop.invariant (omega arith)
