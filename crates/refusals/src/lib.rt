@@ -7,8 +7,8 @@ ghost use Rattle.refusals.specs.Refusals.{reason_number, sheet_number, unless};
 /// A sheet of the two.
 #[derive(Clone, Copy, PartialEq, Eq, Debug)]
 pub enum Side {
-    Library,
-    User,
+    Library = 0,
+    User = 1,
 }
 
 impl Side {
@@ -16,10 +16,7 @@ impl Side {
     pub fn number(self) -> u8
         ensures { result ≡ sheet_number self }
     {
-        match self {
-            Side::Library => 0,
-            Side::User => 1,
-        }
+        self as u8
     }
 }
 
@@ -27,39 +24,39 @@ impl Side {
 #[derive(Clone, Copy, PartialEq, Eq, Debug)]
 pub enum Reason {
     /// A sheet is too long, or the used length passes the buffer.
-    TooLong,
+    TooLong = 1,
     /// The bytes end within a record.
-    Torn,
+    Torn = 2,
     /// A kind that is unknown, or belongs in the other sheet.
-    WrongKind,
+    WrongKind = 3,
     /// A length that the kind cannot have.
-    WrongLength,
+    WrongLength = 4,
     /// A flag, a type or a name byte that is not defined.
-    WrongBody,
+    WrongBody = 5,
     /// A record before the first class.
-    NoClassYet,
+    NoClassYet = 6,
     /// Too many classes or records, or a library without classes.
-    WrongCount,
+    WrongCount = 7,
     /// A superclass, encloser, interface or variable that is not of the right sort.
-    WrongSort,
+    WrongSort = 8,
     /// A class, variable or member that is not there.
-    NotThere,
+    NotThere = 9,
     /// A class name that was there before.
-    NameTwice,
+    NameTwice = 10,
     /// Library markers that contradict each other, or a marked class 0.
-    Deemed,
+    Deemed = 11,
     /// A verdict row or scratch that is too short.
-    TooShort,
+    TooShort = 12,
     /// No such class.
-    NoSuchClass,
+    NoSuchClass = 13,
     /// A group that is not one class with its records.
-    NoGroup,
+    NoGroup = 14,
     /// No room for what is to be written.
-    NoRoom,
+    NoRoom = 15,
     /// A record of a lower kind than the one before it.
-    OutOfOrder,
+    OutOfOrder = 16,
     /// Another class names the one that would be withdrawn.
-    Named,
+    Named = 17,
 }
 
 impl Reason {
@@ -67,25 +64,7 @@ impl Reason {
     pub fn number(self) -> u8
         ensures { result ≡ reason_number self }
     {
-        match self {
-            Reason::TooLong => 1,
-            Reason::Torn => 2,
-            Reason::WrongKind => 3,
-            Reason::WrongLength => 4,
-            Reason::WrongBody => 5,
-            Reason::NoClassYet => 6,
-            Reason::WrongCount => 7,
-            Reason::WrongSort => 8,
-            Reason::NotThere => 9,
-            Reason::NameTwice => 10,
-            Reason::Deemed => 11,
-            Reason::TooShort => 12,
-            Reason::NoSuchClass => 13,
-            Reason::NoGroup => 14,
-            Reason::NoRoom => 15,
-            Reason::OutOfOrder => 16,
-            Reason::Named => 17,
-        }
+        self as u8
     }
 
     /// Refuses for the reason unless something holds.
