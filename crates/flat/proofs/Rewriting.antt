@@ -1,6 +1,6 @@
 -- The row while verdicts are written, class by class.
 -- Assumes nothing.
-use mathlib.Core.Path.{◌≡◌, refl, sym, ap, ap₂, ◌∙◌, subst}
+use mathlib.Core.Path.{◌≡◌, refl, sym, ap, ap₂, ◌∙◌}
 use mathlib.Core.Bool.{Bool, true, false, ◌&&◌}
 use mathlib.Core.List.{List}
 use Prim.Native.Nat.{ℕ, ◌+◌, ◌-◌, ◌≤◌, ◌<◌}
@@ -80,9 +80,6 @@ module _ {nlib n : ℕ} {v : ℕ → Verdict} {marks before row : List ℕ} {c :
             ∙ rewritten_more v before (chosen nlib c marks) (chosen nlib (c + 1) marks) (c - nlib) (omega (arith, f.low)) (true_t (here nlib c marks (c - nlib) z q))
             (λ k ne. others nlib c marks k (λ z. ne (omega (arith, z))));
       }
-
-  pub rewrite_end : n ≤ c → row ≡ flat_rewritten (chosen nlib n marks) v before
-  rewrite_end h = let e : c ≡ n = omega (arith, f.high) in subst (λ (k : ℕ). row ≡ flat_rewritten (chosen nlib k marks) v before) e f.now
 
 -- the verdict of a user class is that of its place in the row
 pub own_verdict : (p : Pair) {c : ℕ} → library_count p ≤ c → verdict_of (library_count p) (groups p) c ≡ user_verdict p.library p.user (c - library_count p)

@@ -1,36 +1,18 @@
--- The deemed markers of one class, and the walk over the library classes that stops at the first class refused.
+-- The walk over the library classes that stops at the first class refused.
 -- Assumes nothing.
 use mathlib.Core.Path.{◌≡◌, refl, sym, ap, ◌∙◌}
-use mathlib.Core.Bool.{Bool, true, false, not}
+use mathlib.Core.Bool.{Bool, true, false}
 use mathlib.Core.List.{List}
 use Prim.Native.Nat.{ℕ, suc, ◌+◌, ◌-◌, ◌≤◌, ◌<◌, min}
 use native.Mathlib.Nat.{le_refl}
 use native.Mathlib.Omega.{arith}
-use lib.Dec.{eqb}
 use lib.ListN.{set, replicate}
-use borrow.Author.Tests.{eq-eqb, ne_eqb}
 use Rattle.std.specs.Prelude.{Option, None, Some}
 use Rattle.spec.specs.Sheet.{Group}
-use Rattle.spec.specs.Markers.{clash}
 use Rattle.spec.specs.Classes.{overlay}
 use Rattle.overlay.specs.Memo.{raw, memo_of, Knows}
 use Rattle.overlay.proofs.Memos.{memo_none, memo_asks, memo_asked}
 use Rattle.form.specs.Form.{deemed_breaks, deemed_from, first_deemed}
-
--- ---- one class
-
-module _ (c m : ℕ) {b : Bool} (e : b ≡ clash m) where
-  pub breaks_clash : b ≡ true → true ≡ deemed_breaks c m
-  unfolding deemed_breaks
-  breaks_clash t = rw (sym e ∙ t)
-
-  pub breaks_zero : b ≡ false → c ≡ 0 → not (eqb m 0) ≡ deemed_breaks c m
-  unfolding deemed_breaks
-  breaks_zero f z = rw (sym e ∙ f, eq-eqb c 0 z)
-
-  pub breaks_other : b ≡ false → (c ≡ 0 → ⊥) → false ≡ deemed_breaks c m
-  unfolding deemed_breaks
-  breaks_other f z = rw (sym e ∙ f, ne_eqb c 0 z)
 
 -- ---- the walk
 

@@ -38,9 +38,6 @@ module _ {library user : List ℕ} {nlib n : ℕ} {row : List ℕ} (x : Indexed 
   pub library_bytes_lem : c < nlib → take (end - start) (drop start library) ≡ concat (group library user c)
   library_bytes_lem h = ap (λ (s : List ℕ). take (end - start) (drop start s)) (sym (in_library x h).is) ∙ part_is
 
-  pub user_within : nlib ≤ c → end ≤ length user
-  user_within h = omega (arith, ee, (group_tiled x hn).within, ap length (in_user x h hn).is)
-
   pub user_bytes_lem : nlib ≤ c → take (end - start) (drop start user) ≡ concat (group library user c)
   user_bytes_lem h = ap (λ (s : List ℕ). take (end - start) (drop start s)) (sym (in_user x h hn).is) ∙ part_is
 

@@ -7,7 +7,7 @@ use Prim.Native.Nat.{ℕ, ◌≤◌}
 use native.Mathlib.Omega.{arith}
 use lib.ListN.{length}
 use borrow.Author.Tests.{ne_eqb}
-use Rattle.spec.specs.Sheet.{Group, groups_of, class_count, total, group}
+use Rattle.spec.specs.Sheet.{Group, groups_of, class_count, group}
 use Rattle.spec.specs.Refusals.{form_refusal}
 use Rattle.laws.proofs.Bools.{false_t}
 use Rattle.laws.proofs.All.{all_append, all_get}
@@ -21,11 +21,6 @@ group_few {library} {user} x c =
     let a = groups_few 0 0 library x.library_clear.passed in
     let b = groups_few 1 (class_count library) user x.user_clear.passed in
     all_get {A = Group} (λ g. length g ≤ 255) [] (groups_of library ++ groups_of user) (all_append (λ g. length g ≤ 255) (groups_of library) (groups_of user) a b) (omega arith) c
-
--- the library's classes come first
-pub classes_ordered : {library user : List ℕ} {nlib n : ℕ} {row : List ℕ} → Indexed library user nlib n row → nlib ≤ n
-unfolding total
-classes_ordered x = omega (arith, x.nlib_is, x.n_is)
 
 -- both sheets passed both passes
 pub indexed_sound : {library user : List ℕ} {nlib n : ℕ} {row : List ℕ} → Indexed library user nlib n row → form_refusal library user ≡ none → Sound library user

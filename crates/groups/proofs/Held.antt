@@ -1,11 +1,10 @@
 -- Where the group of a class stands in the sheet that holds it, what stands in its CLASS record, and where the next group begins.
 -- Assumes nothing.
-use mathlib.Core.Path.{◌≡◌, refl, sym, ap, ap₂, ◌∙◌}
+use mathlib.Core.Path.{◌≡◌, refl, sym, ap, ◌∙◌}
 use mathlib.Core.Bool.{not}
 use mathlib.Core.List.{List, [], ◌∷◌, ◌++◌}
 use mathlib.Core.Logic.{◌⊎◌, inl, inr}
 use Prim.Native.Nat.{ℕ, suc, ◌+◌, ◌-◌, ◌≤◌, ◌<◌}
-use native.Mathlib.Nat.{add-zero}
 use native.Mathlib.Omega.{arith}
 use lib.Dec.{T, T_not, eqb, leb, ltb, eqb→eq, leb→le, ltb→lt, nltb→le}
 use lib.ListN.{length, get_or, take, drop, length-append, get_or-append}
@@ -18,7 +17,7 @@ use Rattle.spec.specs.Refusals.{one_class}
 use Rattle.theory.specs.Claims.{sheet_of}
 use Rattle.laws.proofs.All.{All, all_append, all_get, all_at}
 use Rattle.laws.proofs.Bools.{decide, and_l, and_r, eq→eqb}
-use Rattle.laws.proofs.Parts.{part_length, part_word}
+use Rattle.laws.proofs.Parts.{part_length}
 use Rattle.theory.proofs.Cut.{Whole, records_of_whole, concat_append, in_groups, split_parts}
 use Rattle.theory.proofs.Accept.{each_record, Clear}
 use Rattle.theory.proofs.Form.{class_first}
@@ -227,25 +226,3 @@ module _ {library user : List ℕ} {nlib n : ℕ} {row : List ℕ} (x : Indexed 
 
   pub class_there : start_of library user c < end_of library user c
   class_there = omega (arith, class_long, class_room)
-
-  class_record_lem : class_record (group library user c)
-      ≡ take (u16 (sheet_of library user (sheet_number nlib c)) (start_of library user c)) (drop (start_of library user c) (sheet_of library user (sheet_number nlib c)))
-  class_record_lem = by_sheet _ (λ s i k. rw (k.is, k.start, k.its) (class_here k.clear i k.there))
-
-  class_size : length (class_record (group library user c)) ≡ u16 (sheet_of library user (sheet_number nlib c)) (start_of library user c)
-  class_size = by_sheet _ (λ s i k. rw (k.is, k.start, k.its) (class_long_here k.clear i k.there))
-
-  pub class_word : {sheet at : ℕ} → sheet ≡ sheet_number nlib c → at ≡ start_of library user c → (j : ℕ) → j + 1 < length (class_record (group library user c))
-      → u16 (sheet_of library user sheet) (at + j) ≡ u16 (class_record (group library user c)) j
-  class_word es ea j l =
-      let s = sheet_of library user (sheet_number nlib c) in
-      let start = start_of library user c in
-      ap₂ (λ (k i : ℕ). u16 (sheet_of library user k) (i + j)) es ea
-      ∙ sym (part_word s start (u16 s start) j (omega (arith, class_size)))
-      ∙ ap (λ (r : List ℕ). u16 r j) (sym class_record_lem)
-
-  -- its own length stands first in it
-  pub size_read : {len : ℕ} → len ≡ u16 (class_record (group library user c)) 0 → len ≡ length (class_record (group library user c))
-  size_read e =
-      e ∙ sym (class_word refl refl 0 (omega (arith, class_long)))
-      ∙ ap (u16 (sheet_of library user (sheet_number nlib c))) (add-zero (start_of library user c)) ∙ sym class_size

@@ -1,6 +1,6 @@
 -- The bytes from the start of a group on, how long that group is and that its records are the bytes; and how many classes a sheet has.
 -- Assumes nothing.
-use mathlib.Core.Path.{◌≡◌, refl, sym, ap, ap₂, ◌∙◌, subst}
+use mathlib.Core.Path.{◌≡◌, refl, sym, ap, ◌∙◌, subst}
 use mathlib.Core.Bool.{Bool, true, false}
 use mathlib.Core.List.{List, [], ◌∷◌}
 use mathlib.Core.Option.{none}
@@ -16,16 +16,15 @@ use Rattle.spec.specs.Record.{is_class, length_fits, CLASS}
 use Rattle.spec.specs.Sheet.{Group, Split, records_of, whole_end, split_groups, groups_of, class_count, group_start, total, of_kind}
 use Rattle.spec.specs.Refusals.{present_refusal}
 use Rattle.theory.specs.Claims.{first_length, running}
-use Rattle.laws.proofs.All.{All, all_get, keep_yes, keep_no}
-use Rattle.theory.proofs.Cut.{Whole, records_of_whole, split_class, split_other}
+use Rattle.laws.proofs.All.{All, keep_yes, keep_no}
+use Rattle.theory.proofs.Cut.{split_class, split_other}
 use Rattle.theory.proofs.Accept.{Clear, Sound}
 use Rattle.theory.proofs.Form.{accepted_sound}
 use Rattle.theory.proofs.Unrefused.{present_facts}
 use Rattle.theory.proofs.Running.{group_next, running_next, begins, group_last, rest_all, rest_bytes, rest_records, rest_loose}
-use Rattle.records.specs.Records.{between, nth_byte, AtRecord, Carries}
+use Rattle.records.specs.Records.{between, nth_byte, AtRecord}
 use Rattle.records.proofs.Nth.{nth_found, nth_passed, nth_other}
-use Rattle.groups.proofs.Held.{first_within, record_lengths, sheet_lengths, group_placed, class_fits}
-use Rattle.groups.proofs.Bytes.{tiled_bytes, carries_records}
+use Rattle.groups.proofs.Held.{first_within, record_lengths, group_placed, class_fits}
 use Rattle.groups.specs.Sheets.{UserSheet, AtGroup}
 
 -- ---- CLASS records and groups
@@ -134,21 +133,6 @@ module _ {nlib : ℕ} {sheet : List ℕ} (u : UserSheet nlib sheet) (i : ℕ) {s
       ap (λ (k : ℕ). start + k) (el ∙ ap first_length (rest_part sheet start)) ∙ ap (λ (k : ℕ). k + first_length (drop k sheet)) es ∙ sym (running_next sheet i) in
       let n : start + len ≡ group_start sheet i + length (concat g) = r ∙ begins u.clear (i + 1) (omega arith) ∙ group_next sheet i h in
       (r, omega (arith, es, b, n, first_within g, (class_fits u.clear i h).0), omega (arith, n, (group_placed u.clear i h).0.within))
-
-  -- and the bytes up to there are the group's records
-  pub group_carries : i < class_count sheet → start ≡ running sheet i → {len : ℕ} → len ≡ first_length (take (length sheet - start) (drop start sheet))
-      → Carries (take (start + len - start) (drop start sheet)) (get_or (groups_of sheet) i [])
-  group_carries h es {len} el =
-      let g : Group = get_or (groups_of sheet) i [] in
-      let at : ℕ = group_start sheet i in
-      let p = group_placed u.clear i h in
-      let b : start ≡ at = es ∙ begins u.clear i (omega arith) in
-      let n : start + len ≡ at + length (concat g) = (further h es el).0 ∙ begins u.clear (i + 1) (omega arith) ∙ group_next sheet i h in
-      let e : take (start + len - start) (drop start sheet) ≡ concat g =
-      ap₂ (λ (x y : ℕ). take (x - y) (drop y sheet)) n b ∙ sym (tiled_bytes p.0) ∙ ap concat p.1 in
-      let l : length (take (start + len - start) (drop start sheet)) ≤ 32768 = omega (arith, ap length e, p.0.within, u.size) in
-      carries_records (subst (All Whole) p.1 (unfold between in records_of_whole _))
-      (all_get {A = Group} (All (λ r. T (length_fits r))) [] (groups_of sheet) (sheet_lengths u.clear) tt i) l e
 
   -- before the sheet's end there is a class, and at its end none
   module _ (high : i ≤ class_count sheet) (e : start ≡ running sheet i) where

@@ -1,6 +1,6 @@
 -- Sweeps until one changes nothing: then each entry is the least owner that its class draws from the seeds.
 -- Assumes nothing.
-use mathlib.Core.Path.{◌≡◌, refl, ◌∙◌}
+use mathlib.Core.Path.{◌≡◌, refl}
 use mathlib.Core.Bool.{Bool, false}
 use mathlib.Core.List.{List}
 use Prim.Native.Nat.{ℕ, ◌+◌, ◌*◌, ◌≤◌, ◌<◌}
@@ -24,15 +24,6 @@ close_start step outer n lanes g f =
     record { long = refl; sound = λ k m hk hm v. own refl (f k m hk hm v); down = λ i. le_refl (get_or g i 255); kept = λ i o. refl }
 
 module _ {step : ℕ → List ℕ} {outer : ℕ → ℕ} {n lanes : ℕ} {g s : List ℕ} where
-  pub close_next : {s' : List ℕ} {a : Bool} → CloseAt step outer n lanes g s → Run step outer n lanes (AllSettled step outer n lanes) s s' a → length s' ≡ length s
-      → CloseAt step outer n lanes g s'
-  close_next f r l = record {
-    long = l ∙ f.long;
-    sound = r.keeps g f.sound;
-    down = λ i. let u = f.down i in let w = r.down i in omega arith;
-    kept = λ i o. r.kept i o ∙ f.kept i o;
-  }
-
   module _ (few : n ≤ 256) (f : CloseAt step outer n lanes g s) (settled : AllSettled step outer n lanes s) where
     -- Along a chain: t has an owner no higher than y, it fits m since y does, and m has taken it.
     close_least : (k y m : ℕ) → k < lanes → m < n → Draws step outer n (entry_at g k) y m → entry_at s k m ≤ y

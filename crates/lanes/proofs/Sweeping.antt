@@ -1,15 +1,13 @@
 -- Each class draws once, in rising or in falling order.
 -- Assumes nothing.
-use mathlib.Core.Path.{◌≡◌, refl, sym, ap, ◌∙◌, subst}
-use mathlib.Core.Bool.{Bool, true, false, ◌||◌}
+use mathlib.Core.Path.{◌≡◌, refl, subst}
+use mathlib.Core.Bool.{Bool, true, false}
 use mathlib.Core.List.{List}
-use mathlib.Core.Logic.{⊎_elim}
-use Prim.Native.Nat.{ℕ, ◌+◌, ◌≤◌, ◌<◌}
-use native.Mathlib.Nat.{le_of_suc-le-suc, eq-or-lt_of_le}
+use Prim.Native.Nat.{ℕ, ◌≤◌, ◌<◌}
 use native.Mathlib.Omega.{arith}
 use lib.ListN.{length}
 use Rattle.lanes.specs.Lanes.{Run, SettledAt, AllSettled, swept_of}
-use Rattle.lanes.proofs.Runs.{run_then, run_only}
+use Rattle.lanes.proofs.Runs.{run_only}
 
 -- ---- the order: each class has its turn
 
@@ -30,19 +28,6 @@ pub record SweepAt (step : ℕ → List ℕ) (outer : ℕ → ℕ) (n lanes : �
   pub run : Run step outer n lanes (λ s. (j : ℕ) → j < i → SettledAt step outer n lanes (swept_of up n j) s) s₀ s a
 
 module _ {step : ℕ → List ℕ} {outer : ℕ → ℕ} {n lanes : ℕ} {up : Bool} {s₀ s : List ℕ} {a : Bool} {i : ℕ} (f : SweepAt step outer n lanes up s₀ s a i) where
-  pub sweep_next : {s' : List ℕ} {m : ℕ} {b : Bool} → m ≡ swept_of up n i → Run step outer n lanes (SettledAt step outer n lanes m) s s' b
-      → length s' ≡ length s → SweepAt step outer n lanes up s₀ s' (a || b) (i + 1)
-  sweep_next q h l =
-      record {
-        long = l ∙ f.long;
-        run = run_then
-            (λ s. (j : ℕ) → j < i + 1 → SettledAt step outer n lanes (swept_of up n j) s)
-            f.run
-            h
-            (λ p w j y.
-            ⊎_elim (λ z. subst (λ (x : ℕ). SettledAt step outer n lanes x s₀) (q ∙ ap (swept_of up n) (sym z)) w) (λ z. p j z) (eq-or-lt_of_le (le_of_suc-le-suc (omega arith))));
-      }
-
   pub sweep_end : n ≤ i → Run step outer n lanes (AllSettled step outer n lanes) s₀ s a
   unfolding AllSettled
   sweep_end h =

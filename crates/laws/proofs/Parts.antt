@@ -5,9 +5,9 @@ use mathlib.Core.List.{List, [], ◌∷◌}
 use Prim.Native.Nat.{ℕ, zero, suc, ◌+◌, ◌-◌, ◌≤◌, ◌<◌}
 use native.Mathlib.Nat.{add-zero, zero-sub, sub-zero, suc-sub-suc}
 use native.Mathlib.Omega.{arith}
-use lib.ListN.{length, get_or, take, drop, length-drop}
+use lib.ListN.{length, take, drop, length-drop}
 use lib.Seq.{length-take-le, get_or-take, get_or-drop, drop-drop, take-nil}
-use Rattle.spec.specs.Record.{u8, u16, kind, ty_at}
+use Rattle.spec.specs.Record.{u16, kind}
 
 pub u16_take : (n : ℕ) (s : List ℕ) (i : ℕ) → i + 1 < n → u16 (take n s) i ≡ u16 s i
 unfolding u16
@@ -33,22 +33,12 @@ module _ (s : List ℕ) (at n : ℕ) where
   pub part_length : at + n ≤ length s → length (take n (drop at s)) ≡ n
   part_length h = length-take-le n (drop at s) (omega (arith, length-drop at s))
 
-  pub part_byte : (j : ℕ) → j < n → get_or (take n (drop at s)) j 0 ≡ get_or s (at + j) 0
-  part_byte j h = get_or-take n (drop at s) j 0 h ∙ get_or-drop at s j 0
-
   pub part_word : (j : ℕ) → j + 1 < n → u16 (take n (drop at s)) j ≡ u16 s (at + j)
   part_word j h = u16_take n (drop at s) j h ∙ u16_drop s at j
 
   pub part_kind : 4 ≤ n → kind (take n (drop at s)) ≡ u16 s (at + 2)
   unfolding kind
   part_kind h = part_word 2 (omega arith)
-
-  pub part_type : (j : ℕ) → j + 3 < n → ty_at (take n (drop at s)) j ≡ ty_at s (at + j)
-  unfolding u8 ty_at
-  part_type j h =
-      let e : at + (j + 1) ≡ at + j + 1 = omega arith in
-      let f : at + (j + 2) ≡ at + j + 2 = omega arith in
-      rw (part_byte j (omega arith), part_byte (j + 1) (omega arith), part_word (j + 2) (omega arith), e, f)
 
   pub part_rest : (j : ℕ) → drop j (take n (drop at s)) ≡ take (n - j) (drop (at + j) s)
   part_rest j = rw (drop_take j n (drop at s), drop-drop j at s)

@@ -90,9 +90,6 @@ module _ (g : ℕ → Group) where
       ∙ ap (λ (xs : List (Option ℕ)). xs ++ rest) (sym (map-range_with_len_more (λ c. Some (raw g c)) 0 k k (zero-add k)))
       ∙ sym (memo_is (k + 1))
 
-  pub memo_length : (k : ℕ) {memo : List (Option ℕ)} → memo ≡ memo_of g k → k ≤ 256 → length memo ≡ 256
-  memo_length k e h = ap length e ∙ memo_long k h
-
   module _ (k c : ℕ) {memo : List (Option ℕ)} (e : memo ≡ memo_of g k) (h : c ≤ k) (l : c < 256) where
     pub memo_asks : k ≤ 256 → Knows g c memo
     memo_asks few = rw e (record {

@@ -8,7 +8,7 @@ use lib.ListN.{length, take, drop, length-append, length-drop, take-append-drop}
 use lib.Seq.{length-take-le, take-append_seam, drop_at}
 use Rattle.spec.specs.Lists.{concat}
 use Rattle.spec.specs.Record.{u16}
-use Rattle.spec.specs.Sheet.{records_in, records_of, whole_end}
+use Rattle.spec.specs.Sheet.{records_of, whole_end}
 use Rattle.laws.proofs.All.{All}
 use Rattle.laws.proofs.Parts.{part_length, part_word}
 use Rattle.theory.proofs.Cut.{Whole, records_of_join, records_of_whole, join_records}
@@ -33,10 +33,6 @@ placed s p rs t at end w e ea ee =
     )
 
 -- ---- a walk from record to record
-
-pub tiled_end : (s : List ℕ) (at end : ℕ) → end ≤ at → between s at end ≡ []
-unfolding between records_of records_in
-tiled_end s at end h = let e : end - at ≡ 0 = omega arith in ap (λ (n : ℕ). records_of (take n (drop at s))) e
 
 -- the bytes from `at` on: the records up to `end`, and what follows them
 pub tiled_parts : {s : List ℕ} {at end : ℕ} → Tiled s at end → drop at s ≡ concat (between s at end) ++ drop (end - at) (drop at s)

@@ -73,16 +73,6 @@ not_field (B.Builds c) n e = omega arith
 not_field (B.Member f) n e = omega arith
 not_field (B.Refers c i) n e = omega arith
 
-pub not_local : (b : Body) → ((t : Ty) → b ≡ B.Local t → ⊥) → body_kind b ≡ 4 → ⊥
-not_local (B.Class h) n e = omega arith
-not_local (B.Implements c) n e = omega arith
-not_local (B.Field f t) n e = omega arith
-not_local (B.Local t) n e = n _ refl
-not_local (B.Uses c i) n e = omega arith
-not_local (B.Builds c) n e = omega arith
-not_local (B.Member f) n e = omega arith
-not_local (B.Refers c i) n e = omega arith
-
 pub not_uses : (b : Body) → ((c : ℕ) (i : ℕ) → b ≡ B.Uses c i → ⊥) → body_kind b ≡ 5 → ⊥
 not_uses (B.Class h) n e = omega arith
 not_uses (B.Implements c) n e = omega arith
@@ -112,13 +102,3 @@ not_member (B.Uses c i) n e = omega arith
 not_member (B.Builds c) n e = omega arith
 not_member (B.Member f) n e = n _ refl
 not_member (B.Refers c i) n e = omega arith
-
-pub not_refers : (b : Body) → ((c : ℕ) (i : ℕ) → b ≡ B.Refers c i → ⊥) → body_kind b ≡ 8 → ⊥
-not_refers (B.Class h) n e = omega arith
-not_refers (B.Implements c) n e = omega arith
-not_refers (B.Field f t) n e = omega arith
-not_refers (B.Local t) n e = omega arith
-not_refers (B.Uses c i) n e = omega arith
-not_refers (B.Builds c) n e = omega arith
-not_refers (B.Member f) n e = omega arith
-not_refers (B.Refers c i) n e = n _ _ refl

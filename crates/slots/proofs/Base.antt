@@ -24,9 +24,6 @@ use Rattle.slots.specs.Slots.{if_there, base_breaks, base_by}
 -- ---- as the code finds it
 
 module _ (head : Head) (markers : List ℕ) where
-  pub base_none : head.superclass ≡ None → false ≡ base_by head markers
-  base_none e = rw e
-
   module _ {s : ℕ} (e : head.superclass ≡ Some s) {m : ℕ} (em : m ≡ get_or markers s 0) {y : Bool} (ey : y ≡ eqb (m / 4 % 2) 1) where
     has : bit Selfless (get_or markers s 0) ≡ y
     unfolding bit
