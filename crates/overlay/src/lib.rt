@@ -2,7 +2,7 @@
 // Classes are asked in rising order, so that a class finds its supertypes there: each is computed once, and no call is deep.
 #![tactic(auto)]
 
-ghost use Rattle.std.specs.Prelude.{◌≡◌, Some, ◌+◌, ◌<◌, max, length, get_or, set};
+ghost use Rattle.std.specs.Prelude.{◌≡◌, Some, ◌+◌, ◌<◌, max, get_or, set};
 ghost use Rattle.spec.specs.Classes.{overlay as overlay_of};
 ghost use Rattle.records.specs.Kinds.{spec_ty};
 ghost use Rattle.sheets.specs.Sheets.{count, groups, library_count};
@@ -10,6 +10,7 @@ ghost use Rattle.overlay.specs.Memo.{raw, with_interfaces, memo_of, Knows};
 ghost use Rattle.overlay.specs.Types.{Known, row_markers};
 
 use markers::{ALL, closure, union};
+use records::CLASS_LIMIT;
 use records::record::{Body, Ty};
 use sheets::formed::Formed;
 
@@ -78,9 +79,8 @@ pub fn overlay_in_turn(formed: &Formed, c: usize, memo: &mut [Option<u8>]) -> u8
 }
 
 /// Writes the overlay markers of each class, 0 past the last one.
-pub fn overlays(formed: &Formed, memo: &mut [Option<u8>], row: &mut [u8])
+pub fn overlays(formed: &Formed, memo: &mut [Option<u8>], row: &mut [u8; CLASS_LIMIT])
     requires memo { memo.old ≡ memo_of (groups formed.now.sheets) (library_count formed.now.sheets) }
-    requires row { length row.old ≡ 256 }
     ensures row { Known (groups formed.now.sheets) row.new }
     ensures memo { memo.new ≡ memo_of (groups formed.now.sheets) (count formed.now.sheets) }
 {
