@@ -25,9 +25,9 @@ use sheets::formed::Formed;
 /// The markers whose captured variables are asked, a lane of owners each.
 #[derive(Clone, Copy, PartialEq, Eq, Debug)]
 pub enum Lane {
-    Immutable,
-    Powerless,
-    DeepSelfless,
+    Immutable = 0,
+    Powerless = 1,
+    DeepSelfless = 2,
 }
 
 /// All of them, as they lie in a row.
@@ -51,11 +51,7 @@ impl Lane {
     pub fn place(self) -> usize
         ensures { result ≡ lane_place self }
     {
-        match self {
-            Lane::Immutable => 0,
-            Lane::Powerless => 1,
-            Lane::DeepSelfless => 2,
-        }
+        self as usize
     }
 }
 

@@ -76,7 +76,7 @@ fn first_only(nlib: usize, rule: Rule, t: usize) -> bool
 fn lane(rule: Late) -> usize
     ensures { (result ≡ lane_of rule) × (result < 4) }
 {
-    rule as usize
+    rule as usize - Late::Immutable as usize
 }
 
 // Where a fault of record k of class t stands in class c.

@@ -19,10 +19,10 @@ use records::{
 /// The rules that ask slots, each of the classes that have its marker.
 #[derive(Clone, Copy, PartialEq, Eq, Debug)]
 pub enum Late {
-    Immutable,
-    Powerless,
-    Selfless,
-    DeepSelfless,
+    Immutable = 7,
+    Powerless = 8,
+    Selfless = 9,
+    DeepSelfless = 10,
 }
 
 impl Late {
@@ -30,12 +30,7 @@ impl Late {
     pub fn number(self) -> u8
         ensures { result ≡ rule_number self }
     {
-        match self {
-            Late::Immutable => 7,
-            Late::Powerless => 8,
-            Late::Selfless => 9,
-            Late::DeepSelfless => 10,
-        }
+        self as u8
     }
 
     /// Its marker, as a set of its own.
