@@ -52,8 +52,8 @@ pub(crate) fn spelled<const N: usize>(row: &mut ArrayVec<u8, N>, line: &[u8]) {
 // `line` is a number and then bytes, which are written that many times, k counting down to 1.
 pub(crate) fn repeated<const N: usize>(row: &mut ArrayVec<u8, N>, line: &[u8]) {
     let (times, bytes) = split_word(line);
-    for passed in (0..number(times)).rev() {
-        spelled_with(row, bytes, ((passed + 1) % 256) as u8);
+    for k in (1..=number(times)).rev() {
+        spelled_with(row, bytes, (k % 256) as u8);
     }
 }
 
