@@ -141,7 +141,12 @@ impl<'a> Lookup<'a> {
     }
 
     // A USES of class c; the marks are those of the class and its enclosers.
-    fn uses_fits(&self, marks: &[bool; CLASS_LIMIT], class: usize, index: usize) -> Result<(), Reason>
+    fn uses_fits(
+        &self,
+        marks: &[bool; CLASS_LIMIT],
+        class: usize,
+        index: usize,
+    ) -> Result<(), Reason>
         ensures { (c : ℕ) → Enclosing self.now.sheets.now c marks.now
             → number_of result ≡ first_met (uses_tests self.now.sheets.now c class index) }
     {
