@@ -4,14 +4,14 @@ ghost use Rattle.records.specs.Kinds.{Numbers, kind_number};
 /// The kinds of records, in the order of their numbers.
 #[derive(Clone, Copy, PartialEq, Eq, PartialOrd, Ord, Debug)]
 pub enum Kind {
-    Class = 1,
-    Implements = 2,
-    Field = 3,
-    Local = 4,
-    Uses = 5,
-    Builds = 6,
-    Member = 7,
-    Refers = 8,
+    Class,
+    Implements,
+    Field,
+    Local,
+    Uses,
+    Builds,
+    Member,
+    Refers,
 }
 
 /// A number that no kind has.
@@ -43,6 +43,15 @@ impl Kind {
     pub fn number(self) -> u16
         ensures { result ≡ kind_number self }
     {
-        self as u16
+        match self {
+            Kind::Class => 1,
+            Kind::Implements => 2,
+            Kind::Field => 3,
+            Kind::Local => 4,
+            Kind::Uses => 5,
+            Kind::Builds => 6,
+            Kind::Member => 7,
+            Kind::Refers => 8,
+        }
     }
 }
