@@ -7,7 +7,8 @@ use crate::bans::Ban;
 use records::CLASS_LIMIT;
 use sheets::formed::Formed;
 
-/// What is known of two sheets when the rules are asked: rows of the classes' overlay markers and of what is not allowed of them, and the lanes of captured variables.
+/// What is known of two sheets when the rules are asked: rows of the classes' overlay markers and of what is not allowed of them, and the
+/// lanes of captured variables.
 #[derive(Drop)]
 pub struct Judging<'a> {
     pub formed: &'a Formed<'a>,

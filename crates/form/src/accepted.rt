@@ -4,10 +4,9 @@ ghost use Rattle.spec.specs.Refusals.{deemed_refusal};
 ghost use Rattle.sheets.specs.Sheets.{groups, library_count};
 ghost use Rattle.overlay.specs.Memo.{memo_of};
 
-use groups::Classes;
 use records::CLASS_LIMIT;
 use sheets::formed::Formed;
-use sheets::{Index, Sheets};
+use sheets::{Classes, Index, Sheets};
 use view::Draft;
 
 /// What acceptance finds of two sheets, in the caller's memory: where the classes begin, and the markers of the library's classes.

@@ -33,7 +33,8 @@ fn deemed_breaks(c: usize, markers: u8) -> bool
 // The deemed markers of the library's classes: 11. The memo is left with what was asked.
 fn deemed(formed: &Formed, memo: &mut [Option<u8>]) -> Result<(), Refusal>
     requires memo { memo.old ≡ replicate 256 None }
-    ensures answer { Answers (deemed_refusal formed.now.sheets.library formed.now.sheets.user) result (λ _. memo.new ≡ memo_of (groups formed.now.sheets) (library_count formed.now.sheets)) }
+    ensures answer { Answers (deemed_refusal formed.now.sheets.library formed.now.sheets.user) result
+        (λ _. memo.new ≡ memo_of (groups formed.now.sheets) (library_count formed.now.sheets)) }
 {
     for c in 0..formed.sheets.library_count() {
         if deemed_breaks(c, overlay(formed, c, memo)) {

@@ -6,10 +6,9 @@ ghost use Rattle.refusals.specs.Refusals.{Answers};
 ghost use Rattle.pass.specs.Pass.{pass_refusal, Filled};
 ghost use Rattle.form.specs.Form.{passes_refusal};
 
-use groups::Classes;
 use pass::first_pass;
 use refusals::{Reason, Refusal, Side};
-use sheets::Index;
+use sheets::{Classes, Index};
 use view::{Draft, Parts};
 
 // The first pass of a user sheet, where `base` classes stand before it: part after part, each a plain slice.

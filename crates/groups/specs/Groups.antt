@@ -4,7 +4,6 @@ use Rattle.std.specs.Prelude.{◌≡◌, true, false, List, ℕ, ◌+◌, ◌-�
 use Rattle.spec.specs.Lists.{concat}
 use Rattle.spec.specs.Sheet.{class_count, total, group, group_start}
 use Rattle.theory.proofs.Accept.{Clear}
-use Rattle.groups.specs.declared.Classes.{Classes}
 
 -- the sheet that holds class c: 0 library, 1 user
 unfoldable pub sheet_number : ℕ → ℕ → ℕ
@@ -29,7 +28,3 @@ pub record Indexed (library user : List ℕ) (nlib n : ℕ) (row : List ℕ) : T
   pub few : n ≤ 256
   pub long : length row ≡ 256
   pub starts : (c : ℕ) → c < n → get_or row c 0 ≡ start_of library user c
-
--- the byte after the group of class c in any two sheets of these lengths that the row indexes
-pub record EndOf (starts : List ℕ) (classes : Classes) (library user c end : ℕ) : Type 0 where
-  pub is : (l u : List ℕ) → Indexed l u classes.library classes.all starts → length l ≡ library → length u ≡ user → end ≡ end_of l u c

@@ -18,7 +18,7 @@ use Rattle.spec.specs.Promises.{Answer, refused, accepted, answer_of, Counts, co
 use Rattle.theory.specs.Claims.{sheet_of, Blames, size, torn, at, no_class, plain, BlamesEdit, present, made}
 use Rattle.laws.proofs.Bools.{not_or_l, not_or_r}
 use Rattle.laws.proofs.All.{All}
-use Rattle.theory.proofs.Cut.{front_low}
+use Rattle.theory.proofs.Cut.{end_low, front_low}
 use Rattle.laws.proofs.Count.{step, count_none, count_more}
 use Rattle.theory.proofs.Answers.{first_none, first_some, first_append, skip_none, Gives, gives_first, if_none, plain_none}
 use Rattle.theory.proofs.Accept.{sound}
@@ -29,23 +29,6 @@ use Rattle.meaning.proofs.Accepted.{canonical_refuses}
 use Rattle.theory.proofs.Unrefused.{present_facts}
 
 -- ---- the blamed byte lies in its sheet
-
-cut_low : (n : ℕ) (s : List ℕ) → length (concat (records_in n s)) ≤ length s
-unfolding records_in concat
-cut_low zero s = zero-le
-cut_low (suc n) s = go (whole_first s) (cut_low n (drop (u16 s 0) s))
-  where
-    rest : List (List ℕ)
-    rest = records_in n (drop (u16 s 0) s)
-
-    go : (b : Bool) → length (concat rest) ≤ length (drop (u16 s 0) s)
-        → length {A = ℕ} (concat (elim b as (λ (c : Bool). List (List ℕ)) [ true ↦ take (u16 s 0) s ∷ rest | false ↦ [] ])) ≤ length s
-    go true h = omega (arith, length-append (take (u16 s 0) s) (concat rest), length-append (take (u16 s 0) s) (drop (u16 s 0) s), ap length (take-append-drop (u16 s 0) s))
-    go false h = zero-le
-
-end_low : (s : List ℕ) → whole_end s ≤ length s
-unfolding whole_end records_of
-end_low s = cut_low (length s) s
 
 module _ (library user : List ℕ) (hl : length library ≤ 32768) (hu : length user ≤ 32768) where
   sheet_low : (s : ℕ) → length (sheet_of library user s) ≤ 32768

@@ -43,6 +43,7 @@ impl Kind {
     pub fn number(self) -> u16
         ensures { result ≡ kind_number self }
     {
+        // A table: with these numbers as discriminants the first pass takes a fifth more instructions.
         match self {
             Kind::Class => 1,
             Kind::Implements => 2,

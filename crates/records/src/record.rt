@@ -1,11 +1,11 @@
 ghost use Rattle.std.specs.Prelude.{◌≡◌, true, ◌+◌, ◌≤◌, ◌<◌, length};
-ghost use Rattle.spec.specs.Record.{kind, is_kind, ty_at, target, index};
+ghost use Rattle.spec.specs.Record.{kind, is_kind, bit, ty_at, target, index};
 ghost use Rattle.records.specs.Kinds.{Reads, kind_number, optional, ty_of, head_of};
 
 use crate::kind::Kind;
 use crate::{
-    CODE_AT, ENCLOSER_AT, FIELD_TYPE_AT, FLAGS_AT, INDEX_AT, KIND_AT, LOCAL_TYPE_AT, MARKERS_AT,
-    NAME_AT, SUPERCLASS_AT, TARGET_AT, TYPE_CLASS_AT, word_in,
+    CODE_AT, ENCLOSER_AT, FIELD_TYPE_AT, FLAGS_AT, INDEX_AT, INTERFACE, KIND_AT, LOCAL_TYPE_AT,
+    MARKERS_AT, NAME_AT, SUPERCLASS_AT, TARGET_AT, TYPE_CLASS_AT, has_flag, word_in,
 };
 use std::marker::Model;
 
@@ -24,6 +24,15 @@ pub struct Head {
     pub markers: u8,
     pub superclass: Option<usize>,
     pub encloser: Option<usize>,
+}
+
+impl Head {
+    /// Whether the class is an interface.
+    pub fn is_interface(self) -> bool
+        ensures { result ≡ bit 0 self.flags }
+    {
+        has_flag(self.flags, INTERFACE)
+    }
 }
 
 /// What a record says, but for its name, by its kind.

@@ -12,8 +12,8 @@ use breaks::judging::Judging;
 use breaks::rule::{RULES, Rule};
 use markers::has;
 use overlay::known;
+use records::CLASS_LIMIT;
 use records::group::Group;
-use records::{CLASS_LIMIT, INTERFACE, has_flag};
 use slots::Late;
 
 /// A rule that a class breaks, and the lowest record that breaks it.
@@ -43,7 +43,7 @@ fn first_class(judging: &Judging, rule: Rule, c: usize) -> Option<usize>
         return None;
     }
     let head = judging.formed.sheets.group(c).head();
-    if has_flag(head.flags, INTERFACE) {
+    if head.is_interface() {
         return None;
     }
     head.superclass
@@ -132,7 +132,8 @@ impl<'a> Walk<'a> {
         }
     }
 
-    /// The first rule that user class c breaks; none if it is clean. What this walk finds nothing under is kept, so that no superclass is walked again and again.
+    /// The first rule that user class c breaks; none if it is clean. What this walk finds nothing under is kept, so that no superclass is
+    /// walked again and again.
     pub fn verdict_of(&mut self, c: usize) -> Option<Fault>
         requires user_class { library_count self.old.judging.now.formed.now.sheets ≤ c }
         requires there { c < count self.old.judging.now.formed.now.sheets }

@@ -13,7 +13,7 @@ use crate::lookup::Lookup;
 use fingerprints::met;
 use records::kind::Kind;
 use records::record::{Body, Head, Record, Ty};
-use records::{CLASS_LIMIT, INNER, INTERFACE, STATIC, has_flag};
+use records::{CLASS_LIMIT, INNER, STATIC, has_flag};
 use refusals::{Reason, Side};
 
 impl<'a> Lookup<'a> {
@@ -51,7 +51,7 @@ impl<'a> Lookup<'a> {
         requires { c < count self.now.sheets.now }
         ensures { result ≡ superclass_ok self.now.sheets.now c head.flags head.superclass }
     {
-        let bare = c == 0 || has_flag(head.flags, INTERFACE);
+        let bare = c == 0 || head.is_interface();
         match head.superclass {
             Some(up) => !bare && up < c && !self.asked[up].interface,
             None => bare,
@@ -77,7 +77,7 @@ impl<'a> Lookup<'a> {
     {
         let missing = self.absent(head.superclass) || self.absent(head.encloser);
         Reason::NotThere.unless(!missing)?;
-        Reason::WrongSort.unless(c != 0 || !has_flag(head.flags, INTERFACE))?;
+        Reason::WrongSort.unless(c != 0 || !head.is_interface())?;
         Reason::WrongSort.unless(self.superclass_fits(c, head))?;
         Reason::WrongSort.unless(self.encloser_fits(c, head))?;
         Reason::NameTwice.unless(!self.name_met(c))

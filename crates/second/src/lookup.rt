@@ -5,8 +5,8 @@ ghost use Rattle.fingerprints.specs.Fingerprints.{Printed};
 ghost use Rattle.second.specs.Second.{Heads, Enclosing, indexed_kind, asked_of};
 
 use fingerprints::prints;
+use records::CLASS_LIMIT;
 use records::kind::Kind;
-use records::{CLASS_LIMIT, INTERFACE, has_flag};
 use refusals::Side;
 use sheets::Sheets;
 
@@ -45,7 +45,7 @@ fn asked_of(sheets: &Sheets, c: usize) -> Asked
 {
     let group = sheets.group(c);
     Asked {
-        interface: has_flag(group.head().flags, INTERFACE),
+        interface: group.head().is_interface(),
         indexed: group.count(indexed_kind(sheets.side(c))) as u8,
     }
 }

@@ -1,3 +1,3 @@
-pub mod Classes
 pub mod Indexes
 pub mod Present
+pub mod Standing

@@ -10,12 +10,18 @@ ghost use Rattle.sheets.specs.Sheets.{Passed, count, groups, library_count};
 
 pub mod formed;
 
-use groups::{Classes, group_end};
 use records::CLASS_LIMIT;
 use records::group::Group;
 use refusals::Side;
 use std::marker::Model;
 use view::Draft;
+
+/// How many classes the library has, and both sheets together.
+#[derive(Clone, Copy)]
+pub struct Classes {
+    pub library: usize,
+    pub all: usize,
+}
 
 /// Where the classes of two sheets begin, and how many there are.
 #[derive(Clone, Copy)]
@@ -99,19 +105,20 @@ impl<'a> Sheets<'a> {
         usize::from(starts[c])
     }
 
-    /// The byte after that group.
+    /// The byte after that group: where the next one of its sheet begins, or the sheet's end.
     pub fn end(&self, c: usize) -> usize
         requires { c < count self.now }
         ensures { result ≡ end_of self.now.library self.now.user c }
     {
-        let user = self.user.len();
-        group_end(
-            &self.index.starts,
-            self.index.classes,
-            self.library.len(),
-            user,
-            c,
-        )
+        let Index { starts, classes } = self.index;
+        let next = c + 1;
+        if next == classes.library {
+            return self.library.len();
+        }
+        if next == classes.all {
+            return self.user.len();
+        }
+        usize::from(starts[next])
     }
 
     // The bytes of class c.

@@ -14,9 +14,9 @@ ghost use Rattle.survey.specs.Survey.{is_clean, head_by, any_late, record_breaks
 use breaks::early::{lets_out, names_forbidden, refers_forbidden, reserved, static_breaks};
 use breaks::judging::Judging;
 use markers::{SELFLESS, clash, common, has};
+use records::CLASS_LIMIT;
 use records::group::Group;
 use records::record::{Head, Record};
-use records::{CLASS_LIMIT, INTERFACE, has_flag};
 use slots::{Late, base_breaks, fields_set, head_set};
 
 // The rules that ask slots.
@@ -37,13 +37,6 @@ pub struct Survey<'a> {
 
 // ---- rules 7 to 10
 
-// Flag 0 of a CLASS.
-fn is_interface(head: &Head) -> bool
-    ensures { result ≡ bit 0 head.now.flags }
-{
-    has_flag(head.flags, INTERFACE)
-}
-
 // The markers whose rules class t and its superclasses up to the root pass, by the sets of lower classes. An interface has no slots.
 fn class_set(judging: &Judging, sets: &[u8], t: usize) -> u8
     requires passed { Passed judging.now.formed.now.sheets }
@@ -58,7 +51,7 @@ fn class_set(judging: &Judging, sets: &[u8], t: usize) -> u8
     if t < nlib {
         return first;
     }
-    if is_interface(&head) {
+    if head.is_interface() {
         return 0;
     }
     let Some(above) = head.superclass else {
@@ -100,7 +93,7 @@ fn late_fine(m: u8, set: u8, head: &Head, markers: &[u8]) -> bool
     ensures { result ≡ (bit 0 head.now.flags
         || not ((bit 2 m && base_by head.now markers.now) || any_late m (λ rule. not (bit (rule_marker rule) set)))) }
 {
-    is_interface(head) || !base_lacks(m, head, markers) && covers(m, set)
+    head.is_interface() || !base_lacks(m, head, markers) && covers(m, set)
 }
 
 // ---- rules 1 to 6

@@ -3,7 +3,7 @@
 use mathlib.Core.Path.{◌≡◌, refl, sym, ap, ap₂, ◌∙◌, subst}
 use mathlib.Core.Bool.{Bool, true, false, not, ◌&&◌, ◌||◌}
 use mathlib.Core.List.{List, [], ◌∷◌, ◌++◌, map, append_assoc, append-nil}
-use Prim.Native.Nat.{ℕ, zero, suc, ◌+◌, ◌*◌, ◌≤◌, ◌<◌}
+use Prim.Native.Nat.{ℕ, zero, suc, ◌+◌, ◌*◌, ◌≤◌, ◌<◌, zero-le}
 use native.Mathlib.Nat.{le_of_suc-le-suc, not-suc-le-zero, le_refl}
 use native.Mathlib.Omega.{arith}
 use lib.Dec.{T, eqb, leb, eqb→eq, leb→le, eqb_refl}
@@ -91,6 +91,25 @@ records_step s e =
 pub records_stop : (s : List ℕ) → whole_first s ≡ false → records_of s ≡ []
 unfolding records_of
 records_stop s e = stop_in (length s) s e
+
+-- ---- the whole records lie in the sheet
+
+records_low : (n : ℕ) (s : List ℕ) → length (concat (records_in n s)) ≤ length s
+unfolding records_in concat
+records_low zero s = zero-le
+records_low (suc n) s = go (whole_first s) (records_low n (drop (u16 s 0) s))
+  where
+    rest : List (List ℕ)
+    rest = records_in n (drop (u16 s 0) s)
+
+    go : (b : Bool) → length (concat rest) ≤ length (drop (u16 s 0) s)
+        → length {A = ℕ} (concat (elim b as (λ (c : Bool). List (List ℕ)) [ true ↦ take (u16 s 0) s ∷ rest | false ↦ [] ])) ≤ length s
+    go true h = omega (arith, length-append (take (u16 s 0) s) (concat rest), length-append (take (u16 s 0) s) (drop (u16 s 0) s), ap length (take-append-drop (u16 s 0) s))
+    go false h = zero-le
+
+pub end_low : (s : List ℕ) → whole_end s ≤ length s
+unfolding whole_end records_of
+end_low s = records_low (length s) s
 
 -- ---- whole records end to end
 

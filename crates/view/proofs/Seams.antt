@@ -13,30 +13,17 @@ use lib.Seq.{take-take, take-append_seam, drop-append_seam, drop-append-add}
 use borrow.Author.Tests.{ltb-true, ltb-false}
 use Rattle.spec.specs.Lists.{concat}
 use Rattle.spec.specs.Record.{u16}
-use Rattle.spec.specs.Sheet.{Group, whole_first, records_in, records_of, split_groups, groups_of, group_start}
+use Rattle.spec.specs.Sheet.{Group, records_in, records_of, whole_end, split_groups, groups_of, group_start}
 use Rattle.laws.proofs.All.{All, all_append, all_take}
-use Rattle.theory.proofs.Cut.{IsGroup, front_low, map_take, concat_append, concat_concat, groups_of_join, regroup, split_parts}
+use Rattle.theory.proofs.Cut.{IsGroup, end_low, front_low, map_take, concat_append, concat_concat, groups_of_join, regroup, split_parts}
 use Rattle.theory.proofs.New.{concat_last}
 use Rattle.theory.proofs.Running.{group_next}
 use Rattle.view.specs.View.{Around, Parted, Spans}
 
 -- ---- every group lies in its sheet
 
-records_low : (n : ℕ) (s : List ℕ) → length (concat (records_in n s)) ≤ length s
-unfolding records_in concat
-records_low zero s = zero-le
-records_low (suc n) s = go (whole_first s) (records_low n (drop (u16 s 0) s))
-  where
-    rest : List (List ℕ)
-    rest = records_in n (drop (u16 s 0) s)
-
-    go : (b : Bool) → length (concat rest) ≤ length (drop (u16 s 0) s)
-        → length {A = ℕ} (concat (elim b as (λ (c : Bool). List (List ℕ)) [ true ↦ take (u16 s 0) s ∷ rest | false ↦ [] ])) ≤ length s
-    go true h = omega (arith, length-append (take (u16 s 0) s) (concat rest), length-append (take (u16 s 0) s) (drop (u16 s 0) s), ap length (take-append-drop (u16 s 0) s))
-    go false h = zero-le
-
 pub start_low : (s : List ℕ) (i : ℕ) → group_start s i ≤ length s
-unfolding group_start groups_of records_of
+unfolding group_start groups_of records_of whole_end
 start_low s i =
     let t = split_groups (records_in (length s) s) in
     let front : List (List ℕ) = concat (take i t.groups) in
@@ -46,7 +33,7 @@ start_low s i =
     (split_parts (records_in (length s) s)).joined ∙ ap (λ (x : List (List ℕ)). t.loose ++ x) halves in
     omega (
       arith,
-      records_low (length s) s,
+      end_low s,
       ap (λ (rs : List (List ℕ)). length (concat rs)) parts,
       ap length (concat_append t.loose (front ++ back)),
       length-append (concat t.loose) (concat (front ++ back)),

@@ -10,14 +10,14 @@ pub returns-then-not-has : goal.returns-then-not-has
 returns-then-not-has c =
     rw c.in-Late.is (first_unmarked _ _ _ c.args.judging.now.known c.known.ensures c.set.ensures.0 c.has.ensures c.if-not-has.true)
 
-pub returns-then-has_flag : goal.returns-then-has_flag
-returns-then-has_flag c =
+pub returns-then-is_interface : goal.returns-then-is_interface
+returns-then-is_interface c =
     let f = ap (λ (h : Head). h.flags) c.head-head.ensures ∙ ap (λ (g : Group). flags (class_record g)) c.group.ensures in
-    rw c.in-Late.is (first_interface _ _ _ c.args.judging.now.known c.known.ensures c.set.ensures.0 c.has.ensures f (sym c.has_flag.ensures ∙ c.if-has_flag.true))
+    rw c.in-Late.is (first_interface _ _ _ c.args.judging.now.known c.known.ensures c.set.ensures.0 c.has.ensures f (sym c.is_interface.ensures ∙ c.if-is_interface.true))
 
 pub returns : goal.returns
 returns c =
     let f = ap (λ (h : Head). h.flags) c.head-head.ensures ∙ ap (λ (g : Group). flags (class_record g)) c.group.ensures in
     let s = ap (λ (h : Head). h.superclass) c.head-head.ensures ∙ ap (λ (g : Group). optional (superclass (class_record g))) c.group.ensures in
     rw c.in-Late.is (s ∙ first_up _ _ _ c.args.judging.now.known c.known.ensures c.set.ensures.0 c.has.ensures f c.if-not-has.false
-    (sym c.has_flag.ensures ∙ c.if-has_flag.false))
+    (sym c.is_interface.ensures ∙ c.if-is_interface.false))

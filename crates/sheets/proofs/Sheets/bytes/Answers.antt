@@ -1,5 +1,5 @@
 -- The bytes from the group's start to its end, in the sheet that holds it.
-use Rattle.sheets.proofs.Classes.{ordered, library_within, library_carries, user_spans, user_carries}
+use Rattle.sheets.proofs.Standing.{ordered, library_within, library_carries, user_spans, user_carries}
 use Rattle.sheets.proofs.Sheets.bytes.Goals as goal
 
 pub slice_bounds-result-count : goal.slice_bounds-result-count

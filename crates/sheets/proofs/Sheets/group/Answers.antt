@@ -1,6 +1,6 @@
 use mathlib.Core.Path.{◌∙◌}
 use Rattle.theory.proofs.Form.{group_one_class}
-use Rattle.sheets.proofs.Classes.{carried_class}
+use Rattle.sheets.proofs.Standing.{carried_class}
 use Rattle.sheets.proofs.Sheets.group.Goals as goal
 
 pub new-requires : goal.new-requires

@@ -1,7 +1,7 @@
 use mathlib.Core.Path.{sym}
 use native.Mathlib.Omega.{arith}
 use Rattle.groups.proofs.Held.{library_number, user_number}
-use Rattle.sheets.proofs.Classes.{library_count_is}
+use Rattle.sheets.proofs.Standing.{library_count_is}
 use Rattle.sheets.proofs.Sheets.side.Goals as goal
 
 pub returns-then-c-self : goal.returns-then-c-self

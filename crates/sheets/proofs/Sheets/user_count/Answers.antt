@@ -1,7 +1,7 @@
 -- Both sheets' classes without the library's.
 use native.Mathlib.Omega.{arith}
 use Rattle.spec.specs.Sheet.{total}
-use Rattle.sheets.proofs.Classes.{library_count_is, count_is}
+use Rattle.sheets.proofs.Standing.{library_count_is, count_is}
 use Rattle.sheets.proofs.Sheets.user_count.Goals as goal
 
 pub overflow_sub-result : goal.overflow_sub-result

@@ -7,16 +7,13 @@ use Prim.Native.Nat.{ℕ, ◌-◌, ◌≤◌, ◌<◌}
 use native.Mathlib.Omega.{arith}
 use lib.Dec.{T, ltb}
 use lib.ListN.{length, take, drop}
-use lib.Seq.{take-length}
 use borrow.Author.Tests.{ltb-true, ltb-false}
-use Rattle.spec.specs.Record.{length_fits}
 use Rattle.spec.specs.Lists.{concat}
-use Rattle.spec.specs.Sheet.{Group, records_of, whole_end, group}
+use Rattle.spec.specs.Sheet.{Group, records_of, group}
 use Rattle.spec.specs.Refusals.{one_class}
-use Rattle.laws.proofs.All.{All, weaken₂}
-use Rattle.theory.proofs.Cut.{Whole, records_of_whole}
-use Rattle.records.specs.Records.{between, Carries}
-use Rattle.records.specs.Kinds.{Fits, OneClass}
+use Rattle.records.specs.Records.{Carries}
+use Rattle.records.specs.Kinds.{OneClass}
+use Rattle.records.proofs.Lined.{all_between, all_lined}
 use Rattle.groups.specs.Groups.{sheet_number, start_of, end_of, Indexed}
 use Rattle.groups.proofs.Held.{library_number, user_number, in_user, held_end}
 use Rattle.groups.proofs.Bytes as in_sheet
@@ -25,25 +22,10 @@ use Rattle.sheets.specs.Sheets.{Pair, count, groups, library_count}
 
 -- ---- a class's bytes
 
-whole_between : (s : List ℕ) → between s 0 (length s) ≡ records_of s
-unfolding between
-whole_between s = let e : length s - 0 ≡ length s = omega arith in ap (λ (n : ℕ). records_of (take n s)) e ∙ ap records_of (take-length s)
-
 pub carried_class : {bytes : List ℕ} {h : Group} → Carries bytes h → T (one_class h) → OneClass bytes × (records_of bytes ≡ h)
 carried_class {bytes} {h} w o =
-    let e : records_of bytes ≡ h = sym (whole_between bytes) ∙ w.records in (
-      record {
-        lined = record {
-          whole =
-              let z : length bytes - 0 ≡ length bytes = omega arith in
-              ap whole_end (sym (take-length bytes) ∙ ap (λ (n : ℕ). take n bytes) (sym z)) ∙ w.place.tiled.whole ∙ z;
-          fits = weaken₂ Whole (λ r. T (length_fits r)) Fits (λ r a b. record { whole = a.own; fits = b }) (records_of bytes) (records_of_whole bytes)
-              (subst (All (λ r. T (length_fits r))) (whole_between bytes) w.place.sizes);
-        };
-        one = subst (λ (g : Group). T (one_class g)) (sym e) o;
-      },
-      e,
-    )
+    let e : records_of bytes ≡ h = sym (all_between bytes) ∙ w.records in
+    (record { lined = all_lined w.place; one = subst (λ (g : Group). T (one_class g)) (sym e) o }, e)
 
 -- ---- the sheet that a class stands in
 
@@ -69,10 +51,16 @@ module _ {library user row : List ℕ} {nlib n : ℕ} (x : Indexed library user 
   pub count_is : n ≡ count p
   count_is = x.n_is ∙ ap count e
 
+  pub low_is : {c : ℕ} → c < count p → c < n
+  low_is h = omega (arith, count_is)
+
+  pub end_is : (c : ℕ) {end : ℕ} → end ≡ end_of library user c → end ≡ end_of p.library p.user c
+  end_is c d = d ∙ ap (λ (q : Pair). end_of q.library q.user c) e
+
   -- where class c stands in its sheet
   module _ {c : ℕ} (h : c < count p) {start end : ℕ} (es : start ≡ start_of p.library p.user c) (ee : end ≡ end_of p.library p.user c) where
     low : c < n
-    low = omega (arith, count_is)
+    low = low_is h
 
     begins : start ≡ start_of library user c
     begins = es ∙ ap (λ (q : Pair). start_of q.library q.user c) (sym e)
