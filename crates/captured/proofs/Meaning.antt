@@ -3,14 +3,15 @@
 use mathlib.Core.Path.{◌≡◌, refl, sym, ap, ◌∙◌, subst}
 use mathlib.Core.Bool.{Bool, true, false, not, ◌&&◌}
 use mathlib.Core.List.Memᴰ
-use mathlib.Core.List.{List, [], ◌∷◌, map, Memᴰ}
+use mathlib.Core.List.{List, [], ◌∷◌, ◌++◌, map, Memᴰ}
 use mathlib.Core.Logic.{inl, inr, ⊎_elim, ◌≢◌, ◌↔◌}
 use mathlib.Core.Option.{none}
-use Prim.Native.Nat.{ℕ, suc, ◌+◌, ◌*◌, ◌≤◌, ◌<◌}
+use Prim.Native.Nat.{ℕ, suc, ◌+◌, ◌-◌, ◌*◌, ◌≤◌, ◌<◌}
 use native.Mathlib.Omega.{arith}
 use lib.Dec.{T, eqb, leb, ltb, eqb→eq, leb→le, ltb→lt, lt→ltb}
-use lib.ListN.{length, get_or, take, get_or-map}
+use lib.ListN.{length, get_or, take, drop, get_or-map, get_or-append, length-append, length-drop, replicate}
 use lib.Seq.{drop-cons}
+use Rattle.std.proofs.lemmas.List.{get_or-replicate, get_or-append_right, get_or-drop}
 use Rattle.spec.specs.Lists.{keep, numbered}
 use Rattle.spec.specs.Record.{bit, none16, is_kind, CLASS, LOCAL, BUILDS, flags, encloser, target, index, local_ty}
 use Rattle.spec.specs.Sheet.{Group, class_record, of_kind}
@@ -34,9 +35,9 @@ use Rattle.lanes.specs.Lanes.{Nested, direct, deeper, Draws, own, via, entry_at,
 use Rattle.lanes.specs.Lanes as lanes
 use Rattle.lanes.proofs.Enclosing.{inside_lower, fits_lower}
 use Rattle.lanes.proofs.Chains.{draws_fit}
-use Rattle.reach.specs.Reach.{named_in, steps_of, outer_of, Emptied}
+use Rattle.reach.specs.Reach.{named_in, steps_of, outer_of}
 use Rattle.captured.specs.declared.Lane.{Lane}
-use Rattle.captured.specs.Captured.{lane_marker, lane_place, lacks_captured, Captured}
+use Rattle.captured.specs.Captured.{lane_marker, lane_place, lacks_captured, Shown, Captured}
 use Rattle.captured.specs.Seeds.{Lowering, Wanted, ByClasses}
 use Rattle.captured.proofs.Lowering.{place_low, lane_at, place_at, place_same}
 
@@ -274,10 +275,13 @@ module _ {p : Pair} (x : Passed p) (ok : form_refusal p.library p.user ≡ none)
 
   -- ---- all lanes, as they are seeded
 
-  module _ {before clear seeds : List ℕ} (c : Emptied 768 before clear) (f : Lowering (ByClasses g (count p)) clear seeds) where
+  module _ {clear seeds : List ℕ} {all : ℕ} (c : clear ≡ replicate all 255) (long : 768 ≤ all) (f : Lowering (ByClasses g (count p)) clear seeds) where
+    none_at : (i : ℕ) → i < 768 → get_or clear i 255 ≡ 255
+    none_at i h = ap (λ (s : List ℕ). get_or s i 255) c ∙ get_or-replicate all i 255 255 (omega arith)
+
     fit : (lane : Lane) (m : ℕ) → m < count p → entry_at seeds (lane_place lane) m < 255 → WantedBy g (lane_marker lane) m (entry_at seeds (lane_place lane) m)
     fit lane m hm v =
-        ⊎_elim (λ e. absurd (omega (arith, c.none (lane_place lane * 256 + m) (omega (arith, x.few, place_low lane)), e))) (λ q. go q) (f.from (lane_place lane * 256 + m))
+        ⊎_elim (λ e. absurd (omega (arith, none_at (lane_place lane * 256 + m) (omega (arith, x.few, place_low lane)), e))) (λ q. go q) (f.from (lane_place lane * 256 + m))
       where
         go : {d : ℕ} → ByClasses g (count p) (lane_place lane * 256 + m) d → WantedBy g (lane_marker lane) m d
         go {d} q =
@@ -299,14 +303,20 @@ module _ {p : Pair} (x : Passed p) (ok : form_refusal p.library p.user ≡ none)
         inr
         (subst (λ (j : ℕ). Nested (outer_of g) (entry_at seeds j m) m) e (fit (lane_at k) m hm (subst (λ (j : ℕ). entry_at seeds j m < 255) (sym e) v)).wanted.within)
 
-    pub captures_end : {after : List ℕ} → Least (steps_of g along.Builds) (outer_of g) (count p) 3 seeds after → length after ≡ length seeds → Captured g (count p) before after
-    unfolding Other
-    captures_end {after} l e =
-        record {
-          long = e ∙ f.long ∙ c.long;
-          shown = record { lane = λ lane m hm. lane_shown lane seeds (fit lane) (low lane) after l m hm };
-          past = λ i h.
-              l.kept i (λ k m hk hm q. omega (arith, x.few))
-              ∙ ⊎_elim (λ q. q) (λ q. absurd (omega (arith, q.allows.allows.entry, place_low q.allows.allows.lane, q.below, x.few))) (f.from i)
-              ∙ c.kept i h;
-        }
+    pub captures_shown : {after : List ℕ} → Least (steps_of g along.Builds) (outer_of g) (count p) 3 seeds after → Shown g (count p) after
+    captures_shown {after} l = record { lane = λ lane m hm. lane_shown lane seeds (fit lane) (low lane) after l m hm }
+
+  -- the lanes where they lie in a row
+  pub captures_end : {after before : List ℕ} → length after ≡ 768 → 768 ≤ length before → Shown g (count p) after → Captured g (count p) before (after ++ drop 768 before)
+  captures_end {after} {before} e h s =
+      record {
+        long = simp (length-append, length-drop) (omega arith);
+        shown = record {
+          lane = λ lane l hl.
+              ap (λ (v : ℕ). ltb v 255) (get_or-append after (drop 768 before) 255 (lane_place lane * 256 + l) (omega (arith, x.few, place_low lane)))
+              ∙ s.lane lane l hl;
+        };
+        past = λ i l.
+            get_or-append_right after (drop 768 before) 768 i 255 e l ∙ get_or-drop 768 before (i - 768) 255
+            ∙ ap (λ (j : ℕ). get_or before j 255) (let q : 768 + (i - 768) ≡ i = omega arith in q);
+      }

@@ -71,8 +71,8 @@ fn variable_type(group: &Group, i: usize) -> Ty
 }
 
 // A lane of class m is lowered to the owner d if its marker is lacking.
-fn lower_lane(set: u8, lane: Lane, m: usize, d: usize, row: &mut [u8])
-    requires { (m < 256) × (d < 256) × (768 ≤ length row.old) }
+fn lower_lane(set: u8, lane: Lane, m: usize, d: usize, row: &mut [u8; OWNERS])
+    requires { (m < 256) × (d < 256) }
     ensures { Lowering (InLane set m d lane) row.old row.new }
 {
     if has(set, lane.set()) {
@@ -83,8 +83,8 @@ fn lower_lane(set: u8, lane: Lane, m: usize, d: usize, row: &mut [u8])
 }
 
 // So are all lanes, if d encloses m.
-fn offer(marks: &[bool; CLASS_LIMIT], set: u8, m: usize, d: usize, row: &mut [u8])
-    requires { (m < 256) × (d < 256) × (768 ≤ length row.old) }
+fn offer(marks: &[bool; CLASS_LIMIT], set: u8, m: usize, d: usize, row: &mut [u8; OWNERS])
+    requires { (m < 256) × (d < 256) }
     ensures { Lowering (Offered marks.now set m d) row.old row.new }
 {
     if !marks[d] {
@@ -95,42 +95,49 @@ fn offer(marks: &[bool; CLASS_LIMIT], set: u8, m: usize, d: usize, row: &mut [u8
     }
 }
 
-// What the records of class m use.
-fn seed_records(formed: &Formed, markers: &[u8], group: &Group, m: usize, row: &mut [u8])
-    requires known { Known (groups formed.now.sheets) markers.now }
-    requires group { group.now ≡ groups formed.now.sheets m }
-    requires there { (m < count formed.now.sheets) × (768 ≤ length row.old) }
-    ensures { Lowering (OneOf (ByRecord (groups formed.now.sheets) m) (groups formed.now.sheets m)) row.old row.new }
-{
-    let marks = enclosers(&formed.sheets, m);
-    for record in group.records() {
-        if let Body::Uses { class, index } = record.body() {
-            let ty = variable_type(&formed.sheets.group(class), index);
-            offer(&marks, type_markers(ty, markers), m, class, row);
+// Formed sheets and the row of their classes' markers.
+#[derive(Drop)]
+struct Marked<'a> {
+    formed: &'a Formed<'a>,
+    markers: &'a [u8],
+    ghost known: { Known (groups formed.now.sheets) markers.now },
+}
+
+impl<'a> Marked<'a> {
+    // What the records of class m use.
+    fn seed_records(&self, m: usize, row: &mut [u8; OWNERS])
+        requires { m < count self.now.formed.now.sheets }
+        ensures { Lowering (OneOf (ByRecord (groups self.now.formed.now.sheets) m) (groups self.now.formed.now.sheets m)) row.old row.new }
+    {
+        let sheets = &self.formed.sheets;
+        let group = sheets.group(m);
+        let marks = enclosers(sheets, m);
+        for record in group.records() {
+            if let Body::Uses { class, index } = record.body() {
+                let ty = variable_type(&sheets.group(class), index);
+                offer(&marks, type_markers(ty, self.markers), m, class, row);
+            }
         }
     }
-}
 
-// What class m itself uses. Most classes use nothing.
-fn seed_class(formed: &Formed, markers: &[u8], m: usize, row: &mut [u8])
-    requires known { Known (groups formed.now.sheets) markers.now }
-    requires there { (m < count formed.now.sheets) × (768 ≤ length row.old) }
-    ensures { Lowering (OneOf (ByRecord (groups formed.now.sheets) m) (groups formed.now.sheets m)) row.old row.new }
-{
-    let group = formed.sheets.group(m);
-    if group.has(Kind::Uses) {
-        seed_records(formed, markers, &group, m, row);
+    // What class m itself uses. Most classes use nothing.
+    fn seed_class(&self, m: usize, row: &mut [u8; OWNERS])
+        requires { m < count self.now.formed.now.sheets }
+        ensures { Lowering (OneOf (ByRecord (groups self.now.formed.now.sheets) m) (groups self.now.formed.now.sheets m)) row.old row.new }
+    {
+        if self.formed.sheets.group(m).has(Kind::Uses) {
+            self.seed_records(m, row);
+        }
     }
-}
 
-// What each class itself uses. No library class uses a variable.
-fn seed(formed: &Formed, markers: &[u8], row: &mut [u8])
-    requires known { Known (groups formed.now.sheets) markers.now }
-    requires long { 768 ≤ length row.old }
-    ensures { Lowering (ByClasses (groups formed.now.sheets) (count formed.now.sheets)) row.old row.new }
-{
-    for m in formed.sheets.library_count()..formed.sheets.count() {
-        seed_class(formed, markers, m, row);
+    // What each class itself uses. No library class uses a variable.
+    fn seed(&self, row: &mut [u8; OWNERS])
+        ensures { Lowering (ByClasses (groups self.now.formed.now.sheets) (count self.now.formed.now.sheets)) row.old row.new }
+    {
+        let sheets = &self.formed.sheets;
+        for m in sheets.library_count()..sheets.count() {
+            self.seed_class(m, row);
+        }
     }
 }
 
@@ -141,9 +148,10 @@ pub fn captures(formed: &Formed, markers: &[u8], row: &mut [u8])
     ensures { Captured (groups formed.now.sheets) (count formed.now.sheets) row.old row.new }
 {
     let _passed = formed.sheets.count();
-    row[..OWNERS].fill(EMPTY);
-    seed(formed, markers, row);
-    close(&formed.sheets, Along::Builds, LANES.len(), row);
+    let owners: &mut [u8; OWNERS] = row.first_chunk_mut().unwrap();
+    owners.fill(EMPTY);
+    Marked { formed, markers }.seed(owners);
+    close(&formed.sheets, Along::Builds, LANES.len(), owners);
 }
 
 /// Whether class l has an owner in a lane.

@@ -1,12 +1,14 @@
 -- The search along BUILDS from what each class itself uses.
-use Rattle.reach.proofs.Depending.{emptied}
-use Rattle.captured.proofs.Meaning.{captures_fit, captures_end}
+use Rattle.std.proofs.Common.{◌∙◌, arith}
+use Rattle.captured.proofs.Meaning.{captures_fit, captures_shown, captures_end}
 use Rattle.captured.proofs.captures.Goals as goal
 
 pub close-requires-clause-seeds_fit : goal.close-requires-clause-seeds_fit
 close-requires-clause-seeds_fit c =
-    captures_fit c.count-passed.ensures.passed c.args.formed.now.formed (emptied _ (c.fill.ensures.after (λ y e. e)) c.requires.long) c.seed.ensures
+    captures_fit c.count-passed.ensures.passed c.args.formed.now.formed (c.fill.ensures.after (λ y e. e)) (omega (arith, c.fill.ensures.len, c.seed.ensures.long, c.seed.array_long)) c.seed.ensures
 
 pub returns : goal.returns
 returns c =
-    captures_end c.count-passed.ensures.passed c.args.formed.now.formed (emptied _ (c.fill.ensures.after (λ y e. e)) c.requires.long) c.seed.ensures c.close.ensures c.close.auto.row
+    captures_end c.count-passed.ensures.passed c.args.formed.now.formed (c.close.auto.row ∙ c.seed.array_long) c.requires.long
+    (captures_shown c.count-passed.ensures.passed c.args.formed.now.formed (c.fill.ensures.after (λ y e. e))
+    (omega (arith, c.fill.ensures.len, c.seed.ensures.long, c.seed.array_long)) c.seed.ensures c.close.ensures)

@@ -4,11 +4,11 @@ use Rattle.theory.proofs.Accept.{RecordFits}
 use Rattle.sheets.specs.Sheets.{count, groups, library_count}
 use Rattle.captured.specs.Seeds.{ByRecord}
 use Rattle.captured.proofs.Lowering.{Left}
-use Rattle.captured.proofs.seed_records.Given as goal
+use Rattle.captured.proofs.Marked.seed_records.Given as goal
 
 abbrev pub invariant-loop-record : goal.invariant-loop-record
 invariant-loop-record l =
     (goal.iterator-loop-record).can_next l.record-iterator
     × (goal.iterator-loop-record).is_finite l.record-iterator
-    × All (RecordFits (library_count l.fn.formed.sheets) (count l.fn.formed.sheets) (groups l.fn.formed.sheets) l.fn.m) l.record-iterator
-    × Left (ByRecord (groups l.fn.formed.sheets) l.fn.m) (groups l.fn.formed.sheets l.fn.m) l.fn.row l.row l.record-iterator
+    × All (RecordFits (library_count l.fn.self.formed.now.sheets) (count l.fn.self.formed.now.sheets) (groups l.fn.self.formed.now.sheets) l.fn.m) l.record-iterator
+    × Left (ByRecord (groups l.fn.self.formed.now.sheets) l.fn.m) (groups l.fn.self.formed.now.sheets l.fn.m) l.fn.row l.row l.record-iterator
