@@ -1,15 +1,14 @@
 -- What is not allowed of library classes: the row, and what an entry says.
 -- Assumes nothing.
-use mathlib.Core.Path.{◌≡◌, refl, sym, ap, ◌∙◌}
+use mathlib.Core.Path.{◌≡◌, refl, ap, ◌∙◌}
 use mathlib.Core.Bool.{Bool, true, false, not, ◌&&◌, ◌||◌}
-use mathlib.Core.List.{List, [], ◌∷◌}
-use Prim.Native.Nat.{ℕ, ◌+◌, ◌≤◌, ◌<◌}
+use mathlib.Core.List.{List, [], ◌∷◌, ◌++◌}
+use Prim.Native.Nat.{ℕ, ◌+◌, ◌-◌, ◌≤◌, ◌<◌}
 use native.Mathlib.Omega.{arith}
 use lib.Dec.{ltb}
-use lib.ListN.{length, get_or, set, replicate, length-set}
-use lib.Seq.{get_or-set_same, get_or-set_other}
-use borrow.Author.Count.{below_more}
-use borrow.Author.Tests.{lt-ltb, ltb-true, ltb-false}
+use lib.ListN.{length, get_or, drop, replicate, length-append, length-drop, get_or-append}
+use borrow.Author.Tests.{ltb-true, ltb-false}
+use Rattle.std.proofs.lemmas.List.{get_or-append_right, get_or-drop}
 use Rattle.std.specs.List.{list_any}
 use Rattle.spec.specs.Lists.{any}
 use Rattle.spec.specs.Record.{bit, flags}
@@ -28,33 +27,19 @@ any_is p (r ∷ h) = ap (λ (b : Bool). p r || b) (any_is p h)
 
 -- ---- the row of them
 
-abbrev told : ℕ → (ℕ → Group) → ℕ → Ban
-told nlib g d = elim (ltb d nlib) as (λ (b : Bool). Ban) [ true ↦ ban_of (g d) | false ↦ nothing ]
-
--- the entries below d are written, the others say nothing
-pub record Banning (nlib : ℕ) (g : ℕ → Group) (row : List Ban) (d : ℕ) : Type 0 where
-  pub long : length row ≡ 256
-  pub below : (e : ℕ) → e < d → get_or row e nothing ≡ told nlib g e
-  pub above : (e : ℕ) → d ≤ e → get_or row e nothing ≡ nothing
-
-pub ban_start : {nlib : ℕ} {g : ℕ → Group} → Banning nlib g (replicate 256 nothing) 0
-ban_start = record { long = refl; below = λ d h. absurd (omega arith); above = λ d h. same_all nothing 256 d }
-
-module _ {nlib : ℕ} {g : ℕ → Group} {row : List Ban} {d : ℕ} (w : Banning nlib g row d) where
-  pub ban_next : d < nlib → nlib ≤ 256 → {b : Ban} → b ≡ ban_of (g d) → Banning nlib g (set row d b) (d + 1)
-  ban_next h few {b} eb = record {
-    long = length-set row d b ∙ w.long;
-    below = below_more (λ e. get_or (set row d b) e nothing ≡ told nlib g e) d (λ e l. get_or-set_other row d e b nothing (λ q. omega arith) ∙ w.below e l)
-        (get_or-set_same row d b nothing (omega (arith, w.long)) ∙ eb ∙ sym (ap (λ (x : Bool). elim x as (λ (y : Bool). Ban) [ true ↦ ban_of (g d) | false ↦ nothing ]) (lt-ltb d nlib h)));
-    above = λ e k. get_or-set_other row d e b nothing (λ q. omega arith) ∙ w.above e (omega arith);
-  }
-
-pub ban_end : {nlib : ℕ} {g : ℕ → Group} {row : List Ban} → nlib ≤ 256 → Banning nlib g row nlib → Bans nlib g row
-ban_end {nlib} {g} {row} few w = record { few = few; long = w.long; is = λ e. go e (ltb e nlib) refl }
+-- those of the library, before entries that say nothing
+pub ban_all : {nlib : ℕ} {g : ℕ → Group} (front : List Ban) → nlib ≤ 256 → length front ≡ nlib → ((d : ℕ) → d < nlib → get_or front d nothing ≡ ban_of (g d))
+    → Bans nlib g (front ++ drop nlib (replicate 256 nothing))
+ban_all {nlib} {g} front few l f = record { few = few; long = simp (length-append, length-drop) (omega arith); is = λ d. go d (ltb d nlib) refl }
   where
-    go : (e : ℕ) (b : Bool) → ltb e nlib ≡ b → get_or row e nothing ≡ elim b as (λ (x : Bool). Ban) [ true ↦ ban_of (g e) | false ↦ nothing ]
-    go e true q = w.below e (ltb-true e nlib q) ∙ ap (λ (b : Bool). elim b as (λ (x : Bool). Ban) [ true ↦ ban_of (g e) | false ↦ nothing ]) q
-    go e false q = w.above e (ltb-false e nlib q)
+    rest : List Ban
+    rest = drop nlib (replicate 256 nothing)
+
+    go : (d : ℕ) (b : Bool) → ltb d nlib ≡ b → get_or (front ++ rest) d nothing ≡ elim b as (λ (x : Bool). Ban) [ true ↦ ban_of (g d) | false ↦ nothing ]
+    go d true q = let h = ltb-true d nlib q in get_or-append front rest nothing d (omega arith) ∙ f d h
+    go d false q =
+        get_or-append_right front rest nlib d nothing l (ltb-false d nlib q) ∙ get_or-drop nlib (replicate 256 nothing) (d - nlib) nothing
+        ∙ same_all nothing 256 (nlib + (d - nlib))
 
 -- ---- an entry
 

@@ -50,8 +50,8 @@ pub fn bans(sheets: &Sheets) -> [Ban; CLASS_LIMIT]
     ensures { Bans (library_count sheets.now) (groups sheets.now) result }
 {
     let mut row = [NOTHING; CLASS_LIMIT];
-    for d in 0..sheets.library_count() {
-        row[d] = Ban::of(&sheets.group(d));
+    for (d, ban) in row[..sheets.library_count()].iter_mut().enumerate() {
+        *ban = Ban::of(&sheets.group(d));
     }
     row
 }

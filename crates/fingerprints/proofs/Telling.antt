@@ -21,6 +21,9 @@ use Rattle.fingerprints.specs.Fingerprints.{print_of, Printed}
 abbrev pub print_at : (ℕ → Group) → ℕ → ℕ
 print_at g d = print_of (class_name (class_record (g d)))
 
+pub name_print : (g : ℕ → Group) (d : ℕ) {h : Group} {name : List ℕ} {print : ℕ} → h ≡ g d → name ≡ class_name (class_record h) → print ≡ print_of name → print ≡ print_at g d
+name_print g d eh en ep = ep ∙ ap print_of (en ∙ ap (λ (h : Group). class_name (class_record h)) eh)
+
 -- ---- a row that is read whole
 
 pub elem_more : (n : ℕ) (xs : List ℕ) (i : ℕ) → i < length xs → elem n (take (i + 1) xs) ≡ (elem n (take i xs) || eqb n (get_or xs i 0))

@@ -28,8 +28,8 @@ pub fn prints(sheets: &Sheets, row: &mut [u16])
     ensures first { Printed (groups sheets.now) (count sheets.now) row.new }
     ensures rest { drop (count sheets.now) row.new ≡ drop (count sheets.now) row.old }
 {
-    for c in 0..sheets.count() {
-        row[c] = print_of(sheets.group(c).name());
+    for (c, print) in row[..sheets.count()].iter_mut().enumerate() {
+        *print = print_of(sheets.group(c).name());
     }
 }
 

@@ -5,7 +5,7 @@ use mathlib.Core.List.{List, map}
 use Prim.Native.Nat.{ℕ, zero, suc, ◌+◌, ◌<◌}
 use native.Mathlib.Nat.{zero-add}
 use native.Mathlib.Omega.{arith}
-use lib.ListN.{length, get_or, drop, set, length-map}
+use lib.ListN.{length, get_or, set, length-map}
 use lib.Seq.{get_or-set_same, get_or-set_other}
 use borrow.Author.Count.{below_more}
 use Rattle.spec.specs.Lists.{span}
@@ -29,12 +29,8 @@ module _ (f : ℕ → ℕ) (n : ℕ) where
   get_or_values d k h = values_from f d 0 n k h ∙ ap f (zero-add k)
 
 -- the entries below c and the new one at c: so all below c + 1
-pub set_below : (P : ℕ → ℕ → Type 0) (row : List ℕ) (c v : ℕ) → c < length row → ((d : ℕ) → d < c → P d (get_or row d 0)) → P c v → (d : ℕ) → d < c + 1 → P d (get_or (set row c v) d 0)
-set_below P row c v h f p =
-    below_more (λ d. P d (get_or (set row c v) d 0)) c (λ d l. subst (P d) (sym (get_or-set_other row c d v 0 (λ q. omega arith))) (f d l)) (subst (P c) (sym (get_or-set_same row c v 0 h)) p)
-
--- n entries of a row become the values of f: those below c are there, those from n on are kept
-pub record Filling (f : ℕ → ℕ) (n : ℕ) (before row : List ℕ) (c : ℕ) : Type 0 where
-  pub long : length row ≡ length before
-  pub new : (d : ℕ) → d < c → get_or row d 0 ≡ f d
-  pub rest : drop n row ≡ drop n before
+pub set_below : {A : Type 0} (z : A) (P : ℕ → A → Type 0) (row : List A) (c : ℕ) (v : A) → c < length row → ((d : ℕ) → d < c → P d (get_or row d z)) → P c v
+    → (d : ℕ) → d < c + 1 → P d (get_or (set row c v) d z)
+set_below z P row c v h f p =
+    below_more (λ d. P d (get_or (set row c v) d z)) c (λ d l. subst (P d) (sym (get_or-set_other row c d v z (λ q. omega arith))) (f d l))
+    (subst (P c) (sym (get_or-set_same row c v z h)) p)

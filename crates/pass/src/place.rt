@@ -60,10 +60,7 @@ impl Place {
         if candidate.is_class() {
             return self.classes < CLASS_LIMIT;
         }
-        match self.group {
-            Some(group) => group.records < RECORD_LIMIT,
-            None => true,
-        }
+        self.group.is_none_or(|group| group.records < RECORD_LIMIT)
     }
 
     /// Whether the record is of no lower kind than the one before it in its group.

@@ -3,11 +3,11 @@
 use mathlib.Core.Path.{◌≡◌, refl, sym, ap, ◌∙◌}
 use mathlib.Core.Bool.{Bool, true, false, not}
 use mathlib.Core.Logic.{◌⊎◌, inl, inr}
-use mathlib.Core.List.{List, [], ◌∷◌}
+use mathlib.Core.List.{List, [], ◌∷◌, ◌++◌}
 use Prim.Native.Nat.{ℕ, ◌≤◌, ◌<◌}
 use native.Mathlib.Omega.{arith}
 use lib.Dec.{T, ltb, ltb→lt, nltb→le}
-use lib.ListN.{length, get_or}
+use lib.ListN.{length, get_or, get_or-append, length-append}
 use Rattle.spec.specs.Lists.{keep}
 use Rattle.spec.specs.Record.{is_kind, LOCAL, MEMBER}
 use Rattle.spec.specs.Sheet.{Group, of_kind}
@@ -85,6 +85,11 @@ module _ {p : Pair} {row : List Asked} (w : Heads p row) (t : ℕ) (h : t < coun
   indexed_none User Library q n = sym (w.locals t (library_of q))
   indexed_none User User q n = absurd (n refl)
 
-pub heads_are : {p : Pair} → Passed p → {row : List Asked} → length row ≡ 256 → ((d : ℕ) (e : Asked) → d < count p → get_or row d e ≡ asked_of p d)
-    → Heads p row
-heads_are w l f = record { long = omega (arith, l, w.few); heads = f; locals = λ d h. library_locals (indexed w) h; members = λ d h k. user_members (indexed w) h k }
+pub heads_are : {p : Pair} → Passed p → (front rest : List Asked) → length front ≡ count p → ((d : ℕ) (e : Asked) → d < count p → get_or front d e ≡ asked_of p d) → Heads p (front ++ rest)
+heads_are w front rest l f =
+    record {
+      long = omega (arith, l, length-append front rest);
+      heads = λ d e h. get_or-append front rest e d (omega (arith, l)) ∙ f d e h;
+      locals = λ d h. library_locals (indexed w) h;
+      members = λ d h k. user_members (indexed w) h k;
+    }

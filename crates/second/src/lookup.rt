@@ -62,8 +62,8 @@ impl<'a> Lookup<'a> {
             interface: false,
             indexed: 0,
         }; CLASS_LIMIT];
-        for c in 0..n {
-            asked[c] = asked_of(sheets, c);
+        for (c, entry) in asked[..n].iter_mut().enumerate() {
+            *entry = asked_of(sheets, c);
         }
         Lookup {
             sheets,

@@ -113,5 +113,5 @@ passing_none l = record { long = l; is = λ c h. absurd (omega arith) }
 pub passing_next : {nlib c : ℕ} {g : ℕ → Group} {row : List ℕ} → Passing nlib c g row → c < 256 → {v : ℕ} → ClassSet nlib g c v → Passing nlib (c + 1) g (set row c v)
 passing_next {nlib} {c} {g} {row} w h {v} s = record {
   long = length-set row c v ∙ w.long;
-  is = set_below (λ d x. ClassSet nlib g d x) row c v (omega (arith, w.long)) w.is s;
+  is = set_below 0 (λ d x. ClassSet nlib g d x) row c v (omega (arith, w.long)) w.is s;
 }

@@ -23,7 +23,7 @@ loop-c-init c =
 pub loop-c-preserved : goal.loop-c-preserved
 loop-c-preserved c =
     let inv = c.loop-c.invariant in (
-      set_below (λ i v. v ≡ overlay (groups c.args.formed.now.sheets) i) _ _ _ (omega arith) inv.0 c.overlay.ensures.markers,
+      set_below 0 (λ i v. v ≡ overlay (groups c.args.formed.now.sheets) i) _ _ _ (omega arith) inv.0 c.overlay.ensures.markers,
       memo_asked _ _ _ inv.1 (omega arith) (omega (arith, c.args.formed.now.few, c.split_at_mut-there.ensures.front_len)) c.overlay.ensures.memo _ (omega arith),
     )
 
