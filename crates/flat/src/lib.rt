@@ -37,9 +37,7 @@ fn put(verdicts: &mut [u8], i: usize, fault: Option<Fault>)
     ensures { verdicts.new ≡ put_at i (line_of fault) verdicts.old }
 {
     let at = VERDICT_BYTES * i;
-    let [rule, record] = line(fault);
-    verdicts[at] = rule;
-    verdicts[at + 1] = record;
+    verdicts[at..at + VERDICT_BYTES].copy_from_slice(&line(fault));
 }
 
 // Writes the verdict of each user class whose mark is 0. A clean class needs no walk over the rules.

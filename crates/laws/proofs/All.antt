@@ -10,6 +10,7 @@ use native.Mathlib.Nat.{add-zero, add-suc, suc-add, le_of_suc-le-suc, not-suc-le
 use native.Mathlib.Omega.{arith}
 use lib.Dec.{T}
 use lib.ListN.{length, get_or, take, drop, set}
+use Rattle.std.specs.Coded.{×_prop, Unit-prop}
 use Rattle.spec.specs.Lists.{any, all, concat, keep, gather, numbered, span}
 use Rattle.laws.proofs.Bools.{and_l, and_r, t_and, not_or, not_or_l, not_or_r}
 
@@ -21,6 +22,10 @@ module _ {A : Type 0} (P : A → Type 0) where
   abbrev pub Any : List A → Type 0
   Any [] = ⊥
   Any (x ∷ xs) = P x ⊎ Any xs
+
+  pub all_prop : ((x : A) → IsProp (P x)) → (xs : List A) → IsProp (All xs)
+  all_prop each [] = Unit-prop
+  all_prop each (x ∷ xs) = ×_prop (each x) (all_prop each xs)
 
   pub all_append : (xs ys : List A) → All xs → All ys → All (xs ++ ys)
   all_append [] ys h k = k

@@ -1,23 +1,31 @@
--- The bytes of a line that is there, one store each.
-use Rattle.std.proofs.Common.{arith, add-one}
-use Rattle.std.proofs.Math.ListN.{length-set}
+-- The bytes of a line that is there, written as one part of the row.
+use Rattle.std.proofs.Common.{◌≡◌, ◌∙◌, ◌++◌, ◌+◌, ◌*◌, ◌≤◌, length, take, drop, List, ℕ, sym, ap, arith}
+use mathlib.Core.List.{append_assoc}
+use Rattle.std.proofs.lemmas.List.{drop-drop}
+use Rattle.std.proofs.lemmas.List.Edits.{sets, sets-eq}
+use borrow.Rule.Slice.PartMut.{put_mid}
 use Rattle.spec.specs.Verdicts.{bytes_of}
 use Rattle.theory.proofs.FlatRow.{line_room}
+use Rattle.rules.specs.Line.{line_of}
 use Rattle.flat.specs.Row.{put_at}
 use Rattle.flat.proofs.put.Goals as goal
+
+part_set : (vs ys l : List ℕ) (i k : ℕ) → ys ≡ vs → k ≡ length vs → i + length vs ≤ length l → put_mid i k l ys ≡ sets l i vs
+part_set vs ys l i k e n h =
+    ap (λ (s : List ℕ). take i l ++ s) (ap (λ (s : List ℕ). s ++ drop k (drop i l)) e ∙ ap (λ (s : List ℕ). vs ++ s) (drop-drop k i l ∙ ap (λ (j : ℕ). drop (i + j) l) n))
+    ∙ sym (append_assoc (take i l) vs _) ∙ sym (sets-eq vs l i h)
 
 pub overflow_mul-at : goal.overflow_mul-at
 overflow_mul-at c = omega (arith, line_room _ c.requires)
 
-pub bounds-verdicts-at : goal.bounds-verdicts-at
-bounds-verdicts-at c = omega (arith, line_room _ c.requires)
+pub overflow_add-at : goal.overflow_add-at
+overflow_add-at c = omega (arith, line_room _ c.requires)
 
-pub overflow_add-verdicts : goal.overflow_add-verdicts
-overflow_add-verdicts c = omega (arith, line_room _ c.requires)
-
-pub bounds-verdicts-at-2 : goal.bounds-verdicts-at-2
-bounds-verdicts-at-2 c = simp length-set (omega (arith, line_room _ c.requires))
+pub slice_bounds-copy_from_slice-end : goal.slice_bounds-copy_from_slice-end
+slice_bounds-copy_from_slice-end c = omega (arith, line_room _ c.requires)
 
 pub returns : goal.returns
 unfolding put_at bytes_of
-returns c = rw (add-one, c.line.ensures)
+returns c =
+    part_set (bytes_of (line_of c.args.fault)) c.copy_from_slice.new.self c.args.verdicts.now (2 * c.args.i) _ (c.copy_from_slice.ensures.after ∙ c.line.ensures) (omega arith)
+    (line_room _ c.requires)

@@ -13,5 +13,5 @@ loop-c-preserved c = λ d e. set_below e (λ i v. v ≡ asked_of c.args.sheets.n
 pub invariant_of-result-clause-heads : goal.invariant_of-result-clause-heads
 invariant_of-result-clause-heads c =
     let all : length c.loop-c.entry-items ≡ count c.args.sheets.now =
-        omega (arith, length-take {A = Asked} c.count-n.result (replicate 256 (record { interface = false; indexed = 0 })), c.count-n.ensures.passed.few) in
+    omega (arith, length-take {A = Asked} c.count-n.result (replicate 256 (record { interface = false; indexed = 0 })), c.count-n.ensures.passed.few) in
     heads_are c.count-n.ensures.passed _ _ all (λ d e h. c.loop-c.invariant d e (omega (arith, all)))
