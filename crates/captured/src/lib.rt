@@ -97,13 +97,13 @@ fn offer(marks: &[bool; CLASS_LIMIT], set: u8, m: usize, d: usize, row: &mut [u8
 
 // Formed sheets and the row of their classes' markers.
 #[derive(Drop)]
-struct Marked<'a> {
+struct MarkedSheets<'a> {
     formed: &'a Formed<'a>,
     markers: &'a [u8],
     ghost known: { Known (groups formed.now.sheets) markers.now },
 }
 
-impl<'a> Marked<'a> {
+impl<'a> MarkedSheets<'a> {
     // What the records of class m use.
     fn seed_records(&self, m: usize, row: &mut [u8; OWNERS])
         requires { m < count self.now.formed.now.sheets }
@@ -150,7 +150,7 @@ pub fn captures(formed: &Formed, markers: &[u8], row: &mut [u8])
     let _passed = formed.sheets.count();
     let owners: &mut [u8; OWNERS] = row.first_chunk_mut().unwrap();
     owners.fill(EMPTY);
-    Marked { formed, markers }.seed(owners);
+    MarkedSheets { formed, markers }.seed(owners);
     close(&formed.sheets, Along::Builds, LANES.len(), owners);
 }
 

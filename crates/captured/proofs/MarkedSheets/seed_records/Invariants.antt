@@ -4,7 +4,7 @@ use Rattle.theory.proofs.Accept.{RecordFits}
 use Rattle.sheets.specs.Sheets.{count, groups, library_count}
 use Rattle.captured.specs.Seeds.{ByRecord}
 use Rattle.captured.proofs.Lowering.{Left}
-use Rattle.captured.proofs.Marked.seed_records.Given as goal
+use Rattle.captured.proofs.MarkedSheets.seed_records.Given as goal
 
 abbrev pub invariant-loop-record : goal.invariant-loop-record
 invariant-loop-record l =

@@ -1,7 +1,7 @@
 -- What the classes below the next one use.
 use Rattle.sheets.specs.Sheets.{groups}
 use Rattle.captured.specs.Seeds.{Lowering, ByClasses}
-use Rattle.captured.proofs.Marked.seed.Given as goal
+use Rattle.captured.proofs.MarkedSheets.seed.Given as goal
 
 abbrev pub invariant-loop-m : goal.invariant-loop-m
 invariant-loop-m l = Lowering (ByClasses (groups l.fn.self.formed.now.sheets) l.m) l.fn.row l.row

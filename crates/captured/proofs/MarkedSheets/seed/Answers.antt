@@ -1,7 +1,7 @@
 use native.Mathlib.Omega.{arith}
 use Rattle.overlay.proofs.Memos.{library_low}
 use Rattle.captured.proofs.Seeding.{all_start, all_next, all_end}
-use Rattle.captured.proofs.Marked.seed.Goals as goal
+use Rattle.captured.proofs.MarkedSheets.seed.Goals as goal
 
 pub loop-m-init : goal.loop-m-init
 loop-m-init c = rw c.library_count-m.ensures.count (all_start c.count-m-end.ensures.passed _)

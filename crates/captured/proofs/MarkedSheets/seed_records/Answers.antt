@@ -6,7 +6,7 @@ use Rattle.theory.proofs.Accept.{RecordFits, form_fits}
 use Rattle.sheets.specs.Sheets.{count, groups, library_count}
 use Rattle.captured.proofs.Lowering.{left_all, left_next, left_none}
 use Rattle.captured.proofs.Seeding.{record_other, variable_markers, owner_there, variable_there, record_uses}
-use Rattle.captured.proofs.Marked.seed_records.Goals as goal
+use Rattle.captured.proofs.MarkedSheets.seed_records.Goals as goal
 
 pub loop-record-init : goal.loop-record-init
 loop-record-init c =
