@@ -147,7 +147,6 @@ pub fn captures(formed: &Formed, markers: &[u8], row: &mut [u8])
     requires long { 768 ≤ length row.old }
     ensures { Captured (groups formed.now.sheets) (count formed.now.sheets) row.old row.new }
 {
-    let _passed = formed.sheets.count();
     let owners: &mut [u8; OWNERS] = row.first_chunk_mut().unwrap();
     owners.fill(EMPTY);
     MarkedSheets { formed, markers }.seed(owners);

@@ -17,10 +17,9 @@ use sheets::formed::Formed;
 
 // The encloser of class c, unless its number is not lower.
 fn outer(sheets: &Sheets, c: usize) -> Option<usize>
-    requires { c < count sheets.now }
+    requires { (c < count sheets.now) × (c ≤ 256) }
     ensures { result ≡ lower_outer (groups sheets.now) c }
 {
-    let _passed = sheets.count();
     match sheets.group(c).head().encloser {
         Some(e) if e < c => Some(e),
         _ => None,
@@ -190,7 +189,6 @@ pub fn dependents(formed: &Formed, d: usize, row: &mut [u8])
     requires { (d < count formed.now.sheets) × (256 ≤ length row.old) }
     ensures { row.new ≡ dependent_row formed.now.sheets.library formed.now.sheets.user d row.old }
 {
-    let _passed = formed.sheets.count();
     row[..CLASS_LIMIT].fill(EMPTY);
     row[d] = 0;
     close(&formed.sheets, Along::Every, 1, row);

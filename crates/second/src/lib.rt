@@ -4,7 +4,7 @@
 ghost use Rattle.std.specs.Prelude.{◌<◌};
 ghost use Rattle.spec.specs.Refusals.{form_refusal};
 ghost use Rattle.refusals.specs.Refusals.{Answers};
-ghost use Rattle.sheets.specs.Sheets.{Passed, count};
+ghost use Rattle.sheets.specs.Sheets.{count};
 ghost use Rattle.second.specs.Second.{class_refusal};
 
 mod fits;
@@ -16,8 +16,7 @@ use sheets::Sheets;
 
 // The records of class c.
 fn class_pass(lookup: &Lookup, c: usize) -> Result<(), Refusal>
-    requires passed { Passed lookup.now.sheets.now }
-    requires there { c < count lookup.now.sheets.now }
+    requires { c < count lookup.now.sheets.now }
     ensures { Answers (class_refusal lookup.now.sheets.now c) result (λ _. Unit {0}) }
 {
     let sheets = lookup.sheets;

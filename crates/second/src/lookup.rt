@@ -1,5 +1,7 @@
 // What records ask of the classes that they name: it stands in rows, so that no sheet is read for it again.
 ghost use Rattle.std.specs.Prelude.{◌≡◌, ◌<◌};
+ghost use Rattle.std.proofs.Props.{props};
+ghost use Rattle.laws.proofs.All.{all_prop};
 ghost use Rattle.sheets.specs.Sheets.{Passed, count, groups};
 ghost use Rattle.fingerprints.specs.Fingerprints.{Printed};
 ghost use Rattle.second.specs.Second.{Heads, Enclosing, indexed_kind, asked_of};
@@ -23,6 +25,7 @@ pub struct Lookup<'a> {
     pub sheets: &'a Sheets<'a>,
     pub prints: [u16; CLASS_LIMIT],
     pub asked: [Asked; CLASS_LIMIT],
+    pub ghost passed: { Passed sheets.now } by { Prim.hlevel (all_prop, props) },
     pub ghost printed: { Printed (groups sheets.now) (count sheets.now) prints },
     pub ghost heads: { Heads sheets.now asked },
 }

@@ -1,7 +1,9 @@
-ghost use Rattle.std.specs.Prelude.{◌≡◌, ◌≤◌};
+ghost use Rattle.std.specs.Prelude.{◌≡◌};
 ghost use Rattle.std.proofs.Math.Option.{none};
+ghost use Rattle.std.proofs.Props.{props};
 ghost use Rattle.spec.specs.Refusals.{form_refusal};
-ghost use Rattle.sheets.specs.Sheets.{count};
+ghost use Rattle.laws.proofs.All.{all_prop};
+ghost use Rattle.sheets.specs.Sheets.{Passed};
 
 use crate::Sheets;
 
@@ -9,6 +11,6 @@ use crate::Sheets;
 #[derive(Drop)]
 pub struct Formed<'a> {
     pub sheets: Sheets<'a>,
-    pub ghost few: { count sheets ≤ 256 },
+    pub ghost passed: { Passed sheets } by { Prim.hlevel (all_prop, props) },
     pub ghost formed: { form_refusal sheets.library sheets.user ≡ none },
 }

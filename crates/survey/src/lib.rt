@@ -6,7 +6,7 @@ ghost use Rattle.spec.specs.Lists.{any};
 ghost use Rattle.spec.specs.Record.{bit};
 ghost use Rattle.spec.specs.Rules.{verdict_of};
 ghost use Rattle.laws.proofs.All.{All};
-ghost use Rattle.sheets.specs.Sheets.{Passed, count, groups, library_count};
+ghost use Rattle.sheets.specs.Sheets.{count, groups, library_count};
 ghost use Rattle.slots.specs.Slots.{base_by, rule_marker};
 ghost use Rattle.breaks.specs.Bans.{Refers};
 ghost use Rattle.survey.specs.Survey.{is_clean, head_by, any_late, record_breaks, ClassSet, Passing};
@@ -39,7 +39,6 @@ pub struct Survey<'a> {
 
 // The markers whose rules class t and its superclasses up to the root pass, by the sets of lower classes. An interface has no slots.
 fn class_set(judging: &Judging, sets: &[u8], t: usize) -> u8
-    requires passed { Passed judging.now.formed.now.sheets }
     requires there { t < count judging.now.formed.now.sheets }
     requires passing { Passing (library_count judging.now.formed.now.sheets) t (groups judging.now.formed.now.sheets) sets.now }
     ensures { ClassSet (library_count judging.now.formed.now.sheets) (groups judging.now.formed.now.sheets) t result }

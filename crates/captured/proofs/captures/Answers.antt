@@ -5,10 +5,10 @@ use Rattle.captured.proofs.captures.Goals as goal
 
 pub close-requires-clause-seeds_fit : goal.close-requires-clause-seeds_fit
 close-requires-clause-seeds_fit c =
-    captures_fit c.count-passed.ensures.passed c.args.formed.now.formed (c.fill.ensures.after (λ y e. e)) (omega (arith, c.fill.ensures.len, c.seed.ensures.long, c.seed.array_long)) c.seed.ensures
+    captures_fit c.args.formed.now.passed c.args.formed.now.formed (c.fill.ensures.after (λ y e. e)) (omega (arith, c.fill.ensures.len, c.seed.ensures.long, c.seed.array_long)) c.seed.ensures
 
 pub returns : goal.returns
 returns c =
-    captures_end c.count-passed.ensures.passed c.args.formed.now.formed (c.close.auto.row ∙ c.seed.array_long) c.requires.long
-    (captures_shown c.count-passed.ensures.passed c.args.formed.now.formed (c.fill.ensures.after (λ y e. e))
+    captures_end c.args.formed.now.passed c.args.formed.now.formed (c.close.auto.row ∙ c.seed.array_long) c.requires.long
+    (captures_shown c.args.formed.now.passed c.args.formed.now.formed (c.fill.ensures.after (λ y e. e))
     (omega (arith, c.fill.ensures.len, c.seed.ensures.long, c.seed.array_long)) c.seed.ensures c.close.ensures)

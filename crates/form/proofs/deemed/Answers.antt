@@ -18,7 +18,7 @@ overlay-requires-clause-there c = omega (arith, c.loop-c-test.true, c.library_co
 
 pub overlay-requires-clause-knows : goal.overlay-requires-clause-knows
 overlay-requires-clause-knows c =
-    deem_asks c.loop-c.invariant (omega (arith, c.loop-c-test.true, c.library_count-c-end.ensures.count, library_low c.args.formed.now.sheets, c.args.formed.now.few))
+    deem_asks c.loop-c.invariant (omega (arith, c.loop-c-test.true, c.library_count-c-end.ensures.count, library_low c.args.formed.now.sheets, c.args.formed.now.passed.few))
 
 pub start-requires : goal.start-requires
 start-requires c = omega (arith, c.loop-c-test.true, c.library_count-c-end.ensures.count, library_low c.args.formed.now.sheets)
@@ -26,13 +26,13 @@ start-requires c = omega (arith, c.loop-c-test.true, c.library_count-c-end.ensur
 pub returns-then-deemed_breaks : goal.returns-then-deemed_breaks
 returns-then-deemed_breaks c =
     let low : c.loop-c.c < library_count c.args.formed.now.sheets = omega (arith, c.loop-c-test.true, c.library_count-c-end.ensures.count) in
-    let few : library_count c.args.formed.now.sheets ≤ 256 = omega (arith, library_low c.args.formed.now.sheets, c.args.formed.now.few) in
+    let few : library_count c.args.formed.now.sheets ≤ 256 = omega (arith, library_low c.args.formed.now.sheets, c.args.formed.now.passed.few) in
     let r = deem_stop c.loop-c.invariant few low c.overlay.ensures.markers c.deemed_breaks.ensures c.overlay.ensures.memo c.if-deemed_breaks.true in
     record { answer = deemed_found c.library_count-c-end.ensures.passed r.0 low c.start.ensures }
 
 pub loop-c-preserved : goal.loop-c-preserved
 loop-c-preserved c =
-    deem_on c.loop-c.invariant (omega (arith, library_low c.args.formed.now.sheets, c.args.formed.now.few)) (omega (arith, c.loop-c-test.true, c.library_count-c-end.ensures.count))
+    deem_on c.loop-c.invariant (omega (arith, library_low c.args.formed.now.sheets, c.args.formed.now.passed.few)) (omega (arith, c.loop-c-test.true, c.library_count-c-end.ensures.count))
     c.overlay.ensures.markers c.deemed_breaks.ensures c.overlay.ensures.memo c.if-deemed_breaks.false
 
 pub returns : goal.returns

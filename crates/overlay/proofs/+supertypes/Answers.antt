@@ -12,7 +12,7 @@ use Rattle.overlay.proofs.+supertypes.Goals as goal
 use Rattle.overlay.proofs.+supertypes.Goals.{gathered-in-Some-superclass, gathered-in_default-superclass}
 
 pub gathered-bounds : goal.gathered-bounds
-gathered-bounds t c = omega (arith, c.requires.there, c.requires.knows.long, c.args.formed.now.few)
+gathered-bounds t c = omega (arith, c.requires.there, c.requires.knows.long, c.args.formed.now.passed.few)
 
 pub gathered-gathered-requires : goal.gathered-gathered-requires
 gathered-gathered-requires t c =

@@ -10,7 +10,7 @@ use Rattle.overlay.proofs.overlays.Goals as goal
 
 pub overlay-requires-clause-knows : goal.overlay-requires-clause-knows
 overlay-requires-clause-knows c =
-    let few = c.args.formed.now.few in
+    let few = c.args.formed.now.passed.few in
     let front = c.split_at_mut-there.ensures.front_len in
     memo_asks _ _ _ c.loop-c.invariant.1 (omega arith) (omega (arith, few, front)) (omega (arith, few, library_low c.args.formed.now.sheets))
 
@@ -24,7 +24,7 @@ pub loop-c-preserved : goal.loop-c-preserved
 loop-c-preserved c =
     let inv = c.loop-c.invariant in (
       set_below 0 (λ i v. v ≡ overlay (groups c.args.formed.now.sheets) i) _ _ _ (omega arith) inv.0 c.overlay.ensures.markers,
-      memo_asked _ _ _ inv.1 (omega arith) (omega (arith, c.args.formed.now.few, c.split_at_mut-there.ensures.front_len)) c.overlay.ensures.memo _ (omega arith),
+      memo_asked _ _ _ inv.1 (omega arith) (omega (arith, c.args.formed.now.passed.few, c.split_at_mut-there.ensures.front_len)) c.overlay.ensures.memo _ (omega arith),
     )
 
 pub returns-clause-row : goal.returns-clause-row

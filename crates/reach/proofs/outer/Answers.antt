@@ -16,4 +16,4 @@ returns-in_default c =
 pub returns-in_default-2 : goal.returns-in_default-2
 returns-in_default-2 c =
     let e = none_is _ (sym c.in_default.is ∙ outer_read (groups c.args.sheets.now) c.args.c c.head.ensures c.group.ensures) in
-    in_none (groups c.args.sheets.now) c.args.c (omega (arith, c.count-passed.ensures.passed.few, c.requires))
+    in_none (groups c.args.sheets.now) c.args.c (omega (arith, c.requires))

@@ -17,7 +17,7 @@ first_is c = rw c.library_count-nlib.ensures.count at c.head_set-first.ensures
 concrete : (c : After-is_interface) → c.head-head.result ≡ head_of (class_record (groups c.args.judging.now.formed.now.sheets c.args.t)) → c.is_interface.result ≡ false
     → Concrete c.args.judging.now.formed.now.sheets c.args.t c.head-head.result
 concrete c e i = record {
-  passed = c.requires.passed;
+  passed = c.args.judging.now.formed.now.passed;
   user_class = omega (arith, c.if-t-nlib.false, c.library_count-nlib.ensures.count);
   there = c.requires.there;
   says = e;
@@ -44,7 +44,7 @@ bounds-sets-above c =
     let f = c.args.judging.now.formed.now in
     let at = goal.at.bounds-sets-above c in
     let low = above_low _ f.formed (concrete at.After-is_interface (head_is at.After-head_set-first) c.if-is_interface.false) c.in-Some.is in
-    omega (arith, low, c.requires.passing.long, c.requires.there, f.few)
+    omega (arith, low, c.requires.passing.long, c.requires.there, f.passed.few)
 
 pub returns : goal.returns
 returns c =

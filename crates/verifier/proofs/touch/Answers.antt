@@ -4,7 +4,7 @@ use Rattle.verifier.proofs.Touching.{touched_one, touched_all}
 use Rattle.verifier.proofs.touch.Goals as goal
 
 pub returns-then-cut : goal.returns-then-cut
-returns-then-cut c = let p = c.requires in touched_one _ _ _ _ refl c.args.formed.now.few p.1 c.if-cut.true
+returns-then-cut c = let p = c.requires in touched_one _ _ _ _ refl c.args.formed.now.passed.few p.1 c.if-cut.true
 
 pub returns-else-cut : goal.returns-else-cut
-returns-else-cut c = let p = c.requires in touched_all _ _ _ _ refl c.args.formed.now.few p.1 c.if-cut.false c.dependents.auto.row c.dependents.ensures
+returns-else-cut c = let p = c.requires in touched_all _ _ _ _ refl c.args.formed.now.passed.few p.1 c.if-cut.false c.dependents.auto.row c.dependents.ensures

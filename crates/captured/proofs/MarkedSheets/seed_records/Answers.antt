@@ -28,7 +28,7 @@ pub offer-requires : goal.offer-requires
 offer-requires c =
     let fits = rw c.in-Some.ensures.steps at c.loop-record.invariant.2 in
     let owner : c.in-Uses.class < count c.args.self.now.formed.now.sheets = owner_there c.args.self.now.formed.now.sheets fits.0 (rw c.in-Uses.is at c.body.ensures) in
-    omega (arith, c.args.self.now.formed.now.few, c.requires)
+    omega (arith, c.args.self.now.formed.now.passed.few, c.requires)
 
 pub loop-record-preserved-in-Uses : goal.loop-record-preserved-in-Uses
 loop-record-preserved-in-Uses c =

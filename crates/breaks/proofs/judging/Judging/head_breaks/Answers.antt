@@ -11,7 +11,7 @@ use Rattle.breaks.proofs.judging.Judging.head_breaks.Goals as goal
 use Rattle.breaks.proofs.judging.Judging.head_breaks.Goals.{After-has}
 
 pub head_set-set-requires : goal.head_set-set-requires
-head_set-set-requires c = omega (arith, c.requires.there, c.args.self.now.formed.now.few)
+head_set-set-requires c = omega (arith, c.requires.there, c.args.self.now.formed.now.passed.few)
 
 -- the set that was read has the rule's marker just where the slots of record 0 pass
 told : (c : After-has) → c.has.result ≡ not (head_slots (library_count c.args.self.now.formed.now.sheets) (groups c.args.self.now.formed.now.sheets) c.args.rule c.args.t)
