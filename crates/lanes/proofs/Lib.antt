@@ -4,7 +4,6 @@ pub mod Chains
 pub mod Marking
 pub mod Runs
 pub mod Drawing
-pub mod Visiting
 pub mod Sweeping
 pub mod Closing
 pub mod Filling

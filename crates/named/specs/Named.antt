@@ -1,21 +1,14 @@
--- The classes that a record names, as at most two.
+-- The classes that a record names.
 -- Assumes nothing.
-use Rattle.std.specs.Prelude.{Option, None, Some, List, [], ◌∷◌, ◌++◌, ℕ}
+use Rattle.std.specs.Prelude.{Option, None, Some, List, [], ◌∷◌, ℕ}
 use Rattle.spec.specs.Lists.{only_if}
 use Rattle.spec.specs.Record.{is_kind, BUILDS, target, references}
-use Rattle.named.specs.declared.Targets.{Targets}
 use Rattle.named.specs.declared.Along.{Along}
 use Rattle.named.specs.declared.Along.TheVariants.{Builds, Every}
 
 abbrev pub option_list : Option ℕ → List ℕ
 option_list None = []
 option_list (Some c) = c ∷ []
-
-abbrev pub listed : Targets → List ℕ
-listed n = option_list n.first ++ option_list n.second
-
-abbrev pub alone : Option ℕ → Targets
-alone o = record { first = o; second = None }
 
 -- what a search goes along
 abbrev pub named_by : Along → List ℕ → List ℕ

@@ -5,21 +5,31 @@ ghost use Rattle.std.specs.Prelude.{◌≡◌, [], ◌∷◌};
 ghost use Rattle.spec.specs.Lists.{elem, only_if};
 ghost use Rattle.spec.specs.Record.{is_kind, BUILDS, target, references, ty_references};
 ghost use Rattle.records.specs.Kinds.{spec_ty};
-ghost use Rattle.named.specs.Named.{listed, option_list, named_by, alone};
+ghost use Rattle.named.specs.Named.{option_list, named_by};
 
 use records::record::{Body, Record, Ty};
+use std::marker::Model;
 
 /// The classes that a record names, at most two: they come in their order.
 #[derive(Drop)]
 pub struct Targets {
-    pub first: Option<usize>,
-    pub second: Option<usize>,
+    first: Option<usize>,
+    second: Option<usize>,
+}
+
+impl Model for Targets {
+    ghost use Rattle.std.specs.Prelude.{List, ℕ, ◌++◌};
+    ghost use Rattle.named.specs.Named.{option_list};
+
+    ghost Value = { List ℕ };
+
+    ghost view = { λ t. option_list t.first ++ option_list t.second };
 }
 
 impl Targets {
     // One class, or none.
     fn alone(class: Option<usize>) -> Targets
-        ensures { result ≡ alone class }
+        ensures { result ≡ option_list class }
     {
         Targets {
             first: class,
@@ -30,13 +40,12 @@ impl Targets {
 
 impl Iterator for Targets {
     ghost use Rattle.std.specs.Iterator.{YieldsFirst, item_count};
-    ghost use Rattle.named.specs.Named.{listed};
 
     type Item = usize;
 
-    ghost next_gives = { YieldsFirst listed };
+    ghost next_gives = { YieldsFirst (λ ts. ts) };
 
-    ghost remaining = { item_count listed };
+    ghost remaining = { item_count (λ ts. ts) };
 
     fn next(&mut self) -> Option<usize> {
         match self.first.take() {
@@ -72,7 +81,7 @@ fn built(record: &Record) -> Option<usize>
 
 /// The classes that the record names.
 pub fn named(record: &Record) -> Targets
-    ensures { listed result ≡ references record.now }
+    ensures { result ≡ references record.now }
 {
     match record.body() {
         Body::Class(head) => Targets {
@@ -91,7 +100,7 @@ pub fn named(record: &Record) -> Targets
 
 /// The same, of a search: along BUILDS no other record names any.
 pub fn named_along(record: &Record, along: Along) -> Targets
-    ensures { listed result ≡ named_by along record.now }
+    ensures { result ≡ named_by along record.now }
 {
     match along {
         Along::Every => named(record),

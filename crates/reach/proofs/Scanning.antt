@@ -1,28 +1,26 @@
--- One class draws along its records: what is left of them is what is left to draw.
+-- One class draws from the classes that its records name, one after another.
 -- Assumes nothing.
-use mathlib.Core.Path.{◌≡◌, refl, sym, ap, ◌∙◌, subst}
-use mathlib.Core.Bool.{Bool, true, false, ◌||◌}
+use mathlib.Core.Path.{◌≡◌, refl, sym, ap, subst}
+use mathlib.Core.Bool.{Bool, true, false, ◌||◌, or_assoc, or-false}
+use mathlib.Core.Logic.{⊎_elim}
 use mathlib.Core.List.Memᴰ
-use mathlib.Core.List.{List, [], ◌∷◌, ◌++◌, append_assoc, Memᴰ}
-use Prim.Native.Nat.{ℕ, ◌+◌, ◌*◌, ◌<◌}
+use mathlib.Core.List.{List, [], ◌∷◌, ◌++◌, Memᴰ}
+use Prim.Native.Nat.{ℕ, ◌+◌, ◌*◌, ◌≤◌, ◌<◌}
 use native.Mathlib.Omega.{arith}
 use lib.ListN.{length, get_or}
 use Rattle.std.proofs.lemmas.List.{get_or_default}
-use Rattle.std.specs.Prelude.{Option, None, Some}
 use Rattle.spec.specs.Lists.{any, keep, gather}
 use Rattle.spec.specs.Record.{is_kind, BUILDS, target}
 use Rattle.spec.specs.Sheet.{Group, of_kind}
 use Rattle.laws.proofs.Bools.{true_t}
 use Rattle.laws.proofs.Members.{gather_mem, mem_keep, only_mem}
-use Rattle.named.specs.declared.Targets.{Targets}
 use Rattle.named.specs.declared.Along.{Along}
 use Rattle.named.specs.declared.Along.TheVariants.{Builds}
-use Rattle.named.specs.Named.{named_by, listed, option_list}
-use Rattle.lanes.specs.Lanes.{Room, Settled, Run, SettledAt, Enclosers}
-use Rattle.lanes.proofs.Runs.{run_none}
+use Rattle.named.specs.Named.{named_by}
+use Rattle.lanes.specs.Lanes.{Settled, Run, SettledAt, Enclosers, drawn_lanes, drew_lanes, lanes_of}
+use Rattle.lanes.proofs.Runs.{run_none, run_only, run_then}
 use Rattle.lanes.proofs.Drawing.{offered}
-use Rattle.lanes.proofs.Visiting.{VisitAt, visit_start, visit_next, visit_end}
-use Rattle.reach.specs.Reach.{named_in, steps_of, outer_of, DrawnNamed, Scanned}
+use Rattle.reach.specs.Reach.{named_in, steps_of, outer_of, DrawnFrom}
 
 -- ---- a kind that a class has no record of
 
@@ -39,82 +37,75 @@ settled_zero step outer n {m = m} s e l z k t hk w ht b f =
     let i : k * 256 + m ≡ m = omega arith in
     omega (arith, ap (λ (j : ℕ). get_or s j 255) i, get_or_default s m 0 255 l)
 
--- ---- the records of a group
+-- ---- from classes, one after another
 
-pub named_cons : (along : Along) (r : List ℕ) (rs : Group) (t : Targets) → listed t ≡ named_by along r → named_in along (r ∷ rs) ≡ option_list t.first ++ (option_list t.second ++ named_in along rs)
-unfolding named_in gather
-named_cons along r rs t e = ap (λ (xs : List ℕ). xs ++ gather (named_by along) rs) (sym e) ∙ append_assoc (option_list t.first) (option_list t.second) (gather (named_by along) rs)
+module _ {marks : List Bool} {n lanes m : ℕ} where
+  pub drawn_none : (s : List ℕ) → DrawnFrom [] marks n lanes m s s false
+  unfolding SettledAt
+  drawn_none s = record { run = λ step outer p g. run_none s (λ k t h x. absurd (Memᴰ.not-nil x)) }
 
-pub named_nil : (along : Along) → named_in along [] ≡ []
-unfolding named_in gather
-named_nil along = refl
+  -- m has 0, so no class has anything for it
+  pub drawn_zero : (ts s : List ℕ) → lanes ≡ 1 → m < length s → get_or s m 0 ≡ 0 → DrawnFrom ts marks n lanes m s s false
+  drawn_zero ts s e l z = record { run = λ step outer p g. run_none s (settled_zero (λ c. ts) outer n s e l z) }
 
--- the steps of m are those that the records name, and the marks are its enclosers
-abbrev Scans : Group → List Bool → Along → ℕ → (ℕ → List ℕ) → (ℕ → ℕ) → Type 0
-Scans rs marks along m step outer = (step m ≡ named_in along rs) × Enclosers outer m marks
-
-pub record ScanAt (rs : Group) (marks : List Bool) (along : Along) (n lanes m : ℕ) (row₀ row : List ℕ) (a : Bool) (left : Group) : Type 0 where
-  pub room : Room n lanes row₀
-  pub there : m < n
-  pub long : length row ≡ length row₀
-  pub visit : (step : ℕ → List ℕ) (outer : ℕ → ℕ) → Scans rs marks along m step outer → VisitAt step outer n lanes m marks row₀ row (named_in along left) a
-
-pub scan_start : (rs : Group) {marks : List Bool} (along : Along) (n lanes m : ℕ) (row : List ℕ) → Room n lanes row → m < n → ScanAt rs marks along n lanes m row row false rs
-scan_start rs {marks} along n lanes m row r z =
-    record { room = r; there = z; long = refl; visit = λ step outer h. visit_start step outer n lanes m marks row h.1 _ (sym h.0) }
-
-or_false : (a : Bool) → (a || false) ≡ a
-or_false true = refl
-or_false false = refl
-
--- from a class that the record may name
-draw_next : {step : ℕ → List ℕ} {outer : ℕ → ℕ} {n lanes m : ℕ} {marks : List Bool} {s₀ s s' rest rest' : List ℕ} {a : Bool} (b : Bool) (o : Option ℕ) → Room n lanes s₀ → m < n → length s ≡ length s₀
-    → VisitAt step outer n lanes m marks s₀ s rest a → rest ≡ option_list o ++ rest' → DrawnNamed marks n lanes m o s s' b → length s' ≡ length s
-    → VisitAt step outer n lanes m marks s₀ s' rest' (a || b)
-draw_next {step} {outer} {n} {lanes} {m} {marks} {s₀} {s} {s'} {rest} {rest'} {a} b None r h q v e d l =
-    rw (d.0, d.1, or_false a) (subst (λ (xs : List ℕ). VisitAt step outer n lanes m marks s₀ s xs a) e v)
-draw_next {s = s} b (Some t) r h q v e d l = visit_next v e (offered r.few h s (omega (arith, r.long, q)) d) l
-
-module _ {rs : Group} {marks : List Bool} {along : Along} {n lanes m : ℕ} {row₀ row : List ℕ} {a : Bool} {left : Group} (f : ScanAt rs marks along n lanes m row₀ row a left) where
-  pub scan_next : {r : List ℕ} {left' : Group} (t : Targets) (row₁ : List ℕ) {row₂ : List ℕ} (b c : Bool)
-      → left ≡ r ∷ left' → listed t ≡ named_by along r → DrawnNamed marks n lanes m t.first row row₁ b
-      → length row₁ ≡ length row → DrawnNamed marks n lanes m t.second row₁ row₂ c → length row₂ ≡ length row₁ → ScanAt rs marks along n lanes m row₀ row₂ ((a || b) || c) left'
-  scan_next {r} {left'} t row₁ b c e et o q o' q' =
+  pub drawn_one : {s s' : List ℕ} {t : ℕ} {r : Bool} → n ≤ 256 → m < n → lanes * 256 ≤ length s → s' ≡ drawn_lanes marks m t (lanes_of n lanes t) s
+      → r ≡ drew_lanes marks m t (lanes_of n lanes t) s → DrawnFrom (t ∷ []) marks n lanes m s s' r
+  unfolding SettledAt
+  drawn_one {s} {t = t} few there long row answer =
+      let o = offered few there s long (row, answer) in
       record {
-        room = f.room;
-        there = f.there;
-        long = q' ∙ q ∙ f.long;
-        visit = λ step outer h.
-            draw_next c t.second f.room f.there (q ∙ f.long)
-            (draw_next b t.first f.room f.there f.long (f.visit step outer h) (ap (named_in along) e ∙ named_cons along r left' t et) o q)
-            refl o' q';
+        run = λ step outer p g.
+            run_only (SettledAt (λ c. t ∷ []) outer n lanes m) (o.run step outer (p t (Memᴰ.head refl)) g)
+            (λ w k u h x. ⊎_elim (λ e. subst (Settled outer n k m s) (sym e) (w k h)) (λ y. absurd (Memᴰ.not-nil y)) (Memᴰ.cases_cons x));
       }
 
-  pub scan_end : left ≡ [] → Scanned rs marks along n lanes m row₀ row a
-  scan_end h = record { run = λ step outer e g. visit_end (f.visit step outer (e, g)) (ap (named_in along) h ∙ named_nil along) }
+  drawn_then : {ts us s s' s'' : List ℕ} {a b : Bool}
+      → DrawnFrom ts marks n lanes m s s' a → DrawnFrom us marks n lanes m s' s'' b → DrawnFrom (ts ++ us) marks n lanes m s s'' (a || b)
+  unfolding SettledAt
+  drawn_then {ts} {us} f h = record {
+    run = λ step outer p g.
+        run_then (SettledAt (λ c. ts ++ us) outer n lanes m) (f.run step outer (λ t x. p t (Memᴰ.append_left us x)) g) (h.run step outer (λ t x. p t (Memᴰ.append_right ts x)) g)
+        (λ v w k t l x. ⊎_elim (λ y. v k t l y) (λ y. w k t l y) (Memᴰ.append_cases ts x));
+  }
 
-  -- m has 0, so the records that are left have nothing for it
-  pub scan_zero : lanes ≡ 1 → m < length row → get_or row m 0 ≡ 0 → Scanned rs marks along n lanes m row₀ row a
-  scan_zero e l z =
-      record {
-        run = λ step outer q g.
-            let r = (f.visit step outer (q, g)).run in
-            record {
-              keeps = r.keeps;
-              down = r.down;
-              kept = r.kept;
-              less = r.less;
-              still = r.still;
-              closed = λ y. subst (SettledAt step outer n lanes m) (r.still y) (settled_zero step outer n row e l z);
-            };
-      }
+-- Drawing from those that are left completes the drawing from all.
+pub record DrawsFrom (all left : List ℕ) (marks : List Bool) (n lanes m : ℕ) (s₀ s : List ℕ) (a : Bool) : Type 0 where
+  pub rest : (s' : List ℕ) (b : Bool) → DrawnFrom left marks n lanes m s s' b → DrawnFrom all marks n lanes m s₀ s' (a || b)
+
+module _ {all left : List ℕ} {marks : List Bool} {n lanes m : ℕ} where
+  pub draws_start : (s : List ℕ) → left ≡ all → DrawsFrom all left marks n lanes m s s false
+  draws_start s e = record { rest = λ s' b h. subst (λ (ts : List ℕ). DrawnFrom ts marks n lanes m s s' b) e h }
+
+module _ {all left : List ℕ} {marks : List Bool} {n lanes m : ℕ} {s₀ s : List ℕ} {a : Bool} (f : DrawsFrom all left marks n lanes m s₀ s a) where
+  pub draws_next : (ts : List ℕ) {left' s' : List ℕ} {b : Bool} → left ≡ ts ++ left' → DrawnFrom ts marks n lanes m s s' b → DrawsFrom all left' marks n lanes m s₀ s' (a || b)
+  draws_next ts {b = b} e h = record { rest = λ s'' c w. rw (or_assoc a b c) (f.rest s'' (b || c) (rw e (drawn_then h w))) }
+
+  -- those that are left have nothing
+  pub draws_end : DrawnFrom left marks n lanes m s s false → DrawnFrom all marks n lanes m s₀ s a
+  draws_end h = rw (or-false a) at (f.rest s false h)
+
+-- the same, record after record
+module _ (along : Along) {all : List ℕ} {rs : Group} {marks : List Bool} {n lanes m : ℕ} {s₀ s : List ℕ} {a : Bool}
+    (f : DrawsFrom all (named_in along rs) marks n lanes m s₀ s a) where
+  pub draws_record : {r : List ℕ} {rs' : Group} {s' : List ℕ} {b : Bool} → rs ≡ r ∷ rs' → DrawnFrom (named_by along r) marks n lanes m s s' b
+      → DrawsFrom all (named_in along rs') marks n lanes m s₀ s' (a || b)
+  unfolding named_in gather
+  draws_record {r} e h = draws_next f (named_by along r) (ap (named_in along) e) h
+
+  pub draws_records : rs ≡ [] → DrawnFrom all marks n lanes m s₀ s a
+  unfolding named_in gather
+  draws_records e = draws_end f (rw e (drawn_none s))
 
 -- ---- a class
 
 -- the records are those of class m
-pub scanned : (g : ℕ → Group) {along : Along} {n lanes m : ℕ} {h : Group} {marks : List Bool} {row₀ row : List ℕ} {a : Bool} → h ≡ g m → Scanned h marks along n lanes m row₀ row a
+pub scanned : (g : ℕ → Group) (along : Along) {n lanes m : ℕ} {h : Group} {marks : List Bool} {row₀ row : List ℕ} {a : Bool} → h ≡ g m
+    → DrawnFrom (named_in along h) marks n lanes m row₀ row a
     → Enclosers (outer_of g) m marks → Run (steps_of g along) (outer_of g) n lanes (SettledAt (steps_of g along) (outer_of g) n lanes m) row₀ row a
-scanned g {along} eh f right = f.run (steps_of g along) (outer_of g) (ap (named_in along) (sym eh)) right
+unfolding SettledAt
+scanned g along {h = h} eh f right =
+    let same = ap (named_in along) eh in
+    run_only _ (f.run (steps_of g along) (outer_of g) (λ t x. rw same at x) right) (λ p k t l x. p k t l (rw (← same) at x))
 
 -- the class has 0 already
 pub visit_marked : {step : ℕ → List ℕ} {outer : ℕ → ℕ} {n lanes m : ℕ} (s : List ℕ) → lanes ≡ 1 → m < length s → get_or s m 0 ≡ 0 → Run step outer n lanes (SettledAt step outer n lanes m) s s false

@@ -1,63 +1,54 @@
 -- A class none of whose named classes has a lower owner has nothing to draw.
 -- Assumes nothing.
-use mathlib.Core.Path.{◌≡◌, refl, sym, ap, ◌∙◌, subst}
-use mathlib.Core.Bool.{Bool, false}
-use mathlib.Core.Logic.{◌⊎◌, inl, inr}
-use mathlib.Core.List.Memᴰ
-use mathlib.Core.List.{List, [], ◌∷◌, ◌++◌, Memᴰ}
+use mathlib.Core.Path.{◌≡◌, refl, sym, ap, ◌∙◌}
+use mathlib.Core.Bool.{false, ◌&&◌}
+use mathlib.Core.List.{List, Memᴰ}
 use Prim.Native.Nat.{ℕ, ◌≤◌, ◌<◌}
+use native.Mathlib.Nat.{zero-add}
+use lib.Dec.{T, ltb}
+use borrow.Author.Tests.{lt-ltb, le-ltb, ltb-false}
+use Rattle.std.specs.Prelude.{Bool, not}
+use Rattle.spec.specs.Lists.{any, span}
 use Rattle.spec.specs.Sheet.{Group}
+use Rattle.laws.proofs.Bools.{t_false, false_t}
+use Rattle.laws.proofs.All.{not_any, at_member, at_span}
 use Rattle.named.specs.declared.Along.{Along}
-use Rattle.named.specs.declared.Targets.{Targets}
-use Rattle.named.specs.Named.{named_by, listed, option_list}
 use Rattle.lanes.specs.Lanes.{entry_at, Settled, Run, SettledAt}
 use Rattle.lanes.proofs.Runs.{run_none}
-use Rattle.reach.specs.Reach.{named_in, steps_of, Content}
-use Rattle.reach.proofs.Scanning.{named_cons, named_nil}
+use Rattle.reach.specs.Reach.{named_in, steps_of, offers}
 
 -- ---- one class
 
--- the lanes below k offer nothing lower
-pub record Below (row : List ℕ) (m t k : ℕ) : Type 0 where
-  pub is : (j : ℕ) → j < k → entry_at row j m ≤ entry_at row j t
+-- the lanes of a class
+abbrev pub lower_in : List ℕ → ℕ → ℕ → ℕ → Bool
+lower_in row m t k = ltb (entry_at row k t) (entry_at row k m)
 
--- ---- the records of a class
+module _ (row : List ℕ) (n lanes m t : ℕ) where
+  pub offers_past : n ≤ t → false ≡ offers row n lanes m t
+  unfolding offers
+  offers_past h = sym (ap (λ (b : Bool). b && any (lower_in row m t) (span 0 lanes)) (le-ltb t n h))
 
-no_content : {row : List ℕ} {n lanes m : ℕ} {told : Bool} → Content row n lanes m [] told
-no_content = record { is = λ e t w. absurd (Memᴰ.not-nil w) }
+  pub offers_in : t < n → {b : Bool} → b ≡ any (lower_in row m t) (span 0 lanes) → b ≡ offers row n lanes m t
+  unfolding offers
+  offers_in h e = e ∙ sym (ap (λ (b : Bool). b && any (lower_in row m t) (span 0 lanes)) (lt-ltb t n h))
 
-both_content : {row : List ℕ} {n lanes m : ℕ} (ts : List ℕ) {us : List ℕ} → Content row n lanes m ts false → Content row n lanes m us false → Content row n lanes m (ts ++ us) false
-both_content [] a b = b
-both_content {row} {n} {lanes} {m} (t ∷ ts) {us} a b =
-    let rest = both_content ts (record { is = λ e s w. a.is e s (Memᴰ.tail w) }) b in
-    record { is = λ e s w. go rest s (Memᴰ.cases_cons w) }
-  where
-    go : Content row n lanes m (ts ++ us) false → (s : ℕ) → (s ≡ t) ⊎ Memᴰ s (ts ++ us) → s < n → (k : ℕ) → k < lanes → entry_at row k m ≤ entry_at row k s
-    go c s (inl e) = subst (λ (x : ℕ). x < n → (k : ℕ) → k < lanes → entry_at row k m ≤ entry_at row k x) (sym e) (a.is refl t (Memᴰ.head refl))
-    go c s (inr w) = c.is refl s w
-
--- what is left of the records offers nothing lower only if none of them does
-pub record WantsAt (rs : Group) (along : Along) (n lanes m : ℕ) (row : List ℕ) (left : Group) : Type 0 where
-  pub rest : Content row n lanes m (named_in along left) false → Content row n lanes m (named_in along rs) false
-
-module _ {rs : Group} {along : Along} {n lanes m : ℕ} {row : List ℕ} {left : Group} (f : WantsAt rs along n lanes m row left) where
-  pub wants_next : {r : List ℕ} {left' : Group} (t : Targets) {a b : Bool} → left ≡ r ∷ left' → listed t ≡ named_by along r → Content row n lanes m (option_list t.first) a → a ≡ false
-      → Content row n lanes m (option_list t.second) b → b ≡ false → WantsAt rs along n lanes m row left'
-  wants_next {r} {left'} t e et ca ea cb eb = record {
-    rest = λ c.
-        f.rest
-        (subst (λ (ts : List ℕ). Content row n lanes m ts false) (sym (ap (named_in along) e ∙ named_cons along r left' t et))
-        (both_content (option_list t.first) (subst (Content row n lanes m (option_list t.first)) ea ca)
-        (both_content (option_list t.second) (subst (Content row n lanes m (option_list t.second)) eb cb) c)));
-  }
-
-  pub wants_end : left ≡ [] → Content row n lanes m (named_in along rs) false
-  wants_end h = f.rest (subst (λ (ts : List ℕ). Content row n lanes m ts false) (sym (ap (named_in along) h ∙ named_nil along)) no_content)
+  offers_none : t < n → offers row n lanes m t ≡ false → (k : ℕ) → k < lanes → entry_at row k m ≤ entry_at row k t
+  offers_none h e k hk =
+      let none = not_any (lower_in row m t) (span 0 lanes) (false_t (offers_in h refl ∙ e)) in
+      let here = rw (zero-add k) at (at_span (λ j. T (not (lower_in row m t j))) 0 lanes none k hk) in
+      ltb-false (entry_at row k t) (entry_at row k m) (t_false (lower_in row m t k) here)
 
 -- ---- a class that wants nothing
 
-pub visit_content : (g : ℕ → Group) (along : Along) {outer : ℕ → ℕ} {n lanes m : ℕ} (row : List ℕ) {h : Group} {told : Bool} → h ≡ g m → Content row n lanes m (named_in along h) told
-    → told ≡ false → Run (steps_of g along) outer n lanes (SettledAt (steps_of g along) outer n lanes m) row row false
+module _ (row : List ℕ) (n lanes m : ℕ) (ts : List ℕ) (none : any (offers row n lanes m) ts ≡ false) where
+  none_lower : (t : ℕ) → Memᴰ t ts → t < n → (k : ℕ) → k < lanes → entry_at row k m ≤ entry_at row k t
+  none_lower t x ht =
+      let all = not_any (offers row n lanes m) ts (false_t none) in
+      offers_none row n lanes m t ht (t_false (offers row n lanes m t) (at_member (λ s. T (not (offers row n lanes m s))) ts all x))
+
+pub visit_unwanted : (g : ℕ → Group) (along : Along) {outer : ℕ → ℕ} {n lanes m : ℕ} (row : List ℕ) {h : Group} {told : Bool} → h ≡ g m
+    → told ≡ any (offers row n lanes m) (named_in along h) → told ≡ false → Run (steps_of g along) outer n lanes (SettledAt (steps_of g along) outer n lanes m) row row false
 unfolding SettledAt Settled
-visit_content g along row eh c e =
-    run_none row (λ k t hk x ht b f. c.is e t (subst (λ (h : Group). Memᴰ t (named_in along h)) (sym eh) x) ht k hk)
+visit_unwanted g along {n = n} {lanes = lanes} {m = m} row eh c e =
+    let none = rw (ap (named_in along) eh) at (sym c ∙ e) in
+    run_none row (λ k t hk x ht b f. none_lower row n lanes m (steps_of g along m) none t x ht k hk)

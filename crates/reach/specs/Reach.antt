@@ -1,12 +1,12 @@
 -- The steps of the search over two sheets, and the enclosers that it asks.
 -- Assumes nothing.
-use Rattle.std.specs.Prelude.{◌≡◌, Bool, true, false, Option, None, Some, ℕ, ◌≤◌, ◌<◌, ltb, length, get_or, drop}
+use Rattle.std.specs.Prelude.{◌≡◌, ◌&&◌, Bool, true, false, Option, None, Some, ℕ, ◌≤◌, ◌<◌, ltb, length, get_or, drop}
 use mathlib.Core.List.{List, ◌++◌, map, Memᴰ}
-use Rattle.spec.specs.Lists.{gather, span}
+use Rattle.spec.specs.Lists.{any, gather, span}
 use Rattle.spec.specs.Record.{encloser}
 use Rattle.spec.specs.Sheet.{Group, class_record}
 use Rattle.spec.specs.Verdicts.{depends_on}
-use Rattle.lanes.specs.Lanes.{entry_at, Run, SettledAt, Enclosers, drawn_lanes, drew_lanes, lanes_of}
+use Rattle.lanes.specs.Lanes.{entry_at, Run, SettledAt, Enclosers}
 use Rattle.named.specs.declared.Along.{Along}
 use Rattle.named.specs.Named.{named_by}
 
@@ -24,19 +24,15 @@ outer_of g m = encloser (class_record (g m))
 abbrev pub lower_outer : (ℕ → Group) → ℕ → Option ℕ
 lower_outer g m = elim (ltb (outer_of g m) m) [ true ↦ Some (outer_of g m) | false ↦ None ]
 
--- class m has drawn what a class has that a record may name
-abbrev pub DrawnNamed : List Bool → ℕ → ℕ → ℕ → Option ℕ → List ℕ → List ℕ → Bool → Type 0
-DrawnNamed marks n lanes m None s s' r = (s' ≡ s) × (r ≡ false)
-DrawnNamed marks n lanes m (Some t) s s' r = (s' ≡ drawn_lanes marks m t (lanes_of n lanes t) s) × (r ≡ drew_lanes marks m t (lanes_of n lanes t) s)
+-- Class m has drawn from all these classes. Only they and the row of marks were asked, so it holds for all steps that they are among, and for all enclosers that the marks are
+-- right for.
+pub record DrawnFrom (ts : List ℕ) (marks : List Bool) (n lanes m : ℕ) (s₀ s : List ℕ) (r : Bool) : Type 0 where
+  pub run : (step : ℕ → List ℕ) (outer : ℕ → ℕ) → ((t : ℕ) → Memᴰ t ts → Memᴰ t (step m)) → Enclosers outer m marks
+      → Run step outer n lanes (SettledAt (λ c. ts) outer n lanes m) s₀ s r
 
--- Class m has drawn along all that these records name. Only the records and the row of marks were asked, so it holds for all steps and enclosers that they are right for.
-pub record Scanned (rs : Group) (marks : List Bool) (along : Along) (n lanes m : ℕ) (s₀ s : List ℕ) (r : Bool) : Type 0 where
-  pub run : (step : ℕ → List ℕ) (outer : ℕ → ℕ) → step m ≡ named_in along rs → Enclosers outer m marks
-      → Run step outer n lanes (SettledAt step outer n lanes m) s₀ s r
-
--- told false: none of these classes has in any lane a lower owner than m
-pub record Content (row : List ℕ) (n lanes m : ℕ) (ts : List ℕ) (told : Bool) : Type 0 where
-  pub is : told ≡ false → (t : ℕ) → Memᴰ t ts → t < n → (k : ℕ) → k < lanes → entry_at row k m ≤ entry_at row k t
+-- class t has in some lane a lower owner than m; a number that is no class has none
+unfoldable pub offers : List ℕ → ℕ → ℕ → ℕ → ℕ → Bool
+offers row n lanes m t = ltb t n && any (λ k. ltb (entry_at row k t) (entry_at row k m)) (span 0 lanes)
 
 -- the first k entries of a row are none, the others are kept
 pub record Emptied (k : ℕ) (before after : List ℕ) : Type 0 where

@@ -2,16 +2,18 @@
 #![tactic(auto)]
 
 ghost use Rattle.std.specs.Prelude.{◌≡◌, true, [], ◌≤◌, ◌<◌, length};
+ghost use Rattle.spec.specs.Lists.{any};
 ghost use Rattle.sheets.specs.Sheets.{count, groups};
 ghost use Rattle.lanes.specs.Lanes.{Room, Enclosers, Run, SettledAt, AllSettled, SeedsFit, Least};
-ghost use Rattle.named.specs.Named.{listed, option_list};
-ghost use Rattle.reach.specs.Reach.{named_in, steps_of, outer_of, lower_outer, DrawnNamed, Scanned, Content, dependent_row};
+ghost use Rattle.named.specs.Named.{named_by};
+ghost use Rattle.reach.specs.Reach.{named_in, steps_of, outer_of, lower_outer, DrawnFrom, offers, dependent_row};
 
 use lanes::{EMPTY, Extent, LANE, draw_lanes, swept};
 use named::{Along, named_along};
 use records::CLASS_LIMIT;
 use records::group::Group;
 use records::kind::Kind;
+use records::record::Record;
 use sheets::Sheets;
 use sheets::formed::Formed;
 
@@ -40,22 +42,24 @@ pub fn enclosers(sheets: &Sheets, m: usize) -> [bool; CLASS_LIMIT]
     marks
 }
 
-// Class m draws from one class that a record may name.
-fn draw_named(
+// Class m draws along one record.
+fn draw_record(
+    record: &Record,
     marks: &[bool; CLASS_LIMIT],
+    along: Along,
     extent: Extent,
     m: usize,
-    t: Option<usize>,
     row: &mut [u8],
 ) -> bool
     requires room { Room extent.classes extent.lanes row.old }
     requires there { m < extent.classes }
-    ensures { DrawnNamed marks.now extent.classes extent.lanes m t row.old row.new result }
+    ensures { DrawnFrom (named_by along record.now) marks.now extent.classes extent.lanes m row.old row.new result }
 {
-    match t {
-        Some(t) => draw_lanes(marks, extent, m, t, row),
-        None => false,
+    let mut added = false;
+    for t in named_along(record, along) {
+        added |= draw_lanes(marks, extent, m, t, row);
     }
+    added
 }
 
 // Class m, whose records these are, draws along all that they name, in a single lane until it has 0. The row of marks holds its enclosers.
@@ -69,13 +73,11 @@ fn scan(
 ) -> bool
     requires room { Room extent.classes extent.lanes row.old }
     requires there { m < extent.classes }
-    ensures { Scanned group.now marks.now along extent.classes extent.lanes m row.old row.new result }
+    ensures { DrawnFrom (named_in along group.now) marks.now extent.classes extent.lanes m row.old row.new result }
 {
     let mut added = false;
     for record in group.records() {
-        let targets = named_along(&record, along);
-        added |= draw_named(marks, extent, m, targets.first, row);
-        added |= draw_named(marks, extent, m, targets.second, row);
+        added |= draw_record(&record, marks, along, extent, m, row);
         if extent.lanes == 1 && row[m] == 0 {
             return added;
         }
@@ -83,15 +85,12 @@ fn scan(
     added
 }
 
-// Whether a class has in some lane a lower owner than m. A class that is not there has none.
-fn has_lower(row: &[u8], extent: Extent, m: usize, t: Option<usize>) -> bool
+// Whether class t has in some lane a lower owner than m. A class that is not there has none.
+fn has_lower(row: &[u8], extent: Extent, m: usize, t: usize) -> bool
     requires room { Room extent.classes extent.lanes row.now }
     requires there { m < extent.classes }
-    ensures { Content row.now extent.classes extent.lanes m (option_list t) result }
+    ensures { result ≡ offers row.now extent.classes extent.lanes m t }
 {
-    let Some(t) = t else {
-        return false;
-    };
     if extent.classes <= t {
         return false;
     }
@@ -103,22 +102,24 @@ fn has_lower(row: &[u8], extent: Extent, m: usize, t: Option<usize>) -> bool
     false
 }
 
+// Whether a record names a class that has in some lane a lower owner than m.
+fn names_lower(record: &Record, along: Along, extent: Extent, m: usize, row: &[u8]) -> bool
+    requires room { Room extent.classes extent.lanes row.now }
+    requires there { m < extent.classes }
+    ensures { result ≡ any (offers row.now extent.classes extent.lanes m) (named_by along record.now) }
+{
+    named_along(record, along).any(|t| has_lower(row, extent, m, t))
+}
+
 // Whether class m, whose records these are, names a class that has in some lane a lower owner.
 fn wants(group: &Group, along: Along, extent: Extent, m: usize, row: &[u8]) -> bool
     requires room { Room extent.classes extent.lanes row.now }
     requires there { m < extent.classes }
-    ensures { Content row.now extent.classes extent.lanes m (named_in along group.now) result }
+    ensures { result ≡ any (offers row.now extent.classes extent.lanes m) (named_in along group.now) }
 {
-    for record in group.records() {
-        let targets = named_along(&record, along);
-        if has_lower(row, extent, m, targets.first) {
-            return true;
-        }
-        if has_lower(row, extent, m, targets.second) {
-            return true;
-        }
-    }
-    false
+    group
+        .records()
+        .any(|record| names_lower(&record, along, extent, m, row))
 }
 
 // Told true, class m has no step: along BUILDS a class that builds nothing. No library class builds, so those are not read.

@@ -1,35 +1,21 @@
--- What is left of the records is what is left to draw.
-use mathlib.Core.Path.{subst, sym, ◌∙◌}
-use mathlib.Core.Bool.{false}
-use mathlib.Core.List.{List}
-use Prim.Native.Nat.{ℕ}
+-- What is left of the records completes the group.
+use mathlib.Core.Path.{ap, ◌∙◌}
 use native.Mathlib.Omega.{arith}
-use Rattle.reach.proofs.Scanning.{ScanAt, scan_start, scan_next, scan_zero, scan_end}
+use Rattle.reach.specs.Reach.{named_in}
+use Rattle.reach.proofs.Scanning.{draws_start, draws_record, draws_records, draws_end, drawn_zero}
 use Rattle.reach.proofs.scan.Goals as goal
 
 pub loop-record-init : goal.loop-record-init
-loop-record-init c = (
-  tt,
-  tt,
-  subst (λ (left : List (List ℕ)). ScanAt c.args.group.now c.args.marks.now c.args.along c.args.extent.classes c.args.extent.lanes c.args.m c.args.row.now c.args.row.now false left)
-      (sym (c.into_iter-record-iterator.ensures.into_iter_gives ∙ c.records-record-items.ensures.records)) (scan_start _ _ _ _ _ _ c.requires.room c.requires.there),
-)
+loop-record-init c = (tt, tt, draws_start _ (ap (named_in c.args.along) (c.into_iter-record-iterator.ensures.into_iter_gives ∙ c.records-record-items.ensures.records)))
+
+pub loop-record-preserved : goal.loop-record-preserved
+loop-record-preserved c = (tt, tt, draws_record c.args.along c.loop-record.invariant.2 c.in-Some.ensures.steps c.draw_record-added.ensures)
 
 pub returns-then-row-m-eq0 : goal.returns-then-row-m-eq0
 returns-then-row-m-eq0 c =
-    let next = scan_next c.loop-record.invariant.2 c.named_along-targets.result c.draw_named-added.new.row c.draw_named-added.result c.draw_named-added-in-loop-record.result
-    c.in-Some.ensures.steps c.named_along-targets.ensures c.draw_named-added.ensures c.draw_named-added.auto.row c.draw_named-added-in-loop-record.ensures
-    c.draw_named-added-in-loop-record.auto.row in
-    scan_zero next c.if-extent-eq1.true (omega (arith, next.long, c.requires.room.long, c.requires.room.few, c.requires.there)) c.if-row-m-eq0.true
-
-pub loop-record-preserved : goal.loop-record-preserved
-loop-record-preserved c = (
-  tt,
-  tt,
-  scan_next c.loop-record.invariant.2 c.named_along-targets.result c.draw_named-added.new.row c.draw_named-added.result c.draw_named-added-in-loop-record.result
-      c.in-Some.ensures.steps c.named_along-targets.ensures c.draw_named-added.ensures c.draw_named-added.auto.row c.draw_named-added-in-loop-record.ensures
-      c.draw_named-added-in-loop-record.auto.row,
-)
+    let next = draws_record c.args.along c.loop-record.invariant.2 c.in-Some.ensures.steps c.draw_record-added.ensures in
+    let long = c.draw_record-added.auto.row ∙ c.loop-record.auto.row in
+    draws_end next (drawn_zero _ _ c.if-extent-eq1.true (omega (arith, long, c.requires.room.long, c.requires.room.few, c.requires.there)) c.if-row-m-eq0.true)
 
 pub returns : goal.returns
-returns c = scan_end c.loop-record.invariant.2 c.in-None.ensures.steps.0
+returns c = draws_records c.args.along c.loop-record.invariant.2 c.in-None.ensures.steps.0

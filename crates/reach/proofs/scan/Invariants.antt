@@ -1,9 +1,10 @@
--- What is left of the records is what is left to draw.
-use Rattle.reach.proofs.Scanning.{ScanAt}
+-- What is left of the records completes the group.
+use Rattle.reach.specs.Reach.{named_in}
+use Rattle.reach.proofs.Scanning.{DrawsFrom}
 use Rattle.reach.proofs.scan.Given as goal
 
 abbrev pub invariant-loop-record : goal.invariant-loop-record
 invariant-loop-record l =
     (goal.iterator-loop-record).can_next l.record-iterator
     × (goal.iterator-loop-record).is_finite l.record-iterator
-    × ScanAt l.group l.marks l.along l.extent.classes l.extent.lanes l.m l.fn.row l.row l.added l.record-iterator
+    × DrawsFrom (named_in l.along l.group) (named_in l.along l.record-iterator) l.marks l.extent.classes l.extent.lanes l.m l.fn.row l.row l.added

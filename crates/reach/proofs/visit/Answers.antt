@@ -2,7 +2,7 @@
 use native.Mathlib.Omega.{arith}
 use Rattle.sheets.specs.Sheets.{groups}
 use Rattle.reach.proofs.Scanning.{scanned, visit_marked, visit_none}
-use Rattle.reach.proofs.Wanting.{visit_content}
+use Rattle.reach.proofs.Wanting.{visit_unwanted}
 use Rattle.reach.proofs.visit.Goals as goal
 
 pub returns-then-row-m-eq0 : goal.returns-then-row-m-eq0
@@ -12,8 +12,8 @@ pub returns-then-steps_nowhere : goal.returns-then-steps_nowhere
 returns-then-steps_nowhere c = visit_none _ _ (c.steps_nowhere.ensures c.if-steps_nowhere.true)
 
 pub returns-then-not-wants : goal.returns-then-not-wants
-returns-then-not-wants c = visit_content (groups c.args.sheets.now) c.args.along c.args.row.now c.group-group.ensures c.wants.ensures c.if-not-wants.true
+returns-then-not-wants c = visit_unwanted (groups c.args.sheets.now) c.args.along c.args.row.now c.group-group.ensures c.wants.ensures c.if-not-wants.true
 
 pub returns : goal.returns
 returns c =
-    scanned (groups c.args.sheets.now) c.group-group.ensures c.scan.ensures c.enclosers-marks.ensures
+    scanned (groups c.args.sheets.now) c.args.along c.group-group.ensures c.scan.ensures c.enclosers-marks.ensures

@@ -1,14 +1,17 @@
--- The records that were passed name no class with a lower owner.
-use Rattle.reach.proofs.Wanting.{wants_next, wants_end}
+use Rattle.std.proofs.Common.{sym, ◌∙◌, rules, tests}
+use Rattle.std.proofs.lemmas.Iterator.Consumers.{YieldsList-from_first}
+use Rattle.std.proofs.lemmas.Iterator.Search.{any_from_yields_List}
+use Rattle.spec.specs.Lists.{any}
+use Rattle.theory.proofs.Somewhere.{any_gather}
+use Rattle.records.proofs.Chains.{any_is}
+use Rattle.named.specs.Named.{named_by}
+use Rattle.reach.specs.Reach.{named_in, offers}
 use Rattle.reach.proofs.wants.Goals as goal
 
-pub loop-record-preserved : goal.loop-record-preserved
-loop-record-preserved c = (
-  tt,
-  tt,
-  wants_next c.loop-record.invariant.2 c.named_along-targets.result c.in-Some.ensures.steps c.named_along-targets.ensures c.has_lower.ensures c.if-has_lower.false
-      c.has_lower-in-loop-record.ensures c.if-has_lower-2.false,
-)
-
 pub returns : goal.returns
-returns c = wants_end c.loop-record.invariant.2 c.in-None.ensures.steps.0
+unfolding named_in
+returns c =
+    any_from_yields_List (λ r. any (offers c.args.row.now c.args.extent.classes c.args.extent.lanes c.args.m) (named_by c.args.along r)) _ _ _ c.any.ensures.ran
+    (YieldsList-from_first (λ r. r) (λ rs. rs) _ c.records.ensures.records) (λ x b q k. search (rules, tests))
+    ∙ any_is _ _
+    ∙ sym (any_gather _ (named_by c.args.along) c.args.group.now)
