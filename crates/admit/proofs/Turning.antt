@@ -1,7 +1,7 @@
 -- The first of 14, 15, of 3 to 11 and 16, and of 12 that turns a group away, test by test.
 -- Assumes nothing.
 use mathlib.Core.Path.{◌≡◌, refl, sym, ap, ◌∙◌}
-use mathlib.Core.Bool.{Bool, true, false, not, ◌||◌}
+use mathlib.Core.Bool.{Bool, true, false, not, not-not, ◌||◌}
 use mathlib.Core.List.{List, [], ◌∷◌}
 use mathlib.Core.Option.{Option, none, some}
 use Prim.Native.Nat.{ℕ, ◌-◌, ◌≤◌, ◌<◌, min}
@@ -63,18 +63,18 @@ module _ (library user g new : List ℕ) (lines scratch : ℕ) where
       pub sheet_refused : {r : Refusal} → sheet_refusal library new ≡ some r → admit_refusal library user g new lines scratch ≡ some r
       sheet_refused o = past_room ∙ first_some _ o
 
-      module _ (o : sheet_refusal library new ≡ none) {own : ℕ} (eo : own ≡ class_count new) {x : Bool} (e : x ≡ (ltb lines own || ltb scratch scratch_length)) where
-        past_sheet : admit_refusal library user g new lines scratch ≡ refuse_plain x 12
+      module _ (o : sheet_refusal library new ≡ none) {own : ℕ} (eo : own ≡ class_count new) {x : Bool} (e : x ≡ not (ltb lines own || ltb scratch scratch_length)) where
+        past_sheet : admit_refusal library user g new lines scratch ≡ refuse_plain (not x) 12
         unfolding short_refusal
-        past_sheet = past_room ∙ first_past _ _ o ∙ rw (e, eo)
+        past_sheet = past_room ∙ first_past _ _ o ∙ rw (e, eo, not-not (ltb lines (class_count new) || ltb scratch scratch_length)) refl
 
-        pub too_short : x ≡ true → admit_refusal library user g new lines scratch ≡ some (record { number = 12; sheet = 0; byte = 0 })
+        pub too_short : x ≡ false → admit_refusal library user g new lines scratch ≡ some (record { number = 12; sheet = 0; byte = 0 })
         unfolding refuse_plain refuse_if
-        too_short t = past_sheet ∙ ap (λ (y : Bool). refuse_plain y 12) t
+        too_short t = past_sheet ∙ ap (λ (y : Bool). refuse_plain (not y) 12) t
 
-        pub admitted : x ≡ false → admit_refusal library user g new lines scratch ≡ none
+        pub admitted : x ≡ true → admit_refusal library user g new lines scratch ≡ none
         unfolding refuse_plain refuse_if
-        admitted t = past_sheet ∙ ap (λ (y : Bool). refuse_plain y 12) t
+        admitted t = past_sheet ∙ ap (λ (y : Bool). refuse_plain (not y) 12) t
 
 -- ---- what an admitted group gives
 

@@ -1,12 +1,12 @@
 // Whether a group may be put into the user sheet: 14, 15, then 3 to 11 and 16 of the sheet that it makes, read through the view, then 12.
 #![tactic(auto)]
 
-ghost use Rattle.std.specs.Prelude.{◌≡◌, ◌||◌, ◌≤◌, ltb, length};
+ghost use Rattle.std.specs.Prelude.{◌≡◌, not, ◌||◌, ◌≤◌, ltb, length, replicate, None};
 ghost use Rattle.spec.specs.Verdicts.{flat_lines};
 ghost use Rattle.spec.specs.Refusals.{scratch_length};
 ghost use Rattle.view.specs.View.{Sits, spliced};
 ghost use Rattle.refusals.specs.Refusals.{Answers};
-ghost use Rattle.form.specs.Accepting.{FoundIn};
+ghost use Rattle.form.specs.Accepting.{FoundIn, Asked};
 ghost use Rattle.admit.specs.Admitting.{admit_refusal, Plain};
 
 use form::accepted::Found;
@@ -35,11 +35,11 @@ impl Room {
         }
     }
 
-    /// 12: the row has fewer lines than there are user classes, or the scratch is too short.
-    pub fn lacks(self, own: usize) -> bool
-        ensures { result ≡ (ltb self.lines own || ltb self.scratch scratch_length) }
+    /// Not 12: the row has a line for each user class, and the scratch is long enough.
+    pub fn holds(self, own: usize) -> bool
+        ensures { result ≡ not (ltb self.lines own || ltb self.scratch scratch_length) }
     {
-        self.lines < own || self.scratch < SCRATCH_BYTES
+        own <= self.lines && SCRATCH_BYTES <= self.scratch
     }
 }
 
@@ -55,20 +55,16 @@ pub fn admit(
     requires sits { Sits cut user.now }
     requires short { length library.now ≤ 32768 }
     requires plain { Plain library.now group.now (spliced user.now group.now cut) }
-    ensures { Answers (admit_refusal library.now user.now group.now (spliced user.now group.now cut) room.lines room.scratch) result
+    requires fresh { found.old.memo ≡ replicate 256 None }
+    ensures answer { Answers (admit_refusal library.now user.now group.now (spliced user.now group.now cut) room.lines room.scratch) result
         (λ n. (n ≡ length (spliced user.now group.now cut)) × FoundIn (record { library = library.now; user = spliced user.now group.now cut }) found.new) }
+    ensures memo { Asked (record { library = library.now; user = spliced user.now group.now cut }) found.new }
 {
-    if !whole_group(group) {
-        return Err(Refusal::from(Reason::NoGroup));
-    }
+    Reason::NoGroup.unless(whole_group(group))?;
     let draft = Draft::new(user, group, cut);
     let size = draft.len();
-    if user.len().min(SHEET_LIMIT) < size {
-        return Err(Refusal::from(Reason::NoRoom));
-    }
+    Reason::NoRoom.unless(size <= user.len().min(SHEET_LIMIT))?;
     check(library, draft, found)?;
-    if room.lacks(found.user_count()) {
-        return Err(Refusal::from(Reason::TooShort));
-    }
+    Reason::TooShort.unless(room.holds(found.user_count()))?;
     Ok(size)
 }

@@ -66,7 +66,3 @@ module _ {n : ℕ} {g : ℕ → Group} {r : List ℕ} (f : Refers n g r) (k : is
           go true a c e q = absurd (true_t e)
           go false true c e q = absurd (true_t q)
           go false false c e q = sym q
-
--- any other record
-pub refers_other : (g : ℕ → Group) (r : List ℕ) → is_kind REFERS r ≡ false → false ≡ (is_kind REFERS r && not (member_allowed g (target r) (index r)))
-refers_other g r e = sym (ap (λ (x : Bool). x && not (member_allowed g (target r) (index r))) e)

@@ -31,7 +31,7 @@ use Rattle.sheets.specs.Sheets.{Pair, Passed, count, groups, library_count}
 use Rattle.sheets.proofs.Indexes.{indexed}
 use Rattle.named.specs.declared.Along.TheVariants as along
 use Rattle.named.specs.Named.{named_by}
-use Rattle.lanes.specs.Lanes.{Nested, direct, deeper, Draws, own, via, entry_at, SeedsFit, Least, Other}
+use Rattle.lanes.specs.Lanes.{Nested, direct, deeper, Draws, own, via, entry_at, SeedsFit, Least}
 use Rattle.lanes.specs.Lanes as lanes
 use Rattle.lanes.proofs.Enclosing.{inside_lower, fits_lower}
 use Rattle.lanes.proofs.Chains.{draws_fit}

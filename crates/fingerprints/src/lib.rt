@@ -1,11 +1,12 @@
 // Fingerprints of class names: whether a name is new is asked of a row of numbers.
 #![tactic(auto)]
 
-ghost use Rattle.std.specs.Prelude.{◌≡◌, ◌≤◌, length, drop};
+ghost use Rattle.std.specs.Prelude.{◌≡◌};
 ghost use Rattle.spec.specs.Lists.{elem};
 ghost use Rattle.sheets.specs.Sheets.{count, groups};
 ghost use Rattle.fingerprints.specs.Fingerprints.{print_with, print_of, Printed};
 
+use records::CLASS_LIMIT;
 use sheets::Sheets;
 
 // The fingerprint after one byte more.
@@ -22,15 +23,15 @@ fn print_of(name: &[u8]) -> u16
     name.iter().fold(0, |print, byte| print_with(print, *byte))
 }
 
-/// Fills a row with the fingerprint of each class's name; what stands past them is kept.
-pub fn prints(sheets: &Sheets, row: &mut [u16])
-    requires { count sheets.now ≤ length row.old }
-    ensures first { Printed (groups sheets.now) (count sheets.now) row.new }
-    ensures rest { drop (count sheets.now) row.new ≡ drop (count sheets.now) row.old }
+/// The fingerprint of each class's name.
+pub fn prints(sheets: &Sheets) -> [u16; CLASS_LIMIT]
+    ensures { Printed (groups sheets.now) (count sheets.now) result }
 {
+    let mut row = [0; CLASS_LIMIT];
     for (c, print) in row[..sheets.count()].iter_mut().enumerate() {
         *print = print_of(sheets.group(c).name());
     }
+    row
 }
 
 /// Whether an entry is `print`. All are read, so that many are compared at once; as a fold it is slower.

@@ -13,7 +13,7 @@ use breaks::bans::bans;
 use breaks::judging::Judging;
 use captured::captures;
 use form::accepted::Accepted;
-use overlay::overlays;
+use overlay::{Falling, overlays};
 use records::{CLASS_LIMIT, SCRATCH_BYTES, VERDICT_BYTES};
 use rules::{Fault, Walk};
 use survey::Survey;
@@ -74,7 +74,10 @@ pub fn rejudge(accepted: &Accepted, marks: &[u8], verdicts: &mut [u8], scratch: 
     let formed = &accepted.formed;
     let mut memo = accepted.memo();
     let mut markers = [0; CLASS_LIMIT];
-    overlays(formed, &mut memo, &mut markers);
+    let falling = Falling {
+        sheets: &formed.sheets,
+    };
+    overlays(&falling, &mut memo, &mut markers);
     captures(formed, &markers, scratch);
     let survey = Survey::new(Judging {
         formed,

@@ -7,8 +7,9 @@ use mathlib.Core.Option.{Option, none, some}
 use Prim.Native.Nat.{ℕ, ◌≤◌, ◌<◌, min}
 use native.Mathlib.Omega.{arith}
 use lib.Dec.{ltb}
-use lib.ListN.{length, take}
+use lib.ListN.{length, take, replicate}
 use borrow.Author.Tests.{lt-ltb, le-ltb, ltb-true, ltb-false}
+use Rattle.std.specs.Prelude.{None}
 use Rattle.spec.specs.Lists.{first_of}
 use Rattle.spec.specs.Sheet.{class_count, group_start, located_in, located}
 use Rattle.spec.specs.Refusals.{Refusal, refuse_if, refuse_record, deemed_tests, record_refusal, torn_refusal, no_class_refusal}
@@ -17,8 +18,9 @@ use Rattle.laws.proofs.Bools.{nltb}
 use Rattle.theory.proofs.Answers.{some≢none, first_some, first_only, first_past, first_append, keep_head, none_if, none_first, skip_none}
 use Rattle.groups.specs.Groups.{start_of, Indexed}
 use Rattle.overlay.specs.Memo.{memo_of}
+use Rattle.overlay.proofs.Memos.{memo_none}
 use Rattle.form.specs.declared.accepted.Found.{Found}
-use Rattle.form.specs.Accepting.{FoundIn}
+use Rattle.form.specs.Accepting.{FoundIn, Asked}
 use Rattle.groups.proofs.Held.{in_library}
 use Rattle.sheets.specs.Sheets.{Pair, Passed, groups, library_count}
 use Rattle.sheets.proofs.Indexes.{indexed}
@@ -103,6 +105,13 @@ found_in {found = found} e x f d k = record {
   deemed = subst (λ (q : Pair). deemed_refusal q.library q.user ≡ none) e d;
   known = subst (λ (q : Pair). found.memo ≡ memo_of (groups q) (library_count q)) e k;
 }
+
+-- a fresh memo, and one that was asked of the classes below a number
+pub unasked : {p : Pair} {found : Found} → found.memo ≡ replicate 256 None → Asked p found
+unasked {p} e = record { asked = 0; memo_is = e ∙ sym (memo_none (groups p)) }
+
+pub asked_of : {p q : Pair} {found : Found} (k : ℕ) → p ≡ q → found.memo ≡ memo_of (groups p) k → Asked q found
+asked_of k e m = record { asked = k; memo_is = rw (← e) m }
 
 -- ---- 11
 

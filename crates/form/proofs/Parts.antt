@@ -7,7 +7,7 @@ use mathlib.Core.Option.{Option, none, some}
 use Prim.Native.Nat.{ℕ, ◌+◌, ◌≤◌}
 use native.Mathlib.Nat.{zero-add, add_assoc}
 use native.Mathlib.Omega.{arith}
-use lib.ListN.{length, length-append}
+use lib.ListN.{length}
 use Rattle.std.specs.Prelude.{Result}
 use Rattle.spec.specs.Lists.{first_of, concat}
 use Rattle.spec.specs.Sheet.{class_count}
@@ -97,9 +97,6 @@ module _ {sheet head group tail : List ℕ} (p : Parted sheet head group tail) w
             seam_groups a.earlier (group ∷ a.later) a.earlier_whole (e.1, a.later_whole),
             subst (λ (s : List ℕ). Seam s (concat a.later)) (append-nil group) (seam_groups (group ∷ []) a.later (e.1, tt) a.later_whole),
           ))
-
-  pub all_parts : length sheet ≡ length head + (length group + length tail)
-  all_parts = omega (arith, ap length p.joined, length-append head (group ++ tail), length-append group tail)
 
   -- the first begins the sheet, and each of the others where the one before it ends
   module _ (n : ℕ) where

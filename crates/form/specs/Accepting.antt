@@ -1,6 +1,6 @@
--- What is found of two sheets that nothing refuses.
+-- What is found of two sheets, and what the memo holds of any two.
 -- Assumes nothing.
-use Rattle.std.specs.Prelude.{◌≡◌}
+use Rattle.std.specs.Prelude.{◌≡◌, ℕ}
 use Rattle.std.proofs.Math.Option.{none}
 use Rattle.spec.specs.Refusals.{form_refusal, deemed_refusal}
 use Rattle.groups.specs.Groups.{Indexed}
@@ -14,3 +14,8 @@ pub record FoundIn (p : Pair) (found : Found) : Type 0 where
   pub formed : form_refusal p.library p.user ≡ none
   pub deemed : deemed_refusal p.library p.user ≡ none
   pub known : found.memo ≡ memo_of (groups p) (library_count p)
+
+-- the memo knows just the classes below `asked`
+pub record Asked (p : Pair) (found : Found) : Type 0 where
+  pub asked : ℕ
+  pub memo_is : found.memo ≡ memo_of (groups p) asked

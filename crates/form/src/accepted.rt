@@ -1,6 +1,4 @@
 ghost use Rattle.std.specs.Prelude.{◌≡◌, ◌≤◌, ◌-◌, None, replicate};
-ghost use Rattle.std.proofs.Math.Option.{none};
-ghost use Rattle.spec.specs.Refusals.{deemed_refusal};
 ghost use Rattle.sheets.specs.Sheets.{groups, library_count};
 ghost use Rattle.overlay.specs.Memo.{memo_of};
 
@@ -44,7 +42,6 @@ impl Found {
 pub struct Accepted<'a> {
     pub formed: Formed<'a>,
     memo: &'a [Option<u8>; CLASS_LIMIT],
-    pub ghost deemed: { deemed_refusal formed.sheets.library formed.sheets.user ≡ none },
     pub ghost known: { memo.now ≡ memo_of (groups formed.sheets) (library_count formed.sheets) },
 }
 

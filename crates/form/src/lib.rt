@@ -4,19 +4,19 @@
 pub mod accepted;
 mod passes;
 
-ghost use Rattle.std.specs.Prelude.{◌≡◌, ◌≤◌, length, take, replicate, None};
+ghost use Rattle.std.specs.Prelude.{◌≡◌, ◌+◌, ◌≤◌, min, length, take, replicate, None};
 ghost use Rattle.spec.specs.Refusals.{deemed_refusal, size_refusal, sheet_refusal, present_refusal};
 ghost use Rattle.sheets.specs.Sheets.{groups, library_count};
 ghost use Rattle.refusals.specs.Refusals.{Answers};
 ghost use Rattle.overlay.specs.Memo.{memo_of};
-ghost use Rattle.form.specs.Form.{deemed_breaks};
-ghost use Rattle.form.specs.Accepting.{FoundIn};
+ghost use Rattle.form.specs.Form.{deemed_breaks, first_deemed};
+ghost use Rattle.form.specs.Accepting.{FoundIn, Asked};
 
 use accepted::{Accepted, Found};
 use markers::clash;
-use overlay::overlay;
+use overlay::{Falling, overlay};
 use passes::both_passes;
-use records::{CLASS_LIMIT, SHEET_LIMIT};
+use records::SHEET_LIMIT;
 use refusals::{Reason, Refusal, Side};
 use second::second_pass;
 use sheets::Sheets;
@@ -35,9 +35,13 @@ fn deemed(formed: &Formed, memo: &mut [Option<u8>]) -> Result<(), Refusal>
     requires memo { memo.old ≡ replicate 256 None }
     ensures answer { Answers (deemed_refusal formed.now.sheets.library formed.now.sheets.user) result
         (λ _. memo.new ≡ memo_of (groups formed.now.sheets) (library_count formed.now.sheets)) }
+    ensures memo { let g = groups formed.now.sheets in let n = library_count formed.now.sheets in memo.new ≡ memo_of g (min n (first_deemed g n + 1)) }
 {
+    let falling = Falling {
+        sheets: &formed.sheets,
+    };
     for c in 0..formed.sheets.library_count() {
-        if deemed_breaks(c, overlay(formed, c, memo)) {
+        if deemed_breaks(c, overlay(&falling, c, memo)) {
             return Err(Refusal {
                 reason: Reason::Deemed,
                 sheet: Side::Library,
@@ -51,13 +55,14 @@ fn deemed(formed: &Formed, memo: &mut [Option<u8>]) -> Result<(), Refusal>
 /// All of 2 to 11 and 16 of a library sheet and a user sheet that need not be written yet.
 pub fn check(library: &[u8], user: Draft, found: &mut Found) -> Result<(), Refusal>
     requires short { (length library.now ≤ 32768) × (length user ≤ 32768) }
-    ensures { Answers (sheet_refusal library.now user.entry) result (λ _. FoundIn (record { library = library.now; user = user.entry }) found.new) }
+    requires fresh { found.old.memo ≡ replicate 256 None }
+    ensures answer { Answers (sheet_refusal library.now user.entry) result (λ _. FoundIn (record { library = library.now; user = user.entry }) found.new) }
+    ensures memo { Asked (record { library = library.now; user = user.entry }) found.new }
 {
     both_passes(library, &user, &mut found.index)?;
     let sheets = Sheets::new(library, user, &found.index);
     second_pass(&sheets)?;
     let formed = Formed { sheets };
-    found.memo = [None; CLASS_LIMIT];
     deemed(&formed, &mut found.memo)?;
     Ok(())
 }
@@ -80,6 +85,22 @@ fn lengths(library: &[u8], user: &[u8], used: usize) -> Result<(), Refusal>
     })
 }
 
+/// All of 1 to 11 and 16 of a library sheet and the used bytes of the user buffer.
+pub fn check_present(
+    library: &[u8],
+    user: &[u8],
+    used: usize,
+    found: &mut Found,
+) -> Result<(), Refusal>
+    requires fresh { found.old.memo ≡ replicate 256 None }
+    ensures answer { Answers (present_refusal library.now user.now used) result
+        (λ _. FoundIn (record { library = library.now; user = take used user.now }) found.new) }
+    ensures memo { Asked (record { library = library.now; user = take used user.now }) found.new }
+{
+    lengths(library, user, used)?;
+    check(library, Draft::written(&user[..used]), found)
+}
+
 /// The library sheet and the used bytes of the user buffer, if none of 1 to 11 and 16 refuses them.
 pub fn present<'a>(
     library: &'a [u8],
@@ -87,11 +108,10 @@ pub fn present<'a>(
     used: usize,
     found: &'a mut Found,
 ) -> Result<Accepted<'a>, Refusal>
+    requires fresh { found.old.memo ≡ replicate 256 None }
     ensures { Answers (present_refusal library.now user.now used) result
         (λ a. a.formed.sheets ≡ record { library = library.now; user = take used user.now }) }
 {
-    lengths(library, user, used)?;
-    let sheet = &user[..used];
-    check(library, Draft::written(sheet), found)?;
-    Ok(Accepted::new(library, sheet, found))
+    check_present(library, user, used, found)?;
+    Ok(Accepted::new(library, &user[..used], found))
 }

@@ -7,10 +7,9 @@ use mathlib.Core.Option.{Option, none, some}
 use Prim.Native.Nat.{ℕ, zero, suc, ◌≤◌, zero-le}
 use native.Mathlib.Omega.{arith}
 use lib.Dec.{eqb, ltb, nltb→le}
-use lib.ListN.{length, take, drop, length-append, length-take, take-append-drop}
-use Rattle.spec.specs.Lists.{concat, count, span, first_of}
-use Rattle.spec.specs.Record.{u16}
-use Rattle.spec.specs.Sheet.{whole_first, records_in, records_of, whole_end, class_count, total}
+use lib.ListN.{length, take, length-take}
+use Rattle.spec.specs.Lists.{count, span, first_of}
+use Rattle.spec.specs.Sheet.{records_of, whole_end, class_count, total}
 use Rattle.spec.specs.Verdicts.{faulted, faulted_count, flat}
 use Rattle.spec.specs.Refusals.{Refusal, refuse_plain, size_refusal, sheet_refusal, present_refusal, no_user_refusal, group_refusal, room_refusal, added_sheet, replaced_sheet, judge_refusal}
 use Rattle.spec.specs.Refusals.{add_refusal, replace_refusal, withdraw_refusal, query_refusal}

@@ -1,13 +1,12 @@
 // The classes that a record names: along BUILDS alone, or along every record.
 #![tactic(auto)]
 
-ghost use Rattle.std.specs.Prelude.{◌≡◌, [], ◌∷◌};
+ghost use Rattle.std.specs.Prelude.{◌≡◌, [], ◌∷◌, option_to_list};
 ghost use Rattle.spec.specs.Lists.{elem, only_if};
-ghost use Rattle.spec.specs.Record.{is_kind, BUILDS, target, references, ty_references};
-ghost use Rattle.records.specs.Kinds.{spec_ty};
-ghost use Rattle.named.specs.Named.{option_list, named_by};
+ghost use Rattle.spec.specs.Record.{is_kind, BUILDS, target, references};
+ghost use Rattle.named.specs.Named.{named_by};
 
-use records::record::{Body, Record, Ty};
+use records::record::{Body, Record};
 use std::marker::Model;
 
 /// The classes that a record names, at most two: they come in their order.
@@ -18,18 +17,17 @@ pub struct Targets {
 }
 
 impl Model for Targets {
-    ghost use Rattle.std.specs.Prelude.{List, ℕ, ◌++◌};
-    ghost use Rattle.named.specs.Named.{option_list};
+    ghost use Rattle.std.specs.Prelude.{List, ℕ, ◌++◌, option_to_list};
 
     ghost Value = { List ℕ };
 
-    ghost view = { λ t. option_list t.first ++ option_list t.second };
+    ghost view = { λ t. option_to_list t.first ++ option_to_list t.second };
 }
 
 impl Targets {
     // One class, or none.
     fn alone(class: Option<usize>) -> Targets
-        ensures { result ≡ option_list class }
+        ensures { result ≡ option_to_list class }
     {
         Targets {
             first: class,
@@ -62,16 +60,9 @@ pub enum Along {
     Every,
 }
 
-// The class of a type.
-fn type_named(ty: Ty) -> Option<usize>
-    ensures { option_list result ≡ ty_references (spec_ty ty) }
-{
-    if ty.code == 0 { Some(ty.class) } else { None }
-}
-
 // The class that a BUILDS record builds.
 fn built(record: &Record) -> Option<usize>
-    ensures { option_list result ≡ only_if (is_kind BUILDS record.now) (target record.now ∷ []) }
+    ensures { option_to_list result ≡ only_if (is_kind BUILDS record.now) (target record.now ∷ []) }
 {
     match record.body() {
         Body::Builds(class) => Some(class),
@@ -89,8 +80,8 @@ pub fn named(record: &Record) -> Targets
             second: head.encloser,
         },
         Body::Implements(class) => Targets::alone(Some(class)),
-        Body::Field { ty, .. } => Targets::alone(type_named(ty)),
-        Body::Local(ty) => Targets::alone(type_named(ty)),
+        Body::Field { ty, .. } => Targets::alone(ty.class()),
+        Body::Local(ty) => Targets::alone(ty.class()),
         Body::Uses { class, .. } => Targets::alone(Some(class)),
         Body::Builds(class) => Targets::alone(Some(class)),
         Body::Member { .. } => Targets::alone(None),

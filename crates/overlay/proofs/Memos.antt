@@ -4,9 +4,8 @@ use mathlib.Core.Path.{◌≡◌, refl, sym, ap, ap₂, ◌∙◌}
 use mathlib.Core.Logic.{◌⊎◌, inl, inr}
 use mathlib.Core.Bool.{not}
 use mathlib.Core.List.{List, [], ◌∷◌, ◌++◌, map}
-use Prim.Native.Nat.{ℕ, zero, suc, ◌+◌, ◌-◌, ◌≤◌, ◌<◌, max}
+use Prim.Native.Nat.{ℕ, suc, ◌+◌, ◌-◌, ◌≤◌, ◌<◌, max}
 use native.Mathlib.Nat.{le_refl, zero-add}
-use native.Mathlib.Numerals.{unary_clauses}
 use native.Mathlib.Omega.{arith}
 use lib.Dec.{T, ltb, ltb→lt, nltb→le}
 use lib.ListN.{length, get_or, set, replicate, length-append, length-replicate, get_or-replicate}
@@ -19,6 +18,7 @@ use Rattle.std.proofs.lemmas.Option.{none-some, same_Some}
 use Rattle.spec.specs.Lists.{span}
 use Rattle.spec.specs.Sheet.{Group, total}
 use Rattle.laws.proofs.Bools.{decide}
+use Rattle.records.proofs.Chains.{span_is}
 use Rattle.sheets.specs.Sheets.{Pair, library_count, count}
 use Rattle.overlay.specs.Memo.{raw, memo_of, Knows}
 
@@ -43,11 +43,6 @@ module _ {g : ℕ → Group} {c : ℕ} {memo : List (Option ℕ)} (k : Knows g c
 
 -- ---- the memo that knows the classes below k
 
-span_is : (i n : ℕ) → span i n ≡ range_with_len i n
-unfolding span
-span_is i zero = refl
-span_is i (suc n) = simp unary_clauses (ap (λ (xs : List ℕ). i ∷ xs) (span_is (suc i) n))
-
 module _ (g : ℕ → Group) where
   pub memo_none : memo_of g 0 ≡ replicate 256 None
   unfolding memo_of span
@@ -63,7 +58,7 @@ module _ (g : ℕ → Group) where
 
     memo_is : memo_of g k ≡ low ++ replicate (256 - k) None
     unfolding memo_of
-    memo_is = ap (λ (xs : List ℕ). map (λ c. Some (raw g c)) xs ++ replicate (256 - k) None) (span_is 0 k)
+    memo_is = ap (λ (xs : List ℕ). map (λ c. Some (raw g c)) xs ++ replicate (256 - k) None) (sym (span_is 0 k))
 
     memo_long : k ≤ 256 → length (memo_of g k) ≡ 256
     memo_long h = rw memo_is (length-append low (replicate (256 - k) None) ∙ ap₂ (λ (a b : ℕ). a + b) low_long (length-replicate (256 - k) None) ∙ (omega arith))

@@ -22,7 +22,7 @@ use Rattle.records.specs.declared.record.Body.TheVariants as B
 use Rattle.records.proofs.Bodies.{is_of, is_not, not_implements}
 use Rattle.sheets.specs.Sheets.{Pair, groups, count, library_count}
 use Rattle.theory.proofs.Accept.{form_fits}
-use Rattle.theory.proofs.Falls.{Falls, falls}
+use Rattle.theory.proofs.Falls.{Falls, falls as falls_of}
 use Rattle.theory.proofs.Form.{one_record, group_one_class}
 use Rattle.theory.proofs.Overlay.{gathered_enough, supertypes_lower}
 use Rattle.overlay.specs.Memo.{raw, with_interfaces}
@@ -30,7 +30,7 @@ use Rattle.overlay.proofs.Unions.{union_assoc, union_zero, union_append}
 
 -- class numbers fall where both passes passed
 pub formed_falls : (p : Pair) → form_refusal p.library p.user ≡ none → Falls (groups p)
-formed_falls p e = falls (library_count p) (count p) (groups p) (form_fits p.library p.user e)
+formed_falls p e = falls_of (library_count p) (count p) (groups p) (form_fits p.library p.user e)
 
 -- no class, or the one
 abbrev listed : Option ℕ → List ℕ
@@ -61,14 +61,14 @@ module _ {rs rest : List (List ℕ)} {r : List ℕ} (e : rs ≡ r ∷ rest) (b :
   unfolding targets of_kind
   lists_none n = ap (targets IMPLEMENTS) e ∙ ap (map target) (keep_no (is_kind IMPLEMENTS) r rest (is_not r b says (not_implements b n)))
 
--- ---- a class of two sheets that passed both passes, by what its CLASS record says
+-- ---- a class of two sheets in which class numbers fall, by what its CLASS record says
 
-module _ (p : Pair) (formed : form_refusal p.library p.user ≡ none) (c : ℕ) where
+module _ (p : Pair) (falls : Falls (groups p)) (c : ℕ) where
   abbrev g : ℕ → Group
   g = groups p
 
   below : All (λ e. e < c) (supertypes (g c))
-  below = supertypes_lower g (formed_falls p formed) c
+  below = supertypes_lower g falls c
 
   pub interfaces_lower : All (λ e. e < c) (targets IMPLEMENTS (g c))
   unfolding supertypes
@@ -78,7 +78,7 @@ module _ (p : Pair) (formed : form_refusal p.library p.user ≡ none) (c : ℕ) 
   unfolding raw gathered
   raw_step =
       ap (λ (ms : List ℕ). union (own_markers (class_record (g c))) (union_all ms))
-      (map_cong (λ e. e < c) (gathered g c) (raw g) (λ e q. gathered_enough g (formed_falls p formed) c (suc e) e q (le_refl (suc e))) (supertypes (g c)) below)
+      (map_cong (λ e. e < c) (gathered g c) (raw g) (λ e q. gathered_enough g falls c (suc e) e q (le_refl (suc e))) (supertypes (g c)) below)
 
   module _ (there : c < count p) {records : Group} (here : records ≡ g c) {head : Head} (says : head ≡ head_of (class_record records)) where
     is : head ≡ head_of (class_record (g c))

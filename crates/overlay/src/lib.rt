@@ -3,90 +3,101 @@
 #![tactic(auto)]
 
 ghost use Rattle.std.specs.Prelude.{◌≡◌, Some, ◌+◌, ◌<◌, max, get_or, set};
+ghost use Rattle.std.proofs.Props.{props};
 ghost use Rattle.spec.specs.Classes.{overlay as overlay_of};
+ghost use Rattle.laws.proofs.All.{all_prop};
+ghost use Rattle.theory.proofs.Falls.{Falls};
 ghost use Rattle.records.specs.Kinds.{spec_ty};
-ghost use Rattle.sheets.specs.Sheets.{count, groups, library_count};
+ghost use Rattle.sheets.specs.Sheets.{Passed, count, groups, library_count};
 ghost use Rattle.overlay.specs.Memo.{raw, with_interfaces, memo_of, Knows};
 ghost use Rattle.overlay.specs.Types.{Known, row_markers};
 
 use markers::{ALL, closure, union};
 use records::CLASS_LIMIT;
 use records::record::{Body, Ty};
-use sheets::formed::Formed;
+use sheets::Sheets;
+
+/// Two sheets whose classes have lower numbers above them: each superclass, encloser and interface stands before what names it.
+#[derive(Drop)]
+pub struct Falling<'a> {
+    pub sheets: &'a Sheets<'a>,
+    pub ghost passed: { Passed sheets.now } by { Prim.hlevel (all_prop, props) },
+    pub ghost falls: { Falls (groups sheets.now) },
+}
 
 // The own markers of class c and of all its supertypes, unless the memo has them.
 #[cycle(supertypes)]
-fn gathered(formed: &Formed, c: usize, memo: &mut [Option<u8>]) -> u8
-    requires there { c < count formed.now.sheets }
-    requires knows { Knows (groups formed.now.sheets) c memo.old }
-    ensures markers { result ≡ raw (groups formed.now.sheets) c }
-    ensures memo { memo.new ≡ set memo.old c (Some (raw (groups formed.now.sheets) c)) }
+fn gathered(falling: &Falling, c: usize, memo: &mut [Option<u8>]) -> u8
+    requires there { c < count falling.now.sheets.now }
+    requires knows { Knows (groups falling.now.sheets.now) c memo.old }
+    ensures markers { result ≡ raw (groups falling.now.sheets.now) c }
+    ensures memo { memo.new ≡ set memo.old c (Some (raw (groups falling.now.sheets.now) c)) }
 {
     if let Some(known) = memo[c] {
         return known;
     }
-    let head = formed.sheets.group(c).head();
+    let head = falling.sheets.group(c).head();
     let mut mine = head.markers;
     if let Some(above) = head.superclass {
-        mine = union(mine, gathered(formed, above, memo));
+        mine = union(mine, gathered(falling, above, memo));
     }
-    let markers = interfaces(formed, c, mine, memo);
+    let markers = interfaces(falling, c, mine, memo);
     memo[c] = Some(markers);
     markers
 }
 
 // The set `mine` joined with what is gathered for the interfaces that class c lists.
 #[cycle(supertypes)]
-fn interfaces(formed: &Formed, c: usize, mine: u8, memo: &mut [Option<u8>]) -> u8
-    requires there { c < count formed.now.sheets }
-    requires knows { Knows (groups formed.now.sheets) c memo.old }
-    ensures markers { result ≡ with_interfaces (groups formed.now.sheets) c mine }
+fn interfaces(falling: &Falling, c: usize, mine: u8, memo: &mut [Option<u8>]) -> u8
+    requires there { c < count falling.now.sheets.now }
+    requires knows { Knows (groups falling.now.sheets.now) c memo.old }
+    ensures markers { result ≡ with_interfaces (groups falling.now.sheets.now) c mine }
     ensures memo { memo.new ≡ memo.old }
 {
     let mut markers = mine;
-    for record in formed.sheets.group(c).records() {
+    for record in falling.sheets.group(c).records() {
         if let Body::Implements(interface) = record.body() {
-            markers = union(markers, gathered(formed, interface, memo));
+            markers = union(markers, gathered(falling, interface, memo));
         }
     }
     markers
 }
 
 /// The overlay markers of class c.
-pub fn overlay(formed: &Formed, c: usize, memo: &mut [Option<u8>]) -> u8
-    requires there { c < count formed.now.sheets }
-    requires knows { Knows (groups formed.now.sheets) c memo.old }
-    ensures markers { result ≡ overlay_of (groups formed.now.sheets) c }
-    ensures memo { memo.new ≡ set memo.old c (Some (raw (groups formed.now.sheets) c)) }
+pub fn overlay(falling: &Falling, c: usize, memo: &mut [Option<u8>]) -> u8
+    requires there { c < count falling.now.sheets.now }
+    requires knows { Knows (groups falling.now.sheets.now) c memo.old }
+    ensures markers { result ≡ overlay_of (groups falling.now.sheets.now) c }
+    ensures memo { memo.new ≡ set memo.old c (Some (raw (groups falling.now.sheets.now) c)) }
 {
-    let open = gathered(formed, c, memo);
+    let open = gathered(falling, c, memo);
     closure(open)
 }
 
 /// The overlay markers of class c, where the memo knows the library classes. The user classes below c are asked first, so that each finds its supertypes
 /// in the memo and no call is deep.
-pub fn overlay_in_turn(formed: &Formed, c: usize, memo: &mut [Option<u8>]) -> u8
-    requires there { c < count formed.now.sheets }
-    requires memo { memo.old ≡ memo_of (groups formed.now.sheets) (library_count formed.now.sheets) }
-    ensures markers { result ≡ overlay_of (groups formed.now.sheets) c }
-    ensures memo { memo.new ≡ memo_of (groups formed.now.sheets) (max (library_count formed.now.sheets) (c + 1)) }
+pub fn overlay_in_turn(falling: &Falling, c: usize, memo: &mut [Option<u8>]) -> u8
+    requires there { c < count falling.now.sheets.now }
+    requires memo { memo.old ≡ memo_of (groups falling.now.sheets.now) (library_count falling.now.sheets.now) }
+    ensures markers { result ≡ overlay_of (groups falling.now.sheets.now) c }
+    ensures memo { memo.new ≡ memo_of (groups falling.now.sheets.now) (max (library_count falling.now.sheets.now) (c + 1)) }
 {
-    let first = formed.sheets.library_count();
+    let first = falling.sheets.library_count();
     for below in first..c {
-        gathered(formed, below, memo);
+        gathered(falling, below, memo);
     }
-    overlay(formed, c, memo)
+    overlay(falling, c, memo)
 }
 
 /// Writes the overlay markers of each class, 0 past the last one.
-pub fn overlays(formed: &Formed, memo: &mut [Option<u8>], row: &mut [u8; CLASS_LIMIT])
-    requires memo { memo.old ≡ memo_of (groups formed.now.sheets) (library_count formed.now.sheets) }
-    ensures row { Known (groups formed.now.sheets) row.new }
-    ensures memo { memo.new ≡ memo_of (groups formed.now.sheets) (count formed.now.sheets) }
+pub fn overlays(falling: &Falling, memo: &mut [Option<u8>], row: &mut [u8; CLASS_LIMIT])
+    requires memo { memo.old ≡ memo_of (groups falling.now.sheets.now) (library_count falling.now.sheets.now) }
+    ensures row { Known (groups falling.now.sheets.now) row.new }
+    ensures memo { memo.new ≡ memo_of (groups falling.now.sheets.now) (count falling.now.sheets.now) }
 {
-    let (there, past) = row.split_at_mut(formed.sheets.count());
+    let (there, past) = row.split_at_mut(falling.sheets.count());
     for (c, markers) in there.iter_mut().enumerate() {
-        *markers = overlay(formed, c, memo);
+        *markers = overlay(falling, c, memo);
     }
     past.fill(0);
 }

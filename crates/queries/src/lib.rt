@@ -1,7 +1,7 @@
 // What is asked of one class: its overlay markers and its name.
 #![tactic(auto)]
 
-ghost use Rattle.std.specs.Prelude.{◌≡◌, ◌<◌, take};
+ghost use Rattle.std.specs.Prelude.{◌≡◌, ◌<◌, take, replicate, None};
 ghost use Rattle.spec.specs.Refusals.{query_refusal};
 ghost use Rattle.spec.specs.Promises.{Marks, Places, Names};
 ghost use Rattle.theory.specs.Claims.{sheet_of};
@@ -11,7 +11,7 @@ ghost use Rattle.queries.specs.Answers.{part_of};
 
 use form::accepted::{Accepted, Found};
 use form::present;
-use overlay::overlay_in_turn;
+use overlay::{Falling, overlay_in_turn};
 use records::NAME_AT;
 use refusals::{Reason, Refusal, Side};
 
@@ -31,13 +31,12 @@ fn asked<'a>(
     class: usize,
     found: &'a mut Found,
 ) -> Result<Accepted<'a>, Refusal>
+    requires fresh { found.old.memo ≡ replicate 256 None }
     ensures { Answers (query_refusal library.now user.now used class) result
         (λ a. (a.formed.sheets ≡ record { library = library.now; user = take used user.now }) × (class < count a.formed.sheets)) }
 {
     let accepted = present(library, user, used, found)?;
-    if accepted.formed.sheets.count() <= class {
-        return Err(Refusal::from(Reason::NoSuchClass));
-    }
+    Reason::NoSuchClass.unless(class < accepted.formed.sheets.count())?;
     Ok(accepted)
 }
 
@@ -47,7 +46,10 @@ pub fn marks(library: &[u8], user: &[u8], used: usize, class: usize) -> Result<u
 {
     let mut found = Found::new();
     let accepted = asked(library, user, used, class, &mut found)?;
-    Ok(overlay_in_turn(&accepted.formed, class, &mut accepted.memo()))
+    let falling = Falling {
+        sheets: &accepted.formed.sheets,
+    };
+    Ok(overlay_in_turn(&falling, class, &mut accepted.memo()))
 }
 
 /// Where a class's name stands: for a caller that wants the refusal, or cannot be handed a part of a slice.

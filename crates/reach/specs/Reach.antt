@@ -1,6 +1,7 @@
 -- The steps of the search over two sheets, and the enclosers that it asks.
 -- Assumes nothing.
-use Rattle.std.specs.Prelude.{◌≡◌, ◌&&◌, Bool, true, false, Option, None, Some, ℕ, ◌≤◌, ◌<◌, ltb, length, get_or, drop}
+use Rattle.std.specs.Prelude.{◌≡◌, ◌&&◌, Bool, true, false, Option, ℕ, ◌≤◌, ◌<◌, ltb, length, get_or, drop}
+use Rattle.std.specs.Bool.{then_some}
 use mathlib.Core.List.{List, ◌++◌, map, Memᴰ}
 use Rattle.spec.specs.Lists.{any, gather, span}
 use Rattle.spec.specs.Record.{encloser}
@@ -22,7 +23,7 @@ unfoldable pub outer_of : (ℕ → Group) → ℕ → ℕ
 outer_of g m = encloser (class_record (g m))
 
 abbrev pub lower_outer : (ℕ → Group) → ℕ → Option ℕ
-lower_outer g m = elim (ltb (outer_of g m) m) [ true ↦ Some (outer_of g m) | false ↦ None ]
+lower_outer g m = then_some (ltb (outer_of g m) m) (outer_of g m)
 
 -- Class m has drawn from all these classes. Only they and the row of marks were asked, so it holds for all steps that they are among, and for all enclosers that the marks are
 -- right for.

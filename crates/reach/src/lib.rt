@@ -22,10 +22,7 @@ fn outer(sheets: &Sheets, c: usize) -> Option<usize>
     requires { (c < count sheets.now) × (c ≤ 256) }
     ensures { result ≡ lower_outer (groups sheets.now) c }
 {
-    match sheets.group(c).head().encloser {
-        Some(e) if e < c => Some(e),
-        _ => None,
-    }
+    sheets.group(c).head().encloser.filter(|e| *e < c)
 }
 
 /// Marks each encloser of class m.
@@ -91,15 +88,7 @@ fn has_lower(row: &[u8], extent: Extent, m: usize, t: usize) -> bool
     requires there { m < extent.classes }
     ensures { result ≡ offers row.now extent.classes extent.lanes m t }
 {
-    if extent.classes <= t {
-        return false;
-    }
-    for k in 0..extent.lanes {
-        if row[k * LANE + t] < row[k * LANE + m] {
-            return true;
-        }
-    }
-    false
+    t < extent.classes && (0..extent.lanes).any(|k| row[k * LANE + t] < row[k * LANE + m])
 }
 
 // Whether a record names a class that has in some lane a lower owner than m.

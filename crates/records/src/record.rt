@@ -1,6 +1,6 @@
-ghost use Rattle.std.specs.Prelude.{◌≡◌, true, ◌+◌, ◌≤◌, ◌<◌, length};
-ghost use Rattle.spec.specs.Record.{kind, is_kind, bit, ty_at, target, index};
-ghost use Rattle.records.specs.Kinds.{Reads, kind_number, optional, ty_of, head_of};
+ghost use Rattle.std.specs.Prelude.{◌≡◌, true, ◌+◌, ◌≤◌, ◌<◌, length, option_to_list};
+ghost use Rattle.spec.specs.Record.{kind, is_kind, bit, ty_at, ty_references, target, index};
+ghost use Rattle.records.specs.Kinds.{Reads, kind_number, optional, ty_of, spec_ty, head_of};
 
 use crate::kind::Kind;
 use crate::{
@@ -15,6 +15,15 @@ pub struct Ty {
     pub dims: u8,
     pub code: u8,
     pub class: usize,
+}
+
+impl Ty {
+    /// The class that the type names, unless it is a primitive.
+    pub fn class(self) -> Option<usize>
+        ensures { option_to_list result ≡ ty_references (spec_ty self) }
+    {
+        (self.code == 0).then_some(self.class)
+    }
 }
 
 /// What a CLASS record says of its class, but for the name.

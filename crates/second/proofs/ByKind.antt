@@ -8,10 +8,11 @@ use native.Mathlib.Omega.{arith}
 use lib.Dec.{eqb, leb, ltb, eqb→eq}
 use lib.ListN.{length}
 use borrow.Author.Tests.{le-ltb}
+use Rattle.std.specs.Prelude.{option_to_list}
 use Rattle.std.specs.declared.option.Option.{Option as Maybe}
 use Rattle.spec.specs.Lists.{any}
 use Rattle.spec.specs.Record.{bit, none16, kind, CLASS, IMPLEMENTS, FIELD, LOCAL, USES, BUILDS, MEMBER, REFERS, flags, superclass, encloser, target, index}
-use Rattle.spec.specs.Record.{Ty as SpecTy, field_ty, local_ty, is_static, unless_none, ty_references, references}
+use Rattle.spec.specs.Record.{field_ty, local_ty, is_static, unless_none, references}
 use Rattle.spec.specs.Sheet.{of_kind, is_interface, is_instance_field}
 use Rattle.spec.specs.Refusals.{no_such_class, no_such_index, superclass_fits, encloser_fits, implements_fits, uses_fits, name_met, form_tests}
 use Rattle.laws.proofs.Bools.{eq→eqb, true_t}
@@ -33,13 +34,10 @@ absent_lem p d = go (eqb d none16)
     go true = refl
     go false = or-false (leb (count p) d)
 
-type_absent : (n : ℕ) (t : SpecTy) → any (leb n) (ty_references t) ≡ (eqb t.code 0 && leb n t.class)
-unfolding any ty_references
-type_absent n t = go (eqb t.code 0)
-  where
-    go : (b : Bool) → any (leb n) (elim b as (λ (_ : Bool). List ℕ) [ true ↦ t.class ∷ [] | false ↦ [] ]) ≡ (b && leb n t.class)
-    go true = or-false (leb n t.class)
-    go false = refl
+pub absent_any : (p : Pair) (o : Maybe ℕ) {ts : List ℕ} → option_to_list o ≡ ts → absent p o ≡ any (leb (count p)) ts
+unfolding any
+absent_any p Maybe.None e = rw (sym e) refl
+absent_any p (Maybe.Some d) e = rw (sym e) (sym (or-false (leb (count p) d)))
 
 -- ---- a CLASS record, whose superclass and encloser are options
 
@@ -113,11 +111,11 @@ module _ (p : Pair) (c : ℕ) (r : List ℕ) where
 
   pub field_is : kind r ≡ FIELD → {f : ℕ} → f ≡ flags r → {t : Ty} → t ≡ ty_of (field_ty r) → first_met (field_tests p c f t) ≡ form_number p c r
   unfolding later is_static
-  field_is e ef et = rw (ef, et) (by_number FIELD e (references_field r (eq→eqb e)) (type_absent (count p) (field_ty r)))
+  field_is e ef et = rw (ef, et) (by_number FIELD e (references_field r (eq→eqb e)) refl)
 
   pub local_is : kind r ≡ LOCAL → {t : Ty} → t ≡ ty_of (local_ty r) → first_met (type_tests p t) ≡ form_number p c r
   unfolding later
-  local_is e et = rw et (by_number LOCAL e (references_local r (eq→eqb e)) (type_absent (count p) (local_ty r)))
+  local_is e et = rw et (by_number LOCAL e (references_local r (eq→eqb e)) refl)
 
   pub uses_is : kind r ≡ USES → {t i : ℕ} → t ≡ target r → i ≡ index r → first_met (uses_tests p c t i) ≡ form_number p c r
   unfolding later uses_fits

@@ -2,8 +2,8 @@
 -- Assumes nothing.
 use Rattle.std.specs.Prelude.{◌≡◌, Bool, true, false, not, ◌&&◌, ◌||◌, Option, None, Some, Result, Ok, Err, List, [], ◌∷◌, ℕ, ◌+◌, ◌≤◌, ◌<◌, eqb, leb, ltb, length, get_or}
 use Rattle.std.proofs.Math.Option as spec
-use Rattle.spec.specs.Lists.{elem}
-use Rattle.spec.specs.Record.{bit, LOCAL, MEMBER}
+use Rattle.spec.specs.Lists.{any, elem}
+use Rattle.spec.specs.Record.{bit, LOCAL, MEMBER, ty_references}
 use Rattle.spec.specs.Sheet.{Group, of_kind, is_interface}
 use Rattle.spec.specs.Classes.{enclosers}
 use Rattle.spec.specs.Refusals.{Refusal, form_tests, name_met}
@@ -14,6 +14,7 @@ use Rattle.refusals.specs.declared.Side.TheVariants.{Library, User}
 use Rattle.refusals.specs.Refusals.{reason_number}
 use Rattle.records.specs.declared.record.Ty.{Ty}
 use Rattle.records.specs.declared.record.Head.{Head}
+use Rattle.records.specs.Kinds.{spec_ty}
 use Rattle.records.specs.declared.kind.Kind.{Kind}
 use Rattle.records.specs.declared.kind.Kind.TheVariants.{Local, Member}
 use Rattle.sheets.specs.Sheets.{Pair, count, groups, library_count}
@@ -71,14 +72,14 @@ abbrev pub target_tests : Pair → ℕ → List (ℕ × Bool)
 target_tests p t = (9, leb (count p) t) ∷ []
 
 abbrev pub type_tests : Pair → Ty → List (ℕ × Bool)
-type_tests p t = (9, eqb t.code 0 && leb (count p) t.class) ∷ []
+type_tests p t = (9, any (leb (count p)) (ty_references (spec_ty t))) ∷ []
 
 abbrev pub implements_tests : Pair → ℕ → ℕ → List (ℕ × Bool)
 implements_tests p c t = (9, leb (count p) t) ∷ (8, not (ltb t c && is_interface (groups p t))) ∷ []
 
 -- a FIELD with those flags
 abbrev pub field_tests : Pair → ℕ → ℕ → Ty → List (ℕ × Bool)
-field_tests p c f t = (9, eqb t.code 0 && leb (count p) t.class) ∷ (8, not (bit 2 f) && is_interface (groups p c)) ∷ []
+field_tests p c f t = (9, any (leb (count p)) (ty_references (spec_ty t))) ∷ (8, not (bit 2 f) && is_interface (groups p c)) ∷ []
 
 -- record number i of kind k in class t
 abbrev pub index_tests : Pair → ℕ → ℕ → ℕ → List (ℕ × Bool)

@@ -40,10 +40,8 @@ impl<'a> Lookup<'a> {
     fn absent(&self, class: Option<usize>) -> bool
         ensures { result ≡ absent self.now.sheets.now class }
     {
-        match class {
-            Some(d) => self.sheets.count() <= d,
-            None => false,
-        }
+        let n = self.sheets.count();
+        class.is_some_and(|d| n <= d)
     }
 
     // Whether class c, which begins so, has such a superclass as it must.
@@ -94,11 +92,7 @@ impl<'a> Lookup<'a> {
     fn type_there(&self, ty: Ty) -> Result<(), Reason>
         ensures { number_of result ≡ first_met (type_tests self.now.sheets.now ty) }
     {
-        if ty.code == 0 {
-            self.there(ty.class)
-        } else {
-            Ok(())
-        }
+        Reason::NotThere.unless(!self.absent(ty.class()))
     }
 
     // An IMPLEMENTS of class c.

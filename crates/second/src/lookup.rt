@@ -59,8 +59,7 @@ impl<'a> Lookup<'a> {
         ensures { result.sheets.now ≡ sheets.now }
     {
         let n = sheets.count();
-        let mut row = [0; CLASS_LIMIT];
-        prints(sheets, &mut row);
+        let prints = prints(sheets);
         let mut asked = [Asked {
             interface: false,
             indexed: 0,
@@ -70,7 +69,7 @@ impl<'a> Lookup<'a> {
         }
         Lookup {
             sheets,
-            prints: row,
+            prints,
             asked,
         }
     }

@@ -9,7 +9,7 @@ ghost use Rattle.slots.specs.Slots.{rule_number, rule_marker, Passes, slot_by, F
 use captured::{LANES, Lane, lacking};
 use markers::{ALL, DEEP_SELFLESS, IMMUTABLE, POWERLESS, SELFLESS, common, has, union};
 use overlay::{known, type_markers};
-use records::group::Group;
+use records::group::Records;
 use records::record::{Body, Head, Ty};
 use records::{
     CALLS_SUPER_EQUALS, FINAL, INNER, OVERRIDES_EQUALS, OVERRIDES_HASH_CODE, STATIC, TRANSIENT,
@@ -74,12 +74,12 @@ pub fn field_set(flags: u16, ty: Ty, markers: &[u8]) -> u8
     slot_set(flags, type_markers(ty, markers))
 }
 
-/// Those that all fields of a class pass.
-pub fn fields_set(group: &Group, markers: &[u8]) -> u8
-    ensures { FieldsSet markers.now group.now result }
+/// Those that all fields among some records pass.
+pub fn fields_set(records: Records<'_>, markers: &[u8]) -> u8
+    ensures { FieldsSet markers.now records.entry result }
 {
     let mut set = ALL;
-    for record in group.records() {
+    for record in records {
         if let Body::Field { flags, ty } = record.body() {
             set = common(set, field_set(flags, ty, markers));
         }

@@ -4,17 +4,16 @@ use mathlib.Core.Path.{◌≡◌, refl, sym, ap, ◌∙◌, subst}
 use mathlib.Core.Bool.{Bool, true, false, not, ◌&&◌, ◌||◌}
 use mathlib.Core.List.{List}
 use mathlib.Core.Option.{none}
-use Prim.Native.Nat.{ℕ, ◌+◌, ◌≤◌, ◌<◌}
+use Prim.Native.Nat.{ℕ, ◌≤◌, ◌<◌}
 use native.Mathlib.Omega.{arith}
 use lib.Dec.{T}
-use lib.ListN.{length, get_or, set, length-set}
+use lib.ListN.{get_or}
 use Rattle.std.specs.Prelude.{None, Some}
 use Rattle.spec.specs.Lists.{any}
 use Rattle.spec.specs.Record.{bit, superclass}
 use Rattle.spec.specs.Sheet.{Group, class_record, is_interface}
 use Rattle.spec.specs.Refusals.{form_refusal}
 use Rattle.laws.proofs.Bools.{false_t, t_false}
-use Rattle.laws.proofs.Rows.{set_below}
 use Rattle.theory.proofs.Form.{Super, sound_super}
 use Rattle.records.specs.declared.record.Head.{Head}
 use Rattle.records.specs.Kinds.{head_of}
@@ -104,14 +103,3 @@ module _ (p : Pair) where
                   ∙ ap not (ap (λ (i : ℕ). slots_break g rule t || line_breaks nlib g rule i) (sym (above_is q)) ∙ line_up nlib g (formed_falls p ok) rule c.user_class its_super));
               interface = λ _ i. absurd (subst T (sym i ∙ c.concrete) tt);
             }
-
--- ---- the row
-
-pub passing_none : {nlib : ℕ} {g : ℕ → Group} {row : List ℕ} → length row ≡ 256 → Passing nlib 0 g row
-passing_none l = record { long = l; is = λ c h. absurd (omega arith) }
-
-pub passing_next : {nlib c : ℕ} {g : ℕ → Group} {row : List ℕ} → Passing nlib c g row → c < 256 → {v : ℕ} → ClassSet nlib g c v → Passing nlib (c + 1) g (set row c v)
-passing_next {nlib} {c} {g} {row} w h {v} s = record {
-  long = length-set row c v ∙ w.long;
-  is = set_below 0 (λ d x. ClassSet nlib g d x) row c v (omega (arith, w.long)) w.is s;
-}

@@ -56,7 +56,7 @@ fn class_set(judging: &Judging, sets: &[u8], t: usize) -> u8
     let Some(above) = head.superclass else {
         unreachable!()
     };
-    let own = common(first, fields_set(&group, &judging.markers));
+    let own = common(first, fields_set(group.records(), &judging.markers));
     common(own, sets[above])
 }
 
@@ -112,12 +112,11 @@ fn records_fine(judging: &Judging, group: &Group) -> bool
     requires { All (Refers (count judging.now.formed.now.sheets) (groups judging.now.formed.now.sheets)) group.now }
     ensures { result ≡ not (any (record_breaks (library_count judging.now.formed.now.sheets) (groups judging.now.formed.now.sheets)) group.now) }
 {
-    for record in group.records() {
-        if breaks(judging, &record) {
-            return false;
-        }
-    }
-    true
+    !group.records().any(
+        |record|
+            requires { Refers (count judging.now.formed.now.sheets) (groups judging.now.formed.now.sheets) «record» }
+        { breaks(judging, &record) },
+    )
 }
 
 // The CLASS record breaks none of rules 3, 4 and 6, where m are the class's overlay markers.

@@ -2,11 +2,12 @@
 -- Assumes nothing.
 use mathlib.Core.Path.{◌≡◌, refl, sym, ap, ◌∙◌}
 use mathlib.Core.List.{List, [], ◌∷◌, ◌++◌, append_assoc}
-use Prim.Native.Nat.{ℕ, zero, suc, ◌+◌, ◌-◌, ◌/◌, ◌≤◌, ◌<◌, min}
+use Prim.Native.Nat.{ℕ, zero, suc, ◌+◌, ◌*◌, ◌-◌, ◌/◌, ◌≤◌, ◌<◌, min}
 use native.Mathlib.Numerals.{add-one}
 use native.Mathlib.Omega.{arith}
 use lib.ListN.{length, get_or, set, take, drop, length-append, length-drop, get_or-append}
-use lib.Seq.{drop-cons, set_at, get_or_at, get_or-drop, get_or-append-add}
+use lib.Seq.{drop-cons, set_at, get_or_at, get_or-take, get_or-drop, get_or-append-add}
+use Rattle.std.specs.Simd.{first_chunks}
 use Rattle.std.proofs.lemmas.List.{append-nil, drop_all, length-take}
 use borrow.Author.Count.{below_more}
 use Rattle.spec.specs.Rules as spec
@@ -19,6 +20,12 @@ pub shared_is : (flat : List ℕ) (n lines : ℕ) {k : ℕ} → k ≡ min (min n
 unfolding flat_lines
 shared_is flat n lines e = e
 
+-- the bytes of a chunk
+chunk_byte : (m i j : ℕ) (xs : List ℕ) → i < m → j < 2 → get_or (get_or (first_chunks 2 m xs) i []) j 0 ≡ get_or xs (2 * i + j) 0
+chunk_byte zero i j xs h b = absurd (omega arith)
+chunk_byte (suc m) zero j xs h b = get_or-take 2 xs j 0 b ∙ ap (λ (k : ℕ). get_or xs k 0) (omega arith)
+chunk_byte (suc m) (suc i) j xs h b = chunk_byte m i j (drop 2 xs) (omega arith) b ∙ get_or-drop 2 xs (2 * i + j) 0 ∙ ap (λ (k : ℕ). get_or xs k 0) (omega arith)
+
 -- a line as it is read
 read : Verdict → spec.Verdict
 read v = record { rule = v.rule; record_number = v.«record» }
@@ -26,6 +33,15 @@ read v = record { rule = v.rule; record_number = v.«record» }
 module _ (flat : List ℕ) where
   abbrev pub line : ℕ → Verdict
   line i = line_of (flat_at flat i)
+
+  -- the chunks of the flat row are its lines
+  pub line_read : {lines : List (List ℕ)} → lines ≡ first_chunks 2 (length flat / 2) flat → (i : ℕ) → i < length flat / 2
+      → record { rule = get_or (get_or lines i []) 0 0; «record» = get_or (get_or lines i []) 1 0 } ≡ line i
+  unfolding flat_at
+  line_read e i h = rw e (λ k. record {
+    rule = (chunk_byte (length flat / 2) i 0 flat h (omega arith) ∙ ap (λ (j : ℕ). get_or flat j 0) {x = 2 * i + 0} {y = 2 * i} (omega arith)) k;
+    «record» = chunk_byte (length flat / 2) i 1 flat h (omega arith) k;
+  })
 
   first_length_lem : (n : ℕ) → length (first_lines flat n) ≡ n
   unfolding first_lines

@@ -1,9 +1,8 @@
 // The verdict row as a slice of structs: the report over it, and a flat row's lines written into it.
 #![tactic(auto)]
 
-ghost use Rattle.std.specs.Prelude.{◌≡◌, ◌<◌, min, length};
-ghost use Rattle.spec.specs.Verdicts.{flat_lines, flat_at};
-ghost use Rattle.verdicts.specs.Row.{is_faulted, line_of, faulted_in, shared, written, flat_faulted};
+ghost use Rattle.std.specs.Prelude.{◌≡◌, min, length};
+ghost use Rattle.verdicts.specs.Row.{is_faulted, faulted_in, shared, written, flat_faulted};
 
 use records::{CLASS_LIMIT, VERDICT_BYTES};
 
@@ -31,25 +30,15 @@ pub fn report(row: &[Verdict], n: usize) -> usize
     row.iter().take(n).filter(|v| v.is_faulted()).count()
 }
 
-// Line i of a flat row.
-#[tactic(auto, unfolding(spec::specs::Verdicts::flat_lines, spec::specs::Verdicts::flat_at))]
-fn line(flat: &[u8], i: usize) -> Verdict
-    requires { i < flat_lines flat.now }
-    ensures { result ≡ line_of (flat_at flat.now i) }
-{
-    Verdict {
-        rule: flat[VERDICT_BYTES * i],
-        record: flat[VERDICT_BYTES * i + 1],
-    }
-}
-
 // Line i becomes line i of the flat row, for the first n lines as far as both rows have them; every other line stays.
 pub fn write(row: &mut [Verdict], flat: &[u8], n: usize)
     ensures { row.new ≡ written flat.now row.old n }
 {
-    let end = n.min(row.len()).min(flat.len() / VERDICT_BYTES);
+    let (lines, _) = flat.as_chunks::<VERDICT_BYTES>();
+    let end = n.min(row.len()).min(lines.len());
     for (i, verdict) in row[..end].iter_mut().enumerate() {
-        *verdict = line(flat, i);
+        let [rule, record] = lines[i];
+        *verdict = Verdict { rule, record };
     }
 }
 

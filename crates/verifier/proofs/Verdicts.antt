@@ -1,7 +1,7 @@
 -- The promise of a judging, at each of its ends.
 -- Assumes nothing.
 use mathlib.Core.Path.{◌≡◌, refl, sym, ap, ap₂, ◌∙◌}
-use mathlib.Core.Bool.{Bool, true, false, not, ◌&&◌, ◌||◌}
+use mathlib.Core.Bool.{Bool, true, false, not, not-not, ◌&&◌, ◌||◌}
 use mathlib.Core.List.{List}
 use mathlib.Core.Option.{Option, none, some}
 use Prim.Native.Nat.{ℕ, ◌+◌, ◌≤◌, ◌<◌, min}
@@ -72,16 +72,16 @@ module _ (library user : List ℕ) (used : ℕ) (verdicts scratch : List ℕ) wh
   sheets_stop o = stop (first_some _ o)
 
   module _ (o : present_refusal library user used ≡ none) {own : ℕ} (eo : own ≡ class_count sheet)
-      {x : Bool} (e : x ≡ (ltb (flat_lines verdicts) own || ltb (length scratch) scratch_length)) where
-    short : refusal ≡ refuse_plain x 12
+      {x : Bool} (e : x ≡ not (ltb (flat_lines verdicts) own || ltb (length scratch) scratch_length)) where
+    short : refusal ≡ refuse_plain (not x) 12
     unfolding judge_refusal short_refusal flat_lines
-    short = first_past _ _ o ∙ rw (e, eo) refl
+    short = first_past _ _ o ∙ rw (e, eo, not-not (ltb (flat_lines verdicts) (class_count sheet) || ltb (length scratch) scratch_length)) refl
 
-    pub short_stop : x ≡ true → Judges flat library user used verdicts scratch (refused (record { number = 12; sheet = 0; byte = 0 })) verdicts scratch
+    pub short_stop : x ≡ false → Judges flat library user used verdicts scratch (refused (record { number = 12; sheet = 0; byte = 0 })) verdicts scratch
     unfolding refuse_plain refuse_if
-    short_stop t = stop (short ∙ ap (λ (y : Bool). refuse_plain y 12) t)
+    short_stop t = stop (short ∙ ap (λ (y : Bool). refuse_plain (not y) 12) t)
 
-    module _ (t : x ≡ false) where
+    module _ (t : x ≡ true) where
       long : T (not (ltb (flat_lines verdicts) own || ltb (length scratch) scratch_length))
       long = rw (sym e ∙ t) tt
 
@@ -94,7 +94,7 @@ module _ (library user : List ℕ) (used : ℕ) (verdicts scratch : List ℕ) wh
 
       fine : refusal ≡ none
       unfolding refuse_plain refuse_if
-      fine = short ∙ ap (λ (y : Bool). refuse_plain y 12) t
+      fine = short ∙ ap (λ (y : Bool). refuse_plain (not y) 12) t
 
       pub judged_all : (marks : List ℕ) → ((i : ℕ) → get_or marks i 0 ≡ 0) → {after cleaned : List ℕ} {m : ℕ}
           → after ≡ flat_rewritten (chosen (class_count library) (total library sheet) marks) (user_verdict library sheet) verdicts → cleaned ≡ cleared scratch

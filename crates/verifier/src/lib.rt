@@ -48,9 +48,7 @@ pub fn judge<'a>(
     let mut found = Found::new();
     let accepted = present(library, user, used, &mut found)?;
     let classes = accepted.formed.sheets.user_count();
-    if Room::of(verdicts, scratch).lacks(classes) {
-        return Err(Refusal::from(Reason::TooShort));
-    }
+    Reason::TooShort.unless(Room::of(verdicts, scratch).holds(classes))?;
     rejudge(&accepted, &[0; CLASS_LIMIT], verdicts, scratch);
     Ok(Counts {
         classes,
@@ -60,16 +58,18 @@ pub fn judge<'a>(
 
 // ---- operations that change the user sheet
 
-// Writes 0 at each class that an edit touches: an addition, which takes nothing out, touches its class alone; a replacement the classes that depend on it.
-fn touch(formed: &Formed, cut: Cut, class: usize, marks: &mut [u8])
-    requires { (class < count formed.now.sheets) × (marks.old ≡ replicate 256 255) }
-    ensures { Touched formed.now.sheets.library formed.now.sheets.user cut class marks.new }
+// 0 at each class that an edit touches: an addition, which takes nothing out, touches its class alone; a replacement the classes that depend on it.
+fn touched(formed: &Formed, cut: Cut, class: usize) -> [u8; CLASS_LIMIT]
+    requires { class < count formed.now.sheets }
+    ensures { Touched formed.now.sheets.library formed.now.sheets.user cut class result }
 {
+    let mut marks = [EMPTY; CLASS_LIMIT];
     if cut.from == cut.used {
         marks[class] = 0;
     } else {
-        dependents(formed, class, marks);
+        dependents(formed, class, &mut marks);
     }
+    marks
 }
 
 // The frame of an operation that puts a group in: nothing is written until it is admitted; then the sheet is, and the classes that this touches are
@@ -96,8 +96,7 @@ fn change<'a>(
     write(user, group, cut);
     *used = size;
     let accepted = Accepted::new(library, &user[..size], &found);
-    let mut marks = [EMPTY; CLASS_LIMIT];
-    touch(&accepted.formed, cut, class, &mut marks);
+    let marks = touched(&accepted.formed, cut, class);
     rejudge(&accepted, &marks, verdicts, scratch);
     Ok(marked(&marks, accepted.formed.sheets.count()))
 }
@@ -143,9 +142,7 @@ fn cut_of(library: &[u8], user: &[u8], used: usize, class: usize) -> Result<Cut,
     let sheets = &accepted.formed.sheets;
     let first = sheets.library_count();
     let end = sheets.count();
-    if class < first || end <= class {
-        return Err(Refusal::from(Reason::NoSuchClass));
-    }
+    Reason::NoSuchClass.unless(first <= class && class < end)?;
     Ok(Cut {
         from: sheets.start(class),
         to: sheets.end(class),

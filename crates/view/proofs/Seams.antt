@@ -4,7 +4,7 @@ use mathlib.Core.Path.{◌≡◌, refl, sym, ap, ap₂, ◌∙◌, subst}
 use mathlib.Core.Bool.{Bool, true, false}
 use mathlib.Core.List.{List, [], ◌∷◌, ◌++◌, map, append_assoc}
 use mathlib.Core.Logic.{◌⊎◌, inl, inr}
-use Prim.Native.Nat.{ℕ, zero, suc, ◌+◌, ◌-◌, ◌≤◌, ◌<◌, zero-le}
+use Prim.Native.Nat.{ℕ, ◌+◌, ◌-◌, ◌≤◌, ◌<◌}
 use native.Mathlib.Decide.{ℕ_discrete}
 use native.Mathlib.Omega.{arith}
 use lib.Dec.{ltb}
@@ -12,7 +12,6 @@ use lib.ListN.{length, take, drop, length-append, take-append-drop}
 use lib.Seq.{take-take, take-append_seam, drop-append_seam, drop-append-add}
 use borrow.Author.Tests.{ltb-true, ltb-false}
 use Rattle.spec.specs.Lists.{concat}
-use Rattle.spec.specs.Record.{u16}
 use Rattle.spec.specs.Sheet.{Group, records_in, records_of, whole_end, split_groups, groups_of, group_start}
 use Rattle.laws.proofs.All.{All, all_append, all_take}
 use Rattle.theory.proofs.Cut.{IsGroup, end_low, front_low, map_take, concat_append, concat_concat, groups_of_join, regroup, split_parts}

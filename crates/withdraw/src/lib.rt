@@ -39,12 +39,11 @@ fn last_named(sheets: &Sheets, last: usize) -> bool
     requires { last < count sheets.now }
     ensures { result ≡ any (λ c. elem last (group_references (groups sheets.now c))) (span 0 last) }
 {
-    for class in 0..last {
-        if class_names(&sheets.group(class), last) {
-            return true;
-        }
-    }
-    false
+    (0..last).any(
+        |class|
+            requires { class < count sheets.now }
+        { class_names(&sheets.group(class), last) },
+    )
 }
 
 // The last class of accepted sheets, if it may go and a row of so many lines has its own.
@@ -55,16 +54,10 @@ fn removable(library: &[u8], user: &[u8], used: usize, lines: usize) -> Result<L
     let accepted = present(library, user, used, &mut found)?;
     let sheets = &accepted.formed.sheets;
     let own = sheets.user_count();
-    if own == 0 {
-        return Err(Refusal::from(Reason::NoSuchClass));
-    }
+    Reason::NoSuchClass.unless(0 < own)?;
     let class = sheets.count() - 1;
-    if last_named(sheets, class) {
-        return Err(Refusal::from(Reason::Named));
-    }
-    if lines < own {
-        return Err(Refusal::from(Reason::TooShort));
-    }
+    Reason::Named.unless(!last_named(sheets, class))?;
+    Reason::TooShort.unless(own <= lines)?;
     Ok(Last {
         class,
         start: sheets.start(class),

@@ -1,6 +1,5 @@
-use Rattle.std.proofs.Common.{◌≡◌, ◌∙◌, length, drop, arith, sym}
+use Rattle.std.proofs.Common.{◌≡◌, ◌∙◌, ℕ, length, drop, replicate, arith}
 use Rattle.std.proofs.lemmas.List.{get_or_append_left, length-take, length-append}
-use Rattle.std.proofs.lemmas.Slice.{drop-append-drop}
 use Rattle.laws.proofs.Rows.{set_below}
 use Rattle.sheets.specs.Sheets.{groups}
 use Rattle.fingerprints.proofs.Telling.{name_print, print_at}
@@ -14,15 +13,11 @@ loop-c-preserved c =
     let g = groups c.args.sheets.now in
     set_below 0 (λ d v. v ≡ print_at g d) _ _ _ (omega arith) c.loop-c.invariant (name_print g _ c.group.ensures c.name.ensures c.print_of.ensures)
 
-pub returns-clause-first : goal.returns-clause-first
-returns-clause-first c =
-    let n = length-take c.count.result c.args.row.now in
+pub returns : goal.returns
+returns c =
+    let all : length c.loop-c.print-items ≡ c.count.result = omega (arith, length-take {A = ℕ} c.count.result (replicate 256 0), c.count.ensures.passed.few) in
     record {
-      long = omega (arith, n, length-append c.loop-c.print-items (drop c.count.result c.args.row.now));
-      prints = λ d h. get_or_append_left c.loop-c.print-items (drop c.count.result c.args.row.now) 0 d (omega (arith, n)) ∙ c.loop-c.invariant d (omega (arith, n));
+      long = omega (arith, all, length-append c.loop-c.print-items (drop c.count.result (replicate 256 0)));
+      prints = λ d h.
+          get_or_append_left c.loop-c.print-items (drop c.count.result (replicate 256 0)) 0 d (omega (arith, all)) ∙ c.loop-c.invariant d (omega (arith, all));
     }
-
-pub returns-clause-rest : goal.returns-clause-rest
-returns-clause-rest c =
-    rw (sym c.count.ensures.count)
-    (drop-append-drop c.count.result c.args.row.now c.loop-c.print-items c.count.result (omega arith) (omega (arith, length-take c.count.result c.args.row.now)))

@@ -12,29 +12,29 @@ use Rattle.overlay.proofs.+supertypes.Goals as goal
 use Rattle.overlay.proofs.+supertypes.Goals.{gathered-in-Some-superclass, gathered-in_default-superclass}
 
 pub gathered-bounds : goal.gathered-bounds
-gathered-bounds t c = omega (arith, c.requires.there, c.requires.knows.long, c.args.formed.now.passed.few)
+gathered-bounds t c = omega (arith, c.requires.there, c.requires.knows.long, c.args.falling.now.passed.few)
 
 pub gathered-gathered-requires : goal.gathered-gathered-requires
 gathered-gathered-requires t c =
-    let low = superclass_lower _ c.args.formed.now.formed _ c.requires.there c.group.ensures c.head-head.ensures c.in-Some-superclass.is in
+    let low = superclass_lower _ c.args.falling.now.falls _ c.requires.there c.group.ensures c.head-head.ensures c.in-Some-superclass.is in
     (omega (arith, low), (omega (arith, low, c.requires.there), knows_lower c.requires.knows low))
 
 pub gathered-returns-clause-markers : goal.gathered-returns-clause-markers
 gathered-returns-clause-markers t c =
-    let formed = c.args.formed.now.formed in
+    let falls = c.args.falling.now.falls in
     elim c.match-head.branch [
       | gathered-in-Some-superclass w ↦
-          raw_above _ formed _ c.requires.there c.group.ensures c.head-head.ensures w.in-Some-superclass.is
+          raw_above _ falls _ c.requires.there c.group.ensures c.head-head.ensures w.in-Some-superclass.is
           w.gathered.ensures.markers (w.mine-is ∙ w.union-mine.ensures) c.interfaces-markers.ensures.markers
       | gathered-in_default-superclass w ↦
-          raw_alone _ formed _ c.requires.there c.group.ensures c.head-head.ensures w.in_default-superclass.is w.mine-is c.interfaces-markers.ensures.markers
+          raw_alone _ falls _ c.requires.there c.group.ensures c.head-head.ensures w.in_default-superclass.is w.mine-is c.interfaces-markers.ensures.markers
     ]
 
 pub gathered-returns-clause-memo : goal.gathered-returns-clause-memo
 gathered-returns-clause-memo t c =
     let kept : c.match-head.memo ≡ c.args.memo.now = elim c.match-head.branch [
       | gathered-in-Some-superclass w ↦
-          let low = superclass_lower _ c.args.formed.now.formed _ c.requires.there c.group.ensures c.head-head.ensures w.in-Some-superclass.is in
+          let low = superclass_lower _ c.args.falling.now.falls _ c.requires.there c.group.ensures c.head-head.ensures w.in-Some-superclass.is in
           w.memo-is ∙ w.gathered.ensures.memo ∙ set_lower c.requires.knows low
       | gathered-in_default-superclass w ↦ w.memo-is
     ] in
@@ -44,7 +44,7 @@ pub interfaces-loop-record-init : goal.interfaces-loop-record-init
 unfolding with_interfaces
 interfaces-loop-record-init t c =
     let e = c.into_iter-record-iterator.ensures.into_iter_gives ∙ c.records-record-items.ensures.records ∙ c.group.ensures in
-    rw e (tt, tt, refl, interfaces_lower _ c.args.formed.now.formed _, refl)
+    rw e (tt, tt, refl, interfaces_lower _ c.args.falling.now.falls _, refl)
 
 pub interfaces-gathered-requires : goal.interfaces-gathered-requires
 interfaces-gathered-requires t c =

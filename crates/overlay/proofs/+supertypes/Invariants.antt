@@ -21,4 +21,4 @@ invariant-interfaces-loop-record l =
     × (goal.iterator-interfaces-loop-record).is_finite l.record-iterator
     × (l.memo ≡ l.fn.memo)
     × All (λ e. e < l.fn.c) (targets IMPLEMENTS l.record-iterator)
-    × (union l.markers (union_all (map (raw (groups l.fn.formed.sheets)) (targets IMPLEMENTS l.record-iterator))) ≡ with_interfaces (groups l.fn.formed.sheets) l.fn.c l.fn.mine)
+    × (union l.markers (union_all (map (raw (groups l.fn.falling.sheets.now)) (targets IMPLEMENTS l.record-iterator))) ≡ with_interfaces (groups l.fn.falling.sheets.now) l.fn.c l.fn.mine)

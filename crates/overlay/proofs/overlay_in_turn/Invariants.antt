@@ -6,4 +6,4 @@ use Rattle.overlay.proofs.overlay_in_turn.Given as goal
 
 abbrev pub invariant-loop-below : goal.invariant-loop-below
 invariant-loop-below l =
-    (l.below ≤ max (library_count l.fn.formed.sheets) l.fn.c) × (l.memo ≡ memo_of (groups l.fn.formed.sheets) (max (library_count l.fn.formed.sheets) l.below))
+    (l.below ≤ max (library_count l.fn.falling.sheets.now) l.fn.c) × (l.memo ≡ memo_of (groups l.fn.falling.sheets.now) (max (library_count l.fn.falling.sheets.now) l.below))

@@ -7,5 +7,5 @@ use Rattle.overlay.proofs.overlays.Given as goal
 
 abbrev pub invariant-loop-c : goal.invariant-loop-c
 invariant-loop-c l =
-    ((i : ℕ) → i < l.c → get_or l.there i 0 ≡ overlay (groups l.fn.formed.sheets) i)
-    × (l.memo ≡ memo_of (groups l.fn.formed.sheets) (max (library_count l.fn.formed.sheets) l.c))
+    ((i : ℕ) → i < l.c → get_or l.there i 0 ≡ overlay (groups l.fn.falling.sheets.now) i)
+    × (l.memo ≡ memo_of (groups l.fn.falling.sheets.now) (max (library_count l.fn.falling.sheets.now) l.c))

@@ -11,9 +11,10 @@ unfolding query_refusal
 returns-in_err-accepted c =
     let p = err_from_is_err_and c.from_residual.result c.from_residual.ensures.1 in rw (p.1, p.2) (first_some _ c.in_err-accepted.ensures)
 
-pub returns-then-count-class : goal.returns-then-count-class
+pub returns-in_err-unless : goal.returns-in_err-unless
 unfolding query_refusal unused_refusal refuse_plain refuse_if first_of
-returns-then-count-class c = search (rules, tests)
+returns-in_err-unless c =
+    let p = err_from_is_err_and c.from_residual-in_err-unless.result c.from_residual-in_err-unless.ensures.1 in rw (p.1, p.2) (search (rules, tests))
 
 pub returns : goal.returns
 unfolding query_refusal unused_refusal refuse_plain refuse_if first_of

@@ -1,3 +1,4 @@
+use Rattle.overlay.proofs.Recursion.{formed_falls}
 use Rattle.std.proofs.Common.{rules}
 use borrow.Author.Tests.{tests}
 use Rattle.std.proofs.lemmas.Result.{err_from_is_err_and}
@@ -12,3 +13,8 @@ returns-in_err-accepted c =
 pub returns : goal.returns
 unfolding answer_of
 returns c = record { answered = search (rules, tests) }
+
+pub invariant_of-falling : goal.invariant_of-falling
+invariant_of-falling c =
+    let formed = c.in_ok-accepted.accepted.formed in
+    record { passed = formed.passed; falls = formed_falls formed.sheets formed.formed }

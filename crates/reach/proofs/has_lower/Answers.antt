@@ -1,19 +1,14 @@
--- The lanes from the next one on tell of all.
-use mathlib.Core.Path.{refl}
-use Rattle.std.proofs.Common.{rules, tests}
-use Rattle.std.proofs.lemmas.List.{get_or_default}
-use Rattle.laws.proofs.Below.{below_hit, below_next, below_end}
-use Rattle.reach.proofs.Wanting.{offers_past, offers_in}
+use Rattle.std.proofs.Common.{refl, arith, rules, tests}
+use Rattle.std.proofs.lemmas.Iterator.{YieldsList-from_range}
+use Rattle.std.proofs.lemmas.Iterator.Search.{any_from_yields_List}
+use Rattle.reach.proofs.Wanting.{lower_byte, offers_past, offers_read}
 use Rattle.reach.proofs.has_lower.Goals as goal
 
-pub returns-then-extent-t : goal.returns-then-extent-t
-returns-then-extent-t c = offers_past _ _ _ _ _ c.if-extent-t.true
+pub returns-then-t-extent : goal.returns-then-t-extent
+returns-then-t-extent c =
+    offers_read _ _ _ _ _ c.requires.room c.requires.there c.if-t-extent.true
+    (any_from_yields_List (lower_byte c.args.row.now c.args.m c.args.t) _ _ _ c.any.ensures.ran (YieldsList-from_range 0 c.args.extent.lanes c.args.extent.lanes refl (omega arith))
+    (λ x b q k. search (rules, tests)))
 
-pub returns-then-row-k : goal.returns-then-row-k
-returns-then-row-k c = offers_in _ _ _ _ _ c.if-extent-t.false (below_hit c.loop-k.invariant c.loop-k-test.true (search (rules, tests, get_or_default)) refl)
-
-pub loop-k-preserved : goal.loop-k-preserved
-loop-k-preserved c = below_next c.loop-k.invariant c.loop-k-test.true (search (rules, tests, get_or_default)) refl
-
-pub returns : goal.returns
-returns c = offers_in _ _ _ _ _ c.if-extent-t.false (below_end c.loop-k.invariant c.loop-k-test.false)
+pub returns-else-t-extent : goal.returns-else-t-extent
+returns-else-t-extent c = offers_past _ _ _ _ _ c.if-t-extent.false

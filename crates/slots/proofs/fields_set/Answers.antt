@@ -1,10 +1,9 @@
 -- The set and what is left of the records tell of all.
-use mathlib.Core.Path.{◌∙◌}
 use Rattle.slots.proofs.Fields.{fielding_start, fielding_end, fielding_other, fielding_field}
 use Rattle.slots.proofs.fields_set.Goals as goal
 
 pub loop-record-init : goal.loop-record-init
-loop-record-init c = (tt, tt, fielding_start (c.into_iter-record-iterator.ensures.into_iter_gives ∙ c.records-record-items.ensures.records))
+loop-record-init c = (tt, tt, fielding_start c.into_iter-record-iterator.ensures.into_iter_gives)
 
 pub loop-record-preserved-in-Field : goal.loop-record-preserved-in-Field
 loop-record-preserved-in-Field c = (

@@ -6,4 +6,4 @@ abbrev pub invariant-loop-record : goal.invariant-loop-record
 invariant-loop-record l =
     (goal.iterator-loop-record).can_next l.record-iterator
     × (goal.iterator-loop-record).is_finite l.record-iterator
-    × Fielding l.fn.markers l.fn.group l.set l.record-iterator
+    × Fielding l.fn.markers l.fn.records l.set l.record-iterator

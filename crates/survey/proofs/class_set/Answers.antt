@@ -51,4 +51,4 @@ returns c =
     let j = c.args.judging.now in
     let at = goal.at.returns c in
     class_user _ j.formed.now.formed (concrete at.After-is_interface (head_is at.After-head_set-first) c.if-is_interface.false) j.known j.shown (first_is at.After-head_set-first)
-    c.group-group.ensures c.fields_set.ensures c.common-own.result c.common-own.ensures c.in-Some.is c.requires.passing c.common.ensures
+    c.group-group.ensures (rw c.records.ensures.records at c.fields_set.ensures) c.common-own.result c.common-own.ensures c.in-Some.is c.requires.passing c.common.ensures

@@ -1,20 +1,16 @@
 use Rattle.std.proofs.Common.{◌++◌, length, take, drop, set, arith, ap, ◌∙◌}
 use mathlib.Core.Path.{ap₂}
 use Rattle.std.proofs.lemmas.List.{length-take}
-use Rattle.spec.specs.Verdicts.{flat_lines}
-use Rattle.verdicts.proofs.Filling.{filled_none, filled_more, filled_front, shared_is}
+use Rattle.verdicts.proofs.Filling.{filled_none, filled_more, line_read, filled_front, shared_is}
 use Rattle.verdicts.proofs.write.Goals as goal
 
 pub loop-i-init : goal.loop-i-init
 loop-i-init c = filled_none c.args.flat.now _
 
-pub line-requires : goal.line-requires
-unfolding flat_lines
-line-requires c = omega (arith, length-take c.min-end.result c.args.row.now)
-
 pub loop-i-preserved : goal.loop-i-preserved
 loop-i-preserved c =
-    ap₂ (λ r v. set r c.loop-i.i v) c.loop-i.invariant c.line.ensures
+    let few = length-take c.min-end.result c.args.row.now in
+    ap₂ (λ r v. set r c.loop-i.i v) c.loop-i.invariant (line_read c.args.flat.now c.as_chunks.ensures.front c.loop-i.i (omega (arith, few, c.as_chunks.ensures.front_len)))
     ∙ filled_more c.args.flat.now (take c.min-end.result c.args.row.now) c.loop-i.i (omega arith)
 
 pub returns : goal.returns

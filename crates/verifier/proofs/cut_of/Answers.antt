@@ -5,16 +5,20 @@ use Rattle.std.proofs.lemmas.Result.{err_from_is_err_and}
 use Rattle.spec.specs.Lists.{first_of}
 use Rattle.spec.specs.Refusals.{refuse_if, refuse_plain, no_user_refusal}
 use Rattle.theory.proofs.Answers.{first_some}
+use Rattle.refusals.proofs.Unless.{held, failed}
 use Rattle.verifier.proofs.cut_of.Goals as goal
 
 pub returns-in_err-accepted : goal.returns-in_err-accepted
 returns-in_err-accepted c =
     let p = err_from_is_err_and c.from_residual.result c.from_residual.ensures.1 in rw (p.1, p.2) (first_some _ c.in_err-accepted.ensures)
 
-pub returns-then-class-first : goal.returns-then-class-first
+pub returns-in_err-unless : goal.returns-in_err-unless
 unfolding no_user_refusal refuse_plain refuse_if first_of
-returns-then-class-first c = search (rules, tests)
+returns-in_err-unless c =
+    let p = err_from_is_err_and c.from_residual-in_err-unless.result c.from_residual-in_err-unless.ensures.1 in
+    let f = failed _ _ c.in_err-unless.ensures in
+    rw (p.1, p.2, f.1) (search (rules, tests, f.0))
 
 pub returns : goal.returns
 unfolding no_user_refusal refuse_plain refuse_if first_of
-returns c = search (rules, tests)
+returns c = search (rules, tests, held _ _ c.in_ok-unless.ensures)

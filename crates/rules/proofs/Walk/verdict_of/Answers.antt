@@ -9,6 +9,7 @@ use Rattle.sheets.specs.Sheets.{groups, library_count}
 use Rattle.sheets.proofs.Indexes.{indexed}
 use Rattle.groups.proofs.Few.{group_few}
 use Rattle.breaks.specs.declared.rule.Rule.TheVariants.{Late}
+use Rattle.breaks.specs.Breaking.{asks_first}
 use Rattle.rules.specs.declared.Walk.{Walk}
 use Rattle.rules.specs.Walk.{rule_at}
 use Rattle.rules.proofs.Ground.{ground}
@@ -60,7 +61,8 @@ breaks-requires c =
       there = c.requires.there;
       asked_there = below w c.requires.user_class c.requires.there (Some c.in-Some.t) (rw c.in-Some.is at c.loop-next.invariant.spot);
       standing = record_here f s.0;
-      first = λ q. f.one (only_asks _ _ _ q);
+      third = λ e. f.one (only_asks _ _ _ (ap asks_first e));
+      sixth = λ e. f.one (only_asks _ _ _ (ap asks_first e));
     }
 
 pub place-record-requires : goal.place-record-requires

@@ -1,5 +1,4 @@
-use mathlib.Core.Path.{◌≡◌, sym, ap, ◌∙◌}
-use mathlib.Core.Bool.{true}
+use mathlib.Core.Path.{◌≡◌, sym, ◌∙◌}
 use mathlib.Core.List.{List}
 use Prim.Native.Nat.{ℕ}
 use Rattle.theory.proofs.Form.{group_one_class}
@@ -10,23 +9,22 @@ use Rattle.records.specs.Kinds.{Reads}
 use Rattle.records.proofs.Bodies.{reads_kind, not_class}
 use Rattle.sheets.specs.Sheets.{Pair}
 use Rattle.breaks.specs.declared.breaking.Step.{Step}
-use Rattle.breaks.specs.Breaking.{asks_first}
 use Rattle.breaks.specs.Steps.{AtStep}
 use Rattle.breaks.proofs.Places.{refers_there, first_class}
 use Rattle.breaks.proofs.judging.Judging.breaks.Goals as goal
 
--- what a rule that asks the first record alone is asked of is a CLASS record
-is_head : (p : Pair) {step : Step} {r : List ℕ} → AtStep p step r → asks_first step.rule ≡ true → (b : Body) → Reads r b → ((h : Head) → b ≡ Class h → ⊥) → ⊥
-is_head p {step} {r} s f b q n =
-    not_class b n (sym (reads_kind r b q) ∙ first_class (group_one_class p.library p.user step.asked s.asked_there) s.standing (s.first f))
+-- the first record is a CLASS record
+is_head : (p : Pair) {step : Step} {r : List ℕ} → AtStep p step r → step.number ≡ 0 → (b : Body) → Reads r b → ((h : Head) → b ≡ Class h → ⊥) → ⊥
+is_head p {step} {r} s z b q n =
+    not_class b n (sym (reads_kind r b q) ∙ first_class (group_one_class p.library p.user step.asked s.asked_there) s.standing z)
 
 pub refers_forbidden-requires-clause-refers : goal.refers_forbidden-requires-clause-refers
 refers_forbidden-requires-clause-refers c = refers_there c.args.self.now.formed.now.sheets c.args.self.now.formed.now.formed _ c.requires.standing
 
 pub returns-in_default : goal.returns-in_default
 returns-in_default c =
-    absurd (is_head c.args.self.now.formed.now.sheets c.requires (ap asks_first c.in-Reserved.is) c.body.result c.body.ensures c.in_default.not-Class)
+    absurd (is_head c.args.self.now.formed.now.sheets c.requires (c.requires.third c.in-Reserved.is) c.body.result c.body.ensures c.in_default.not-Class)
 
 pub returns-in_default-body : goal.returns-in_default-body
 returns-in_default-body c =
-    absurd (is_head c.args.self.now.formed.now.sheets c.requires (ap asks_first c.in-LetsOut.is) c.body-in-LetsOut.result c.body-in-LetsOut.ensures c.in_default-body.not-Class)
+    absurd (is_head c.args.self.now.formed.now.sheets c.requires (c.requires.sixth c.in-LetsOut.is) c.body-in-LetsOut.result c.body-in-LetsOut.ensures c.in_default-body.not-Class)

@@ -1,0 +1,15 @@
+-- What is known of a condition once its reason did not refuse, or did.
+-- Assumes nothing.
+use Rattle.std.specs.Prelude.{◌≡◌, Bool, true, false, Ok, Err}
+use Rattle.std.proofs.Common.{refl, sym}
+use Rattle.std.proofs.lemmas.Result.{IfOk-at_ok, IfErr-at_err}
+use Rattle.refusals.specs.declared.Reason.{Reason}
+use Rattle.refusals.specs.Refusals.{unless}
+
+pub held : (r : Reason) (b : Bool) {u : Unit {0}} → Ok u ≡ unless r b → b ≡ true
+held r true e = refl
+held r false e = absurd (IfOk-at_ok (λ _. ⊥) (sym e) tt)
+
+pub failed : (r : Reason) (b : Bool) {x : Reason} → Err x ≡ unless r b → (b ≡ false) × (x ≡ r)
+failed r true e = absurd (IfErr-at_err (λ _. ⊥) (sym e) tt)
+failed r false e = (refl, IfErr-at_err (λ y. y ≡ r) (sym e) refl)
