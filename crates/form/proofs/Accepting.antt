@@ -98,11 +98,10 @@ module _ {library user : List ℕ} {p : Pair} (e : p ≡ record { library = libr
 
 -- what was found of p is found of the two sheets that it stands for
 pub found_in : {p q : Pair} {found : Found} → p ≡ q → Indexed q.library q.user found.index.classes.library found.index.classes.all found.index.starts
-    → form_refusal p.library p.user ≡ none → deemed_refusal p.library p.user ≡ none → found.memo ≡ memo_of (groups p) (library_count p) → FoundIn q found
-found_in {found = found} e x f d k = record {
+    → form_refusal p.library p.user ≡ none → found.memo ≡ memo_of (groups p) (library_count p) → FoundIn q found
+found_in {found = found} e x f k = record {
   indexed = x;
   formed = subst (λ (q : Pair). form_refusal q.library q.user ≡ none) e f;
-  deemed = subst (λ (q : Pair). deemed_refusal q.library q.user ≡ none) e d;
   known = subst (λ (q : Pair). found.memo ≡ memo_of (groups q) (library_count q)) e k;
 }
 

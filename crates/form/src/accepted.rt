@@ -10,8 +10,8 @@ use view::Draft;
 /// What acceptance finds of two sheets, in the caller's memory: where the classes begin, and the markers of the library's classes.
 #[derive(Clone, Copy)]
 pub struct Found {
-    pub(crate) index: Index,
-    pub(crate) memo: [Option<u8>; CLASS_LIMIT],
+    pub index: Index,
+    pub memo: [Option<u8>; CLASS_LIMIT],
 }
 
 impl Found {
@@ -37,7 +37,7 @@ impl Found {
     }
 }
 
-/// Two sheets that nothing refuses, with what was found of them.
+/// Two sheets that passed both passes, with what was found of them.
 #[derive(Drop)]
 pub struct Accepted<'a> {
     pub formed: Formed<'a>,

@@ -29,4 +29,4 @@ returns c =
     let f = c.in_ok-both_passes.ensures in
     let g = c.in_ok-second_pass.ensures.0 in
     let d = c.in_ok-deemed.ensures.answer in
-    record { answer = (all_fine e f.0 g d.0, found_in e f.1 g d.0 d.1); memo = asked_of _ e c.in_ok-deemed.ensures.memo }
+    record { answer = (all_fine e f.0 g d.0, found_in e f.1 g d.1); memo = asked_of _ e c.in_ok-deemed.ensures.memo }
