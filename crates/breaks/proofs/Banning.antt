@@ -1,29 +1,20 @@
 -- What is not allowed of library classes: the row, and what an entry says.
 -- Assumes nothing.
 use mathlib.Core.Path.{◌≡◌, refl, ap, ◌∙◌}
-use mathlib.Core.Bool.{Bool, true, false, not, ◌&&◌, ◌||◌}
-use mathlib.Core.List.{List, [], ◌∷◌, ◌++◌}
+use mathlib.Core.Bool.{Bool, true, false, not, ◌&&◌}
+use mathlib.Core.List.{List, ◌++◌}
 use Prim.Native.Nat.{ℕ, ◌+◌, ◌-◌, ◌≤◌, ◌<◌}
 use native.Mathlib.Omega.{arith}
 use lib.Dec.{ltb}
 use lib.ListN.{length, get_or, drop, replicate, length-append, length-drop, get_or-append}
 use borrow.Author.Tests.{ltb-true, ltb-false}
 use Rattle.std.proofs.lemmas.List.{get_or-append_right, get_or-drop}
-use Rattle.std.specs.List.{list_any}
-use Rattle.spec.specs.Lists.{any}
 use Rattle.spec.specs.Record.{bit, flags}
 use Rattle.spec.specs.Sheet.{Group, class_record, is_allowed}
 use Rattle.spec.specs.Rules.{forbidden}
 use Rattle.lanes.proofs.Rows.{same_all}
 use Rattle.breaks.specs.declared.bans.Ban.{Ban}
 use Rattle.breaks.specs.Bans.{ban_of, nothing, Bans}
-
--- ---- one class
-
-pub any_is : (p : List ℕ → Bool) (h : Group) → list_any p h ≡ any p h
-unfolding any
-any_is p [] = refl
-any_is p (r ∷ h) = ap (λ (b : Bool). p r || b) (any_is p h)
 
 -- ---- the row of them
 

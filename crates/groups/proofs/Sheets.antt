@@ -24,6 +24,7 @@ use Rattle.theory.proofs.Unrefused.{present_facts}
 use Rattle.theory.proofs.Running.{group_next, running_next, begins, group_last, rest_all, rest_bytes, rest_records, rest_loose}
 use Rattle.records.specs.Records.{between, nth_byte, AtRecord}
 use Rattle.records.proofs.Nth.{nth_found, nth_passed, nth_other}
+use Rattle.records.proofs.Lined.{all_between}
 use Rattle.groups.proofs.Held.{first_within, record_lengths, group_placed, class_fits}
 use Rattle.groups.specs.Sheets.{UserSheet, AtGroup}
 
@@ -69,20 +70,16 @@ class_groups (r ∷ rs) = go (is_class r) refl (class_groups rs)
 all_bytes : (s : List ℕ) → take (length s - 0) (drop 0 s) ≡ s
 all_bytes s = ap (λ (k : ℕ). take k s) (sub-zero (length s)) ∙ take-length s
 
-all_records : (s : List ℕ) → between s 0 (length s) ≡ records_of s
-unfolding between
-all_records s = ap records_of (all_bytes s)
-
 whole_place : (s : List ℕ) → whole_end s ≡ length s → length s ≤ 32768 → All (λ r. T (length_fits r)) (records_of s) → AtRecord s (length s) 0
 whole_place s e l a = record {
   tiled = record { ordered = omega arith; within = omega arith; whole = ap whole_end (all_bytes s) ∙ e ∙ sym (sub-zero (length s)) };
   small = l;
-  sizes = subst (All (λ r. T (length_fits r))) (sym (all_records s)) a;
+  sizes = subst (All (λ r. T (length_fits r))) (sym (all_between s)) a;
 }
 
 pub group_length : {rest : List ℕ} → AtGroup rest → {r : ℕ} → r ≡ nth_byte CLASS 1 0 (between rest 0 (length rest)) → r ≡ first_length rest
 unfolding first_length groups_of
-group_length {rest} w e = e ∙ ap (nth_byte CLASS 1 0) (all_records rest) ∙ second_class (records_of rest) w.loose
+group_length {rest} w e = e ∙ ap (nth_byte CLASS 1 0) (all_between rest) ∙ second_class (records_of rest) w.loose
 
 -- ---- accepted sheets
 
@@ -95,7 +92,7 @@ module _ (library sheet : List ℕ) (e : present_refusal library sheet (length s
 
   pub library_count : {nlib : ℕ} → nlib ≡ length (of_kind CLASS (between library 0 (length library))) → nlib ≡ class_count library
   unfolding class_count groups_of
-  library_count q = q ∙ ap (λ (rs : Group). length (of_kind CLASS rs)) (all_records library) ∙ class_groups (records_of library)
+  library_count q = q ∙ ap (λ (rs : Group). length (of_kind CLASS rs)) (all_between library) ∙ class_groups (records_of library)
 
   pub user_sheet_lem : {nlib : ℕ} → nlib ≡ class_count library → UserSheet nlib sheet
   unfolding total

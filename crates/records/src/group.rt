@@ -36,6 +36,14 @@ impl<'a> Records<'a> {
     {
         Records { rest: bytes }
     }
+
+    // How many of them are of a kind.
+    pub(crate) fn of_kind(self, kind: Kind) -> usize
+        requires { length self < 2 ^ 63 }
+        ensures { result ≡ length (of_kind (kind_number kind) self.entry) }
+    {
+        self.filter(|record| record.is(kind)).count()
+    }
 }
 
 impl<'a> Iterator for Records<'a> {
@@ -112,7 +120,7 @@ impl<'a> Group<'a> {
     pub fn count(&self, kind: Kind) -> usize
         ensures { result ≡ length (of_kind (kind_number kind) self.now) }
     {
-        self.records().filter(|record| record.is(kind)).count()
+        self.records().of_kind(kind)
     }
 
     /// Whether some record is of a kind.

@@ -107,7 +107,7 @@ pub fn count_in(bytes: &[u8], kind: Kind) -> usize
     requires { AtRecord bytes.now (length bytes.now) 0 }
     ensures { result ≡ length (of_kind (kind_number kind) (between bytes.now 0 (length bytes.now))) }
 {
-    Records::new(bytes).filter(|record| record.is(kind)).count()
+    Records::new(bytes).of_kind(kind)
 }
 
 // Where record number i of a kind begins in some bytes; their end if there is none.

@@ -1,9 +1,6 @@
-use Rattle.std.proofs.Common.{sym, ap, ◌∙◌, length, rules, tests}
-use Rattle.std.proofs.lemmas.Iterator.Consumers.{YieldsList-at, YieldsList-from_first, YieldsList-from_filter, count_from_yields_List}
-use Rattle.spec.specs.Record.{is_kind}
+use Rattle.std.proofs.Common.{◌∙◌, sym, ap, length}
 use Rattle.spec.specs.Sheet.{of_kind}
 use Rattle.records.specs.Kinds.{kind_number}
-use Rattle.records.proofs.Chains.{keep_is}
 use Rattle.records.proofs.Lined.{all_between, all_lined}
 use Rattle.records.proofs.count_in.Goals as goal
 
@@ -11,10 +8,4 @@ pub new-requires : goal.new-requires
 new-requires c = all_lined c.requires
 
 pub returns : goal.returns
-unfolding of_kind
-returns c =
-    count_from_yields_List c.filter.result _ c.count.ensures.ran
-    (YieldsList-from_filter _ (is_kind (kind_number c.args.kind))
-    (YieldsList-at c.filter.ensures.source (YieldsList-from_first (λ r. r) (λ rs. rs) _ (c.new.ensures.records ∙ sym (all_between c.args.bytes.now))))
-    c.filter.ensures.closure (λ x r q k. search (rules, tests)))
-    ∙ ap length (keep_is _ _)
+returns c = c.of_kind.ensures ∙ ap (λ rs. length (of_kind (kind_number c.args.kind) rs)) (c.new.ensures.records ∙ sym (all_between c.args.bytes.now))

@@ -7,7 +7,7 @@ use borrow.Author.Tests.{tests}
 use Rattle.spec.specs.Record.{bit}
 use Rattle.records.specs.declared.record.Head.{Head}
 use Rattle.breaks.specs.Bans.{closed_member}
-use Rattle.breaks.proofs.Banning.{any_is}
+use Rattle.records.proofs.Chains.{any_is}
 use Rattle.breaks.proofs.bans.Ban.of.Goals as goal
 
 pub returns : goal.returns
