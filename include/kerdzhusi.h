@@ -2,9 +2,17 @@
  * Kerdzhusi: a verifier of class sheets, as a static library for C99 and C++.
  *
  * A library sheet and a user sheet are checked against each other, and each user class gets a
- * verdict: the number of the lowest rule that it breaks (1 to 10), and the number of the lowest
- * record of its own group that breaks it. A clean class has 0 and 0. Classes are numbered from 0
- * through the library sheet and on through the user sheet, at most 256 in all.
+ * verdict of three numbers: the lowest rule that it breaks (1 to 10), the number of a record, and
+ * the class in whose group that record stands: there the fault sits. A clean class has 0, 0 and 0.
+ * Classes are numbered from 0 through the library sheet and on through the user sheet, at most 256
+ * in all; records from 0 in each group, the CLASS first.
+ *
+ *   rules 1 to 6    the lowest record of the class that breaks the rule, and the class itself
+ *   rules 7 to 10   the first fault of a walk: the class, then its superclasses in the user sheet
+ *                   upward; in each its encloser (record 0), its fields in order, the variables
+ *                   that it captures by owner and index (the LOCAL, and its owner); then the root,
+ *                   the first library class above them (record 0); last, for rule 9, that objects
+ *                   of the class itself are not compared by value (record 0)
  *
  *
  * Arguments
@@ -16,7 +24,9 @@
  *   group, group_len        one class: a CLASS record and the records that belong to it, by kind:
  *                           CLASS, IMPLEMENTS, FIELD and so on, as in a sheet
  *   verdicts, verdicts_len  the verdicts, KZ_VERDICT_BYTES for each user class in class order:
- *                           rule, then record number. An odd last byte belongs to no verdict
+ *                           rule, record number, class in which the fault sits, as in an array of
+ *                           struct { uint8_t rule, record, class_number; }. One or two bytes that
+ *                           are left at the end belong to no verdict
  *   scratch, scratch_len    KZ_SCRATCH_BYTES to work in, of any content; more is allowed
  *   out, out_len            a buffer that the call writes from its start on
  *
@@ -84,8 +94,8 @@
 extern "C" {
 #endif
 
-/* The bytes of a verdict: rule, then record number. */
-#define KZ_VERDICT_BYTES 2
+/* The bytes of a verdict: rule, record number, class in which the fault sits. */
+#define KZ_VERDICT_BYTES 3
 /* The bytes of scratch that kz_judge, kz_add and kz_replace ask for. */
 #define KZ_SCRATCH_BYTES 65536
 /* The most bytes of a sheet. */
@@ -150,7 +160,7 @@ kz_answer kz_replace(const uint8_t *library, size_t library_len,
  * value     the class's number
  * user      the class's bytes are zero; all others are untouched
  * used      where the class began
- * verdicts  the class's is 0 and 0; all others are untouched
+ * verdicts  the class's is 0, 0 and 0; all others are untouched
  */
 kz_answer kz_withdraw(const uint8_t *library, size_t library_len,
                       uint8_t *user, size_t user_len, size_t *used,

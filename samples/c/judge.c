@@ -1,7 +1,7 @@
 /*
  * Judges the two sheets of a folder and prints a row for each user class: number, name, rule,
- * record. Then it mends the first class that has a bad field, and prints the rows again; at last it
- * takes the last class back out.
+ * record, class in which the fault sits. Then it mends the first field that is a fault, in whatever
+ * class it stands, and prints the rows again; at last it takes the last class back out.
  * Build and run at the repository's root:
  *
  *     cc -Iinclude samples/c/judge.c crates/kerdzhusi/out/libkerdzhusi.a -o target/judge
@@ -65,8 +65,8 @@ static void print_row(size_t class_number, const uint8_t *verdict) {
     uint64_t name = accepted("name", kz_name(library, library_len, user, sizeof user, used,
                                              class_number));
     const uint8_t *sheet = kz_name_sheet(name) == 0 ? library : user;
-    printf("%zu %.*s %d %d\n", class_number, (int)kz_name_length(name),
-           (const char *)sheet + kz_name_offset(name), verdict[0], verdict[1]);
+    printf("%zu %.*s %d %d %d\n", class_number, (int)kz_name_length(name),
+           (const char *)sheet + kz_name_offset(name), verdict[0], verdict[1], verdict[2]);
 }
 
 static void print_rows(size_t first, size_t classes) {
@@ -74,7 +74,7 @@ static void print_rows(size_t first, size_t classes) {
         print_row(first + line, verdicts + KZ_VERDICT_BYTES * line);
 }
 
-/* Copies the nth group, the record of its verdict made a final int; 0 if that is no field. */
+/* Copies the nth group, one of its records made a final int; 0 if that is no field. */
 static size_t mended_group(size_t nth, size_t record) {
     size_t start = group_start(user, used, nth);
     size_t length = group_start(user, used, nth + 1) - start, at = 0;
@@ -109,13 +109,14 @@ int main(int count, char **words) {
     print_rows(first, classes);
     for (size_t line = 0; line < classes; line++) {
         const uint8_t *verdict = verdicts + KZ_VERDICT_BYTES * line;
-        size_t length = verdict[0] != 0 ? mended_group(line, verdict[1]) : 0;
+        size_t faulty = verdict[2];
+        /* A clean class has 0 here, and a root is a library class. */
+        size_t length = faulty >= first ? mended_group(faulty - first, verdict[1]) : 0;
         if (length == 0) continue;
         uint64_t dependents = accepted(
-            "replace", kz_replace(library, library_len, user, sizeof user, &used, first + line,
-                                  group, length, verdicts, sizeof verdicts, scratch,
-                                  sizeof scratch));
-        printf("replaced %zu dependents %u\n", first + line, (unsigned)dependents);
+            "replace", kz_replace(library, library_len, user, sizeof user, &used, faulty, group,
+                                  length, verdicts, sizeof verdicts, scratch, sizeof scratch));
+        printf("replaced %zu dependents %u\n", faulty, (unsigned)dependents);
         print_rows(first, classes);
         break;
     }

@@ -12,7 +12,7 @@ use Rattle.std.proofs.lemmas.List.{get_or-append_right, get_or-drop}
 use Rattle.spec.specs.Record.{bit, flags}
 use Rattle.spec.specs.Sheet.{Group, class_record, is_allowed}
 use Rattle.spec.specs.Rules.{forbidden}
-use Rattle.lanes.proofs.Rows.{same_all}
+use Rattle.laws.proofs.Rows.{same_all}
 use Rattle.breaks.specs.declared.bans.Ban.{Ban}
 use Rattle.breaks.specs.Bans.{ban_of, nothing, Bans}
 

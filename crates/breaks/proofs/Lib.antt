@@ -1,6 +1,8 @@
+pub mod LateRules
 pub mod Banning
 pub mod Statics
 pub mod Members
 pub mod Places
 pub mod Heads
-pub mod Lines
+pub mod Locals
+pub mod Sites

@@ -14,19 +14,16 @@ use Rattle.spec.specs.Sheet.{Group, class_record}
 use Rattle.spec.specs.Refusals.{one_class, form_refusal}
 use Rattle.spec.specs.Relations.{At, here, next}
 use Rattle.laws.proofs.Bools.{and_l, and_r, eq→eqb}
-use Rattle.laws.proofs.All.{All, not_any}
+use Rattle.laws.proofs.All.{All, not_any, at_member}
+use Rattle.laws.proofs.Members.{at_in}
 use Rattle.theory.proofs.Accept.{RecordFits, form_fits}
 use Rattle.theory.proofs.References.{references_refers}
 use Rattle.sheets.specs.Sheets.{Pair, count, groups, library_count}
 use Rattle.slots.specs.declared.Late.{Late as LateRule}
-use Rattle.slots.specs.Slots.{field_breaks}
+use Rattle.slots.specs.Slots.{head_breaks, field_breaks}
 use Rattle.breaks.specs.declared.rule.Rule.TheVariants.{Late}
 use Rattle.breaks.specs.Bans.{Refers}
-use Rattle.breaks.specs.Breaking.{head_breaks, breaks_at}
-
-all_here : {A : Type 0} (P : A → Type 0) {xs : List A} {k : ℕ} {x : A} → All P xs → At xs k x → P x
-all_here P h here = h.0
-all_here P h (next a) = all_here P h.1 a
+use Rattle.breaks.specs.Breaking.{breaks_at}
 
 -- ---- the first record
 
@@ -45,7 +42,7 @@ pub class_first : {h : Group} {k : ℕ} {r : List ℕ} → T (one_class h) → A
 unfolding one_class
 class_first o here e = refl
 class_first {r = r} o (next {y} {xs} a) e =
-    absurd (later (is_class r) (all_here (λ s. T (not (is_class s))) (not_any is_class xs (and_r (is_class y) (not (any is_class xs)) o)) a) (eq→eqb e))
+    absurd (later (is_class r) (at_member (λ s. T (not (is_class s))) xs (not_any is_class xs (and_r (is_class y) (not (any is_class xs)) o)) (at_in a)) (eq→eqb e))
   where
     later : (b : Bool) → T (not b) → T b → ⊥
     later true n t = n
@@ -55,7 +52,7 @@ class_first {r = r} o (next {y} {xs} a) e =
 
 pub refers_there : (p : Pair) → form_refusal p.library p.user ≡ none → (t : ℕ) {k : ℕ} {r : List ℕ} → At (groups p t) k r → Refers (count p) (groups p) r
 refers_there p e t {r = r} a =
-    let f : RecordFits (library_count p) (count p) (groups p) t r = all_here (RecordFits (library_count p) (count p) (groups p) t) (form_fits p.library p.user e t) a in
+    let f : RecordFits (library_count p) (count p) (groups p) t r = at_member (RecordFits (library_count p) (count p) (groups p) t) (groups p t) (form_fits p.library p.user e t) (at_in a) in
     record {
       class = λ u. (subst (All (λ d. d < count p)) (references_refers r u) f.there).0;
       member = f.member;
@@ -63,9 +60,9 @@ refers_there p e t {r = r} a =
 
 -- ---- rules 7 to 10
 
-module _ (nlib : ℕ) (g : ℕ → Group) (rule : LateRule) (c t : ℕ) {k : ℕ} (r : List ℕ) {b : Bool} where
-  pub rule_head : k ≡ 0 → b ≡ head_breaks nlib g rule c t → b ≡ breaks_at nlib g (Late rule) c t k r
+module _ (nlib : ℕ) (g : ℕ → Group) (rule : LateRule) (t : ℕ) {k : ℕ} (r : List ℕ) {b : Bool} where
+  pub rule_head : k ≡ 0 → b ≡ head_breaks nlib g rule t → b ≡ breaks_at nlib g (Late rule) t k r
   rule_head z e = rw (eq-eqb k 0 z, breaks_at) e
 
-  pub rule_field : (k ≡ 0 → ⊥) → b ≡ field_breaks g rule t k r → b ≡ breaks_at nlib g (Late rule) c t k r
+  pub rule_field : (k ≡ 0 → ⊥) → b ≡ field_breaks g rule t k r → b ≡ breaks_at nlib g (Late rule) t k r
   rule_field n e = rw (ne_eqb k 0 n, breaks_at) e

@@ -1,3 +1,4 @@
 pub mod Bans
 pub mod Breaking
+pub mod Beyond
 pub mod Steps

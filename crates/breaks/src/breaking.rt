@@ -1,9 +1,10 @@
-// All ten rules, of one record in the judging of one class.
-ghost use Rattle.std.specs.Prelude.{◌≡◌, ◌≤◌, ◌<◌};
+// All ten rules, of one record of a class that is asked.
+ghost use Rattle.std.specs.Prelude.{◌≡◌, ◌<◌};
 ghost use Rattle.spec.specs.Sheet.{class_record};
 ghost use Rattle.records.specs.Kinds.{head_of};
 ghost use Rattle.sheets.specs.Sheets.{count, groups, library_count};
-ghost use Rattle.breaks.specs.Breaking.{breaks_at, head_breaks};
+ghost use Rattle.slots.specs.Slots.{head_breaks};
+ghost use Rattle.breaks.specs.Breaking.{breaks_at};
 ghost use Rattle.breaks.specs.Steps.{AtStep};
 
 use crate::early::{lets_out, names_forbidden, refers_forbidden, reserved, static_breaks};
@@ -12,44 +13,35 @@ use crate::rule::Rule;
 use markers::{clash, has};
 use overlay::known;
 use records::record::{Body, Head, Record};
-use slots::{Late, base_breaks, field_set, head_set};
+use slots::{Late, field_set, head_set};
 
-/// Where the walk over rules, classes and records stands: the rule, the class that is judged, the class that is asked, and the number of its record.
+/// Where the walk over rules, classes and records stands: the rule, the class that is asked, and the number of its record.
 #[derive(Clone, Copy)]
 pub struct Step {
     pub rule: Rule,
-    pub class: usize,
     pub asked: usize,
     pub number: usize,
 }
 
 impl<'a> Judging<'a> {
-    // Rules 7 to 10, of record 0 of class t in the judging of class c.
-    fn head_breaks(&self, rule: Late, c: usize, t: usize, head: &Head) -> bool
-        requires user_class { library_count self.now.formed.now.sheets ≤ c }
+    // Rules 7 to 10, of record 0 of class t.
+    fn head_breaks(&self, rule: Late, t: usize, head: &Head) -> bool
         requires there { t < count self.now.formed.now.sheets }
         requires head { head.now ≡ head_of (class_record (groups self.now.formed.now.sheets t)) }
-        ensures { result ≡ head_breaks (library_count self.now.formed.now.sheets) (groups self.now.formed.now.sheets) rule c t }
+        ensures { result ≡ head_breaks (library_count self.now.formed.now.sheets) (groups self.now.formed.now.sheets) rule t }
     {
         let nlib = self.formed.sheets.library_count();
-        let set = head_set(head, &self.markers, self.lanes, nlib, t);
-        if !has(set, rule.set()) {
-            return true;
-        }
-        match rule {
-            Late::Selfless => t == c && base_breaks(head, &self.markers),
-            _ => false,
-        }
+        !has(head_set(head, &self.markers, nlib, t), rule.set())
     }
 
     // Rules 7 to 10, of any record.
     fn late_breaks(&self, rule: Late, step: Step, record: &Record) -> bool
         requires { AtStep self.now.formed.now.sheets step record.now }
         ensures { result ≡ breaks_at (library_count self.now.formed.now.sheets) (groups self.now.formed.now.sheets)
-            (Rule.Late rule) step.class step.asked step.number record.now }
+            (Rule.Late rule) step.asked step.number record.now }
     {
         match record.body() {
-            Body::Class(head) => self.head_breaks(rule, step.class, step.asked, &head),
+            Body::Class(head) => self.head_breaks(rule, step.asked, &head),
             Body::Field { flags, ty } => !has(field_set(flags, ty, &self.markers), rule.set()),
             _ => false,
         }
@@ -59,7 +51,7 @@ impl<'a> Judging<'a> {
     pub fn breaks(&self, step: Step, record: &Record) -> bool
         requires { AtStep self.now.formed.now.sheets step record.now }
         ensures { result ≡ breaks_at (library_count self.now.formed.now.sheets) (groups self.now.formed.now.sheets)
-            step.rule step.class step.asked step.number record.now }
+            step.rule step.asked step.number record.now }
     {
         match step.rule {
             Rule::Classes => names_forbidden(record, &self.bans),

@@ -2,6 +2,7 @@
 #![tactic(auto)]
 
 pub mod bans;
+pub mod beyond;
 pub mod breaking;
 pub mod early;
 pub mod judging;

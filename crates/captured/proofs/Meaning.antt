@@ -1,85 +1,62 @@
--- The search along BUILDS, from the owners that each class itself wants: it shows the classes that capture a variable whose type lacks a marker.
+-- The search along BUILDS, from the lowest entries that each class itself wants: it finds the first variable that a class captures and whose type lacks a marker.
 -- Assumes nothing.
-use mathlib.Core.Path.{◌≡◌, refl, sym, ap, ◌∙◌, subst}
+use mathlib.Core.Path.{◌≡◌, refl, sym, ap, ap₂, ◌∙◌, subst}
 use mathlib.Core.Bool.{Bool, true, false, not, ◌&&◌}
 use mathlib.Core.List.Memᴰ
-use mathlib.Core.List.{List, [], ◌∷◌, ◌++◌, map, Memᴰ}
+use mathlib.Core.List.{List, [], ◌∷◌, map, Memᴰ}
 use mathlib.Core.Logic.{inl, inr, ⊎_elim, ◌≢◌, ◌↔◌}
-use mathlib.Core.Option.{none}
-use Prim.Native.Nat.{ℕ, suc, ◌+◌, ◌-◌, ◌*◌, ◌≤◌, ◌<◌}
+use mathlib.Core.Option as option
+use Prim.Native.Nat.{ℕ, ◌+◌, ◌*◌, ◌/◌, ◌%◌, ◌≤◌, ◌<◌}
+use native.Mathlib.Decide.{ℕ_discrete}
 use native.Mathlib.Omega.{arith}
-use lib.Dec.{T, eqb, leb, ltb, eqb→eq, leb→le, ltb→lt, lt→ltb}
-use lib.ListN.{length, get_or, take, drop, get_or-map, get_or-append, length-append, length-drop, replicate}
-use lib.Seq.{drop-cons}
-use Rattle.std.proofs.lemmas.List.{get_or-replicate, get_or-append_right, get_or-drop}
+use lib.Dec.{T, eqb, leb, ltb, eqb→eq, leb→le}
+use lib.ListN.{length, get_or, replicate}
+use Rattle.std.proofs.lemmas.List.{get_or-replicate}
 use Rattle.spec.specs.Lists.{keep, numbered}
-use Rattle.spec.specs.Record.{bit, none16, is_kind, CLASS, LOCAL, BUILDS, flags, encloser, target, index, local_ty}
+use Rattle.spec.specs.Record.{bit, none16, is_kind, CLASS, LOCAL, BUILDS, flags, encloser, target, index}
 use Rattle.spec.specs.Sheet.{Group, class_record, of_kind}
-use Rattle.spec.specs.Classes.{Slot, variable_slot, locals, local_at, satisfies, captured, captured_slots}
-use Rattle.spec.specs.Relations.{Encloser, Builds, Uses, Chain, start, step, Captures}
+use Rattle.spec.specs.Classes.{Slot, locals, satisfies, captured, captured_slots}
+use Rattle.spec.specs.Relations.{Before, lower, same, Encloser, Builds, Uses, Chain, start, step, Captures}
 use Rattle.spec.specs.Relations as relations
 use Rattle.spec.specs.Refusals.{form_refusal, encloser_fits}
-use Rattle.laws.proofs.Bools.{t_same, true_t, false_t, t_false, and_l, and_r}
-use Rattle.laws.proofs.All.{at_member}
-use Rattle.laws.proofs.Members.{gather_mem, mem_gather, keep_mem, mem_keep, only_mem, mem_only, any_mem, mem_any}
+use Rattle.laws.proofs.Bools.{true_t, false_t, t_false, and_l, and_r}
+use Rattle.laws.proofs.All.{All, at_member, of_members}
+use Rattle.laws.proofs.Count.{keep_short, length_numbered}
+use Rattle.laws.proofs.Sorted.{Sorted, sorted_keep}
+use Rattle.laws.proofs.Members.{gather_mem, mem_gather, keep_mem, mem_keep, only_mem, mem_only}
 use Rattle.theory.proofs.Groups.{builds_reference}
 use Rattle.theory.proofs.Accept.{RecordFits, Sound}
 use Rattle.theory.proofs.Form.{one_record, group_one_class, sound_falls, sound_there, sound_bound, sound_variables}
-use Rattle.theory.proofs.Capture.{captured_is}
-use Rattle.groups.proofs.Few.{indexed_sound}
+use Rattle.theory.proofs.Capture.{chain_inside, captured_is}
+use Rattle.theory.proofs.CapturedOrder.{variable_place, sorted_captured}
+use Rattle.groups.proofs.Few.{group_few, indexed_sound}
 use Rattle.sheets.specs.Sheets.{Pair, Passed, count, groups, library_count}
 use Rattle.sheets.proofs.Indexes.{indexed}
 use Rattle.named.specs.declared.Along.TheVariants as along
 use Rattle.named.specs.Named.{named_by}
-use Rattle.lanes.specs.Lanes.{Nested, direct, deeper, Draws, own, via, entry_at, SeedsFit, Least}
+use Rattle.lanes.specs.Lanes.{words, Nested, direct, deeper, Draws, own, via, entry_at, SeedsFit, Least}
 use Rattle.lanes.specs.Lanes as lanes
+use Rattle.lanes.proofs.Words.{words_all}
 use Rattle.lanes.proofs.Enclosing.{inside_lower, fits_lower}
 use Rattle.lanes.proofs.Chains.{draws_fit}
 use Rattle.reach.specs.Reach.{named_in, steps_of, outer_of}
 use Rattle.captured.specs.declared.Lane.{Lane}
-use Rattle.captured.specs.Captured.{lane_marker, lane_place, lacks_captured, Shown, Captured}
+use Rattle.captured.specs.Captured.{lane_marker, lane_place, entry_of, variable_ty, first_captured, Shown}
 use Rattle.captured.specs.Seeds.{Lowering, Wanted, ByClasses}
+use Rattle.captured.proofs.Firsts.{There, slot_of, fail_is, First, none, some}
 use Rattle.captured.proofs.Lowering.{place_low, lane_at, place_at, place_same}
 
 -- ---- the variables of a group
 
-locals_are : (j : ℕ) (h : Group) → map (λ (n : ℕ × List ℕ). n.1) (keep (λ (n : ℕ × List ℕ). is_kind LOCAL n.1) (numbered j h)) ≡ of_kind LOCAL h
-unfolding numbered keep of_kind
-locals_are j [] = refl
-locals_are j (r ∷ h) = go (is_kind LOCAL r) (locals_are (suc j) h)
-  where
-    later : List (ℕ × List ℕ)
-    later = keep (λ (n : ℕ × List ℕ). is_kind LOCAL n.1) (numbered (suc j) h)
+locals_few : (h : Group) → length (locals h) ≤ length h
+unfolding locals
+locals_few h = omega (arith, keep_short (λ (n : ℕ × List ℕ). is_kind LOCAL n.1) (numbered 0 h), length_numbered 0 h)
 
-    go : (b : Bool) → map (λ (n : ℕ × List ℕ). n.1) later ≡ keep (is_kind LOCAL) h
-        → map (λ (n : ℕ × List ℕ). n.1) (elim b as (λ (c : Bool). List (ℕ × List ℕ)) [ true ↦ (j, r) ∷ later | false ↦ later ])
-        ≡ elim b as (λ (c : Bool). Group) [ true ↦ r ∷ keep (is_kind LOCAL) h | false ↦ keep (is_kind LOCAL) h ]
-    go true e = ap (λ (rs : Group). r ∷ rs) e
-    go false e = e
-
--- variable number i with its record's number
-variable : Group → ℕ → ℕ × List ℕ
-variable h i = get_or (locals h) i (0, [])
-
-variable_only : (h : Group) (i : ℕ) → i < length (locals h) → local_at h i ≡ variable h i ∷ []
-unfolding local_at variable
-variable_only h i l = ap (take 1) (drop-cons (locals h) i (0, []) l)
-
-variable_record : (h : Group) (i : ℕ) → (variable h i).1 ≡ get_or (of_kind LOCAL h) i []
-unfolding variable locals
-variable_record h i =
-    sym (get_or-map (λ (n : ℕ × List ℕ). n.1) (locals h) i (0, [])) ∙ ap (λ (rs : Group). get_or rs i []) (locals_are 0 h)
-
--- the type of its slot, and the one slot that it has
-slot_type : (d : ℕ) (h : Group) (i : ℕ) → (variable_slot d (variable h i)).type ≡ local_ty (get_or (of_kind LOCAL h) i [])
-unfolding variable_slot
-slot_type d h i = ap local_ty (variable_record h i)
-
-slot_in : (d : ℕ) (h : Group) (i : ℕ) → i < length (locals h) → Memᴰ (variable_slot d (variable h i)) (map (variable_slot d) (local_at h i))
-slot_in d h i l = subst (λ (ns : List (ℕ × List ℕ)). Memᴰ (variable_slot d (variable h i)) (map (variable_slot d) ns)) (sym (variable_only h i l)) (Memᴰ.head refl)
-
-in_slot : (d : ℕ) (h : Group) (i : ℕ) (s : Slot) → i < length (locals h) → Memᴰ s (map (variable_slot d) (local_at h i)) → s ≡ variable_slot d (variable h i)
-in_slot d h i s l m = Memᴰ.eq_of_singleton (subst (λ (ns : List (ℕ × List ℕ)). Memᴰ s (map (variable_slot d) ns)) (variable_only h i l) m)
+-- a variable that comes later has a higher entry
+before_low : {a b : ℕ × ℕ} → a.1 < 256 → Before (variable_place a) (variable_place b) → 256 * a.0 + a.1 ≤ 256 * b.0 + b.1
+before_low h (lower l) = omega arith
+before_low h (same (lower l)) = omega arith
+before_low h (same (same b)) = elim b [ ]
 
 -- ---- enclosers of accepted sheets
 
@@ -92,13 +69,13 @@ encloser_user nlib c r t h = go (eqb (encloser r) none16) refl t
     go true e t = absurd (h (eqb→eq (encloser r) none16 (true_t e)))
     go false e t = leb→le nlib (encloser r) (and_r (leb nlib c) (leb nlib (encloser r)) (and_l (leb nlib c && leb nlib (encloser r)) (ltb (encloser r) c) t))
 
--- a record of class m wants d
-pub record WantedBy (g : ℕ → Group) (k m d : ℕ) : Type 0 where
+-- a record of class m wants the entry y
+pub record WantedBy (g : ℕ → Group) (k m y : ℕ) : Type 0 where
   pub bytes : List ℕ
   pub member : Memᴰ bytes (g m)
-  pub wanted : Wanted g k m bytes d
+  pub wanted : Wanted g k m bytes y
 
-module _ {p : Pair} (x : Passed p) (ok : form_refusal p.library p.user ≡ none) where
+module _ {p : Pair} (x : Passed p) (ok : form_refusal p.library p.user ≡ option.none) where
   abbrev g : ℕ → Group
   g = groups p
 
@@ -170,10 +147,53 @@ module _ {p : Pair} (x : Passed p) (ok : form_refusal p.library p.user ≡ none)
   chain_below h (start i) = h
   chain_below h (step {m} c s i) = builds_below m s
 
-  -- ---- one lane, whose seeds are the owners that each class itself wants
+  -- ---- an entry is its owner and its index
 
-  module _ (lane : Lane) (seeds : List ℕ) (fit : (m : ℕ) → m < count p → entry_at seeds (lane_place lane) m < 255 → WantedBy g (lane_marker lane) m (entry_at seeds (lane_place lane) m))
-      (low : (m d : ℕ) → m < count p → WantedBy g (lane_marker lane) m d → entry_at seeds (lane_place lane) m ≤ d) where
+  variables : (c d i : ℕ) → Uses (g c) d i → i < length (locals (g d))
+  variables = sound_variables p.library p.user accepted
+
+  index_low : (c : ℕ) {d i : ℕ} → Uses (g c) d i → i < 256
+  index_low c {d} {i} u = omega (arith, variables c d i u, locals_few (g d), group_few (indexed x) d)
+
+  use_of : {k m y : ℕ} → (w : WantedBy g k m y) → Uses (g m) (target w.bytes) (index w.bytes)
+  use_of w = record { bytes = w.bytes; member = w.member; of_kind = w.wanted.uses; owner = refl; variable = refl }
+
+  -- both are read from it
+  wanted_owner : {k m y : ℕ} → (w : WantedBy g k m y) → target w.bytes ≡ y / 256
+  wanted_owner w = omega (arith, w.wanted.entry, index_low _ (use_of w))
+
+  wanted_index : {k m y : ℕ} → (w : WantedBy g k m y) → index w.bytes ≡ y % 256
+  wanted_index w = omega (arith, w.wanted.entry, index_low _ (use_of w))
+
+  wanted_inside : {k m y : ℕ} → m < count p → WantedBy g k m y → relations.Inside g (y / 256) m
+  wanted_inside {m = m} hm w = subst (λ (d : ℕ). relations.Inside g d m) (wanted_owner w) (inside_to hm w.wanted.within)
+
+  captures_is : (l d i : ℕ) → Memᴰ (d, i) (captured g l) ↔ Captures g l d i
+  captures_is = captured_is g (sound_falls p.library p.user accepted) (sound_bound p.library p.user accepted) variables
+
+  captured_there : (l : ℕ) → All (There g) (captured g l)
+  captured_there l = of_members (There g) (captured g l) (λ v m. let c = (captures_is l v.0 v.1).0 m in variables c.last v.0 v.1 c.uses)
+
+  -- what a shown entry says of the slots that fail a test of their types
+  pub first_slot : (k : ℕ) {l y : ℕ} → l < count p → y ≡ first_captured g k l → (ok : Slot → Bool) → ((s : Slot) → s.final ≡ true → s.transient ≡ false → ok s ≡ satisfies g k s.type)
+      → First g l y (keep (λ s. not (ok s)) (captured_slots g l))
+  unfolding first_captured
+  first_slot k {l} {y} hl e ok h = go (keep (λ v. not (satisfies g k (variable_ty g v))) (captured g l)) refl e (fail_is g ok k l h (captured_there l))
+    where
+      go : (vs : List (ℕ × ℕ)) → keep (λ v. not (satisfies g k (variable_ty g v))) (captured g l) ≡ vs
+          → y ≡ get_or (map entry_of (keep (λ v. not (satisfies g k (variable_ty g v))) (captured g l))) 0 65535
+          → keep (λ s. not (ok s)) (captured_slots g l) ≡ map (slot_of g) (keep (λ v. not (satisfies g k (variable_ty g v))) (captured g l)) → First g l y (keep (λ s. not (ok s)) (captured_slots g l))
+      go [] q e f = none (rw q at e) (f ∙ ap (map (slot_of g)) q)
+      go (v ∷ vs) q e f =
+          let m = keep_mem (λ v. not (satisfies g k (variable_ty g v))) (captured g l) v (subst (Memᴰ v) (sym q) (Memᴰ.head refl)) in
+          let c = (captures_is l v.0 v.1).0 m.0 in
+          let b = inside_lower (inside_of hl (chain_inside g (sound_falls p.library p.user accepted) c.chain)) in
+          some (rw q at e) b (index_low c.last c.uses) (variables c.last v.0 v.1 c.uses) (f ∙ ap (map (slot_of g)) q)
+
+  -- ---- one lane, whose seeds are the lowest entries that each class itself wants
+
+  module _ (lane : Lane) (seeds : List ℕ) (fit : (m : ℕ) → m < count p → entry_at seeds (lane_place lane) m < 65535 → WantedBy g (lane_marker lane) m (entry_at seeds (lane_place lane) m))
+      (low : (m y : ℕ) → m < count p → WantedBy g (lane_marker lane) m y → entry_at seeds (lane_place lane) m ≤ y) where
     abbrev place : ℕ
     place = lane_place lane
 
@@ -183,140 +203,137 @@ module _ {p : Pair} (x : Passed p) (ok : form_refusal p.library p.user ≡ none)
     abbrev DrawsAt : ℕ → ℕ → Type 0
     DrawsAt y m = Draws (steps_of g along.Builds) (outer_of g) (count p) (entry_at seeds place) y m
 
-    draws_some : {y m : ℕ} → m < count p → y < 255 → DrawsAt y m → 1 ≤ y
-    draws_some {y} {m} hm b (own e q) = omega (arith, e, inside_some (inside_to hm (fit m hm (omega arith)).wanted.within))
+    draws_some : {y m : ℕ} → m < count p → y < 65535 → DrawsAt y m → 256 ≤ y
+    draws_some {y} {m} hm b (own e q) = omega (arith, e, inside_some (wanted_inside hm (fit m hm (omega arith))))
     draws_some hm b (via q e ht d) = draws_some ht b d
 
     -- a class at the end of a chain wants y
     record Reached (l y : ℕ) : Type 0 where
       last : ℕ
-      chain : Chain g y l last
+      chain : Chain g (y / 256) l last
       by : WantedBy g marker last y
 
-    fit_inside : {y m : ℕ} → m < count p → 1 ≤ y → lanes.OwnerFits (outer_of g) y m → relations.Inside g y m
+    fit_inside : {y m : ℕ} → m < count p → 256 ≤ y → lanes.OwnerFits (outer_of g) y m → relations.Inside g (y / 256) m
     fit_inside h z (inl e) = absurd (omega arith)
     fit_inside h z (inr i) = inside_to h i
 
-    draws_reached : {y l : ℕ} → l < count p → y < 255 → 1 ≤ y → DrawsAt y l → Reached l y
+    draws_reached : {y l : ℕ} → l < count p → y < 65535 → 256 ≤ y → DrawsAt y l → Reached l y
     draws_reached {l = l} hl hy z (own e q) =
-        let u = subst (WantedBy g marker l) e (fit l hl (omega arith)) in record { last = l; chain = start (inside_to hl u.wanted.within); by = u }
+        let u = subst (WantedBy g marker l) e (fit l hl (omega arith)) in record { last = l; chain = start (wanted_inside hl u); by = u }
     draws_reached {l = l} hl hy z (via q e ht d) =
         let r = draws_reached ht hy z d in record { last = r.last; chain = chain_first (fit_inside hl z q) (step_builds l e) r.chain; by = r.by }
 
-    chain_draws : (y : ℕ) {d l m : ℕ} → l < count p → y ≤ d → Chain g d l m → DrawsAt y m → DrawsAt y l
-    chain_draws y hl h (start i) w = w
-    chain_draws y hl h (step {m} c s i) w =
-        chain_draws y hl h c
+    -- an entry passes down a chain inside the owner of a higher one
+    chain_draws : (y v : ℕ) {l m : ℕ} → l < count p → y ≤ v → Chain g (v / 256) l m → DrawsAt y m → DrawsAt y l
+    chain_draws y v hl h (start i) w = w
+    chain_draws y v hl h (step {m} c s i) w =
+        chain_draws y v hl h c
         (via (fits_lower h (draws_fit w) (inr (inside_of (builds_below m s) i)) (inr (inside_of (chain_below hl c) (chain_last c)))) (builds_step m s) (builds_below m s) w)
 
     -- ---- the result
 
-    abbrev lacks : Slot → Bool
-    lacks s = not (satisfies g marker s.type)
-
-    variables : (c d i : ℕ) → Uses (g c) d i → i < length (locals (g d))
-    variables = sound_variables p.library p.user accepted
-
-    captures_is : (l d i : ℕ) → Memᴰ (d, i) (captured g l) ↔ Captures g l d i
-    captures_is = captured_is g (sound_falls p.library p.user accepted) (sound_bound p.library p.user accepted) variables
+    abbrev lacks : ℕ × ℕ → Bool
+    lacks v = not (satisfies g marker (variable_ty g v))
 
     module _ (after : List ℕ) (least : Least (steps_of g along.Builds) (outer_of g) (count p) 3 seeds after) where
-      there : (l : ℕ) → l < count p → entry_at after place l < 255 → T (lacks_captured g marker l)
-      unfolding lacks_captured captured_slots
+      -- an entry that stands there is a variable that is captured and lacks the marker
+      there : (l : ℕ) → l < count p → entry_at after place l < 65535 → Memᴰ (entry_at after place l / 256, entry_at after place l % 256) (keep lacks (captured g l))
       there l hl v =
           let d = least.sound place l (place_low lane) hl v in
           let q = draws_reached hl v (draws_some hl v d) d in
-          let r = q.by.bytes in
-          let u = q.by.wanted in
           let y = entry_at after place l in
-          let i = index r in
-          let s : Uses (g q.last) y i = record { bytes = r; member = q.by.member; of_kind = u.uses; owner = u.owner; variable = refl } in
-          mem_any lacks
-          (mem_gather (λ (v : ℕ × ℕ). map (variable_slot v.0) (local_at (g v.0) v.1)) ((captures_is l y i).1 (record { last = q.last; chain = q.chain; uses = s }))
-          (slot_in y (g y) i (variables q.last y i s)))
-          (false_t (ap (satisfies g marker) (slot_type y (g y) i) ∙ u.lacking))
+          let pair : (target q.by.bytes, index q.by.bytes) ≡ (y / 256, y % 256) = ap₂ (λ (a b : ℕ). (a, b)) (wanted_owner q.by) (wanted_index q.by) in
+          let s : Captures g l (target q.by.bytes) (index q.by.bytes) = record {
+            last = q.last;
+            chain = subst (λ (c : ℕ). Chain g c l q.last) (sym (wanted_owner q.by)) q.chain;
+            uses = use_of q.by;
+          } in
+          subst (λ (w : ℕ × ℕ). Memᴰ w (keep lacks (captured g l))) pair
+          (mem_keep lacks ((captures_is l (target q.by.bytes) (index q.by.bytes)).1 s) (false_t q.by.wanted.lacking))
 
-      -- its owner is at least the entry of the class that uses it, and that entry passes down the chain
-      from_use : {l d i : ℕ} → l < count p → (c : Captures g l d i) → satisfies g marker (local_ty (get_or (of_kind LOCAL (g d)) i [])) ≡ false → entry_at after place l < 255
-      from_use {l} {d} hl c e =
+      -- each such variable is at least the entry of the class that uses it, and that entry passes down the chain
+      from_use : {l d i : ℕ} → l < count p → (c : Captures g l d i) → satisfies g marker (variable_ty g (d, i)) ≡ false → entry_at after place l ≤ 256 * d + i
+      from_use {l} {d} {i} hl c e =
           let s = c.uses in
           let m = c.last in
+          let v = 256 * d + i in
           let hm = chain_below hl c.chain in
+          let owner : d ≡ v / 256 = omega (arith, index_low m s) in
           let j = inside_of hm (chain_last c.chain) in
-          let a = low m d hm (record {
+          let a = low m v hm (record {
             bytes = s.bytes;
             member = s.member;
             wanted = record {
               uses = s.of_kind;
-              owner = s.owner;
-              lacking = ap (λ (i : ℕ). satisfies g marker (local_ty (get_or (of_kind LOCAL (g d)) i []))) s.variable ∙ e;
-              within = j;
+              entry = omega (arith, s.owner, s.variable);
+              lacking = ap₂ (λ (a b : ℕ). satisfies g marker (variable_ty g (a, b))) s.owner s.variable ∙ e;
+              within = subst (λ (a : ℕ). Nested (outer_of g) a m) (sym s.owner) j;
             };
           }) in
           let b = inside_lower j in
-          let w = fit m hm (omega (arith, x.few)) in
-          omega (arith, a, b, x.few, least.least place l (entry_at seeds place m) (place_low lane) hl (chain_draws (entry_at seeds place m) hl a c.chain (own refl (inr w.wanted.within))))
+          let y = entry_at seeds place m in
+          let w = fit m hm (omega (arith, a, b, index_low m s, x.few)) in
+          let fits : lanes.OwnerFits (outer_of g) y m = inr (subst (λ (a : ℕ). Nested (outer_of g) a m) (wanted_owner w) w.wanted.within) in
+          omega (arith, a, least.least place l y (place_low lane) hl (chain_draws y v hl a (subst (λ (a : ℕ). Chain g a l m) owner c.chain) (own refl fits)))
 
-      back : (l : ℕ) → l < count p → T (lacks_captured g marker l) → entry_at after place l < 255
-      unfolding lacks_captured captured_slots
-      back l hl t =
-          let h = any_mem lacks (captured_slots g l) t in
-          let a = gather_mem (λ (v : ℕ × ℕ). map (variable_slot v.0) (local_at (g v.0) v.1)) (captured g l) h.0 h.1 in
-          let d = a.source.0 in
-          let i = a.source.1 in
-          let c = (captures_is l d i).0 a.member in
-          let o = in_slot d (g d) i h.0 (variables c.last d i c.uses) a.part in
-          from_use hl c (ap (satisfies g marker) (sym (ap (λ (s : Slot). s.type) o ∙ slot_type d (g d) i)) ∙ t_false (satisfies g marker h.0.type) h.2)
+      -- the variables that lack the marker, in their order: the entry is the first of them
+      first_is : (l : ℕ) → l < count p → entry_at after place l ≤ 65535 → (vs : List (ℕ × ℕ)) → keep lacks (captured g l) ≡ vs → entry_at after place l ≡ get_or (map entry_of vs) 0 65535
+      first_is l hl few [] e = go (ℕ_discrete (entry_at after place l) 65535)
+        where
+          go : Dec (entry_at after place l ≡ 65535) → entry_at after place l ≡ 65535
+          go (yes q) = q
+          go (no q) = absurd (Memᴰ.not-nil (subst (Memᴰ _) e (there l hl (omega arith))))
+      first_is l hl few (v ∷ vs) e =
+          let m = keep_mem lacks (captured g l) v (subst (Memᴰ v) (sym e) (Memᴰ.head refl)) in
+          let c = (captures_is l v.0 v.1).0 m.0 in
+          let high = from_use hl c (t_false (satisfies g marker (variable_ty g v)) m.1) in
+          let b = inside_lower (inside_of (chain_below hl c.chain) (chain_last c.chain)) in
+          let y = entry_at after place l in
+          let at = subst (Memᴰ (y / 256, y % 256)) e (there l hl (omega (arith, high, b, chain_below hl c.chain, index_low c.last c.uses, x.few))) in
+          let order = subst (Sorted (λ (a b : ℕ × ℕ). Before (variable_place a) (variable_place b))) e
+          (sorted_keep (λ (a b : ℕ × ℕ). Before (variable_place a) (variable_place b)) lacks (captured g l) (sorted_captured g l)) in
+          ⊎_elim (λ (q : (y / 256, y % 256) ≡ v). omega (arith, ap (λ (a : ℕ × ℕ). a.0) q, ap (λ (a : ℕ × ℕ). a.1) q))
+          (λ (n : Memᴰ (y / 256, y % 256) vs). omega (arith, high, before_low (index_low c.last c.uses) (at_member _ vs order.0 n)))
+          (Memᴰ.cases_cons at)
 
-      lane_shown : (l : ℕ) → l < count p → ltb (entry_at after place l) 255 ≡ lacks_captured g marker l
-      lane_shown l hl =
-          t_same (ltb (entry_at after place l) 255) (lacks_captured g marker l) (λ t. there l hl (ltb→lt (entry_at after place l) 255 t))
-          (λ t. lt→ltb (entry_at after place l) 255 (back l hl t))
+      lane_shown : (l : ℕ) → l < count p → entry_at after place l ≤ 65535 → entry_at after place l ≡ first_captured g marker l
+      unfolding first_captured
+      lane_shown l hl few = first_is l hl few (keep lacks (captured g l)) refl
 
   -- ---- all lanes, as they are seeded
 
-  module _ {clear seeds : List ℕ} {all : ℕ} (c : clear ≡ replicate all 255) (long : 768 ≤ all) (f : Lowering (ByClasses g (count p)) clear seeds) where
-    none_at : (i : ℕ) → i < 768 → get_or clear i 255 ≡ 255
-    none_at i h = ap (λ (s : List ℕ). get_or s i 255) c ∙ get_or-replicate all i 255 255 (omega arith)
+  module _ {clear seeds : List ℕ} {n : ℕ} (c : clear ≡ replicate n 255) (long : n ≡ 1536) (f : Lowering (ByClasses g (count p)) (words clear) seeds) where
+    none_at : (i : ℕ) → i < 768 → get_or (words clear) i 65535 ≡ 65535
+    none_at i h = ap (λ (s : List ℕ). get_or s i 65535) (ap words (c ∙ ap (λ (j : ℕ). replicate j 255) long) ∙ words_all 255 768) ∙ get_or-replicate 768 i 65535 65535 h
 
-    fit : (lane : Lane) (m : ℕ) → m < count p → entry_at seeds (lane_place lane) m < 255 → WantedBy g (lane_marker lane) m (entry_at seeds (lane_place lane) m)
+    fit : (lane : Lane) (m : ℕ) → m < count p → entry_at seeds (lane_place lane) m < 65535 → WantedBy g (lane_marker lane) m (entry_at seeds (lane_place lane) m)
     fit lane m hm v =
         ⊎_elim (λ e. absurd (omega (arith, none_at (lane_place lane * 256 + m) (omega (arith, x.few, place_low lane)), e))) (λ q. go q) (f.from (lane_place lane * 256 + m))
       where
-        go : {d : ℕ} → ByClasses g (count p) (lane_place lane * 256 + m) d → WantedBy g (lane_marker lane) m d
-        go {d} q =
+        go : {y : ℕ} → ByClasses g (count p) (lane_place lane * 256 + m) y → WantedBy g (lane_marker lane) m y
+        go {y} q =
             let a = q.allows.allows in
-            let el : a.lane ≡ lane = place_same (omega (arith, a.entry, q.below, x.few)) in
-            let em : q.class ≡ m = omega (arith, a.entry, ap lane_place el) in
-            subst (λ (j : ℕ). WantedBy g (lane_marker lane) j d) em
-            (subst (λ (b : Lane). WantedBy g (lane_marker b) q.class d) el (record { bytes = q.allows.one; member = q.allows.member; wanted = a.wanted }))
+            let el : a.lane ≡ lane = place_same (omega (arith, a.place, q.below, x.few)) in
+            let em : q.class ≡ m = omega (arith, a.place, ap lane_place el) in
+            subst (λ (j : ℕ). WantedBy g (lane_marker lane) j y) em
+            (subst (λ (b : Lane). WantedBy g (lane_marker b) q.class y) el (record { bytes = q.allows.one; member = q.allows.member; wanted = a.wanted }))
 
-    low : (lane : Lane) (m d : ℕ) → m < count p → WantedBy g (lane_marker lane) m d → entry_at seeds (lane_place lane) m ≤ d
-    low lane m d hm w =
-        f.low (lane_place lane * 256 + m) d
-        (record { class = m; below = hm; allows = record { one = w.bytes; member = w.member; allows = record { lane = lane; entry = refl; wanted = w.wanted } } })
+    low : (lane : Lane) (m y : ℕ) → m < count p → WantedBy g (lane_marker lane) m y → entry_at seeds (lane_place lane) m ≤ y
+    low lane m y hm w =
+        f.low (lane_place lane * 256 + m) y
+        (record { class = m; below = hm; allows = record { one = w.bytes; member = w.member; allows = record { lane = lane; place = refl; wanted = w.wanted } } })
 
     pub captures_fit : SeedsFit (outer_of g) (count p) 3 seeds
     unfolding SeedsFit
     captures_fit k m hk hm v =
         let e = place_at k hk in
-        inr
-        (subst (λ (j : ℕ). Nested (outer_of g) (entry_at seeds j m) m) e (fit (lane_at k) m hm (subst (λ (j : ℕ). entry_at seeds j m < 255) (sym e) v)).wanted.within)
+        let w = fit (lane_at k) m hm (subst (λ (j : ℕ). entry_at seeds j m < 65535) (sym e) v) in
+        inr (subst (λ (j : ℕ). Nested (outer_of g) (entry_at seeds j m / 256) m) e (subst (λ (a : ℕ). Nested (outer_of g) a m) (wanted_owner w) w.wanted.within))
 
-    pub captures_shown : {after : List ℕ} → Least (steps_of g along.Builds) (outer_of g) (count p) 3 seeds after → Shown g (count p) after
-    captures_shown {after} l = record { lane = λ lane m hm. lane_shown lane seeds (fit lane) (low lane) after l m hm }
-
-  -- the lanes where they lie in a row
-  pub captures_end : {after before : List ℕ} → length after ≡ 768 → 768 ≤ length before → Shown g (count p) after → Captured g (count p) before (after ++ drop 768 before)
-  captures_end {after} {before} e h s =
-      record {
-        long = simp (length-append, length-drop) (omega arith);
-        shown = record {
-          lane = λ lane l hl.
-              ap (λ (v : ℕ). ltb v 255) (get_or-append after (drop 768 before) 255 (lane_place lane * 256 + l) (omega (arith, x.few, place_low lane)))
-              ∙ s.lane lane l hl;
-        };
-        past = λ i l.
-            get_or-append_right after (drop 768 before) 768 i 255 e l ∙ get_or-drop 768 before (i - 768) 255
-            ∙ ap (λ (j : ℕ). get_or before j 255) (let q : 768 + (i - 768) ≡ i = omega arith in q);
-      }
+    pub captures_shown : {after : List ℕ} → Least (steps_of g along.Builds) (outer_of g) (count p) 3 seeds (words after) → Shown g (count p) after
+    captures_shown {after} l = record { lane = λ lane m hm. lane_shown lane seeds (fit lane) (low lane) (words after) l m hm (few lane m hm) }
+      where
+        few : (lane : Lane) (m : ℕ) → m < count p → entry_at (words after) (lane_place lane) m ≤ 65535
+        few lane m hm =
+            let i = lane_place lane * 256 + m in
+            omega (arith, l.down i, f.down i, none_at i (omega (arith, x.few, place_low lane)))

@@ -2,19 +2,20 @@
 -- Assumes nothing.
 use mathlib.Core.Path.{◌≡◌, refl, sym, ap, ap₂, ◌∙◌, subst}
 use mathlib.Core.Bool.{Bool, false}
-use mathlib.Core.List.{List, [], Memᴰ}
+use mathlib.Core.List.{List, Memᴰ}
 use mathlib.Core.Logic.{inl, inr, ⊎_elim}
-use Prim.Native.Nat.{ℕ, ◌+◌, ◌<◌}
+use Prim.Native.Nat.{ℕ, ◌+◌, ◌*◌, ◌/◌, ◌<◌}
 use native.Mathlib.Nat.{le_of_suc-le-suc, eq-or-lt_of_le}
 use native.Mathlib.Omega.{arith}
 use lib.Dec.{T}
-use lib.ListN.{length, get_or}
+use lib.ListN.{length}
 use Rattle.spec.specs.Lists.{any}
-use Rattle.spec.specs.Record.{bit, is_kind, LOCAL, USES, Ty, target, index, local_ty, references}
+use Rattle.spec.specs.Record.{bit, is_kind, LOCAL, USES, Ty, target, index, references}
 use Rattle.spec.specs.Sheet.{Group, of_kind}
 use Rattle.spec.specs.Classes.{satisfies}
 use Rattle.laws.proofs.Bools.{eq→eqb}
 use Rattle.laws.proofs.All.{at_member}
+use Rattle.laws.proofs.Count.{keep_short}
 use Rattle.laws.proofs.Members.{mem_keep, mem_any}
 use Rattle.theory.proofs.References.{references_uses}
 use Rattle.theory.proofs.Accept.{RecordFits}
@@ -22,6 +23,8 @@ use Rattle.records.specs.declared.record.Body.{Body}
 use Rattle.records.specs.declared.record.Body.TheVariants as B
 use Rattle.records.specs.Kinds.{Reads}
 use Rattle.records.proofs.Bodies.{is_not, not_uses}
+use Rattle.groups.proofs.Few.{group_few}
+use Rattle.sheets.proofs.Indexes.{indexed}
 use Rattle.sheets.specs.Sheets.{Pair, Passed, groups, count, library_count}
 use Rattle.lanes.specs.Lanes.{Nested, Enclosers}
 use Rattle.overlay.specs.Types.{Known, type_markers, row_markers}
@@ -31,8 +34,8 @@ use Rattle.reach.proofs.Scanning.{empty}
 use Rattle.reach.proofs.Library.{library_uses_none}
 use Rattle.captured.specs.declared.Lane.{Lane}
 use Rattle.captured.specs.declared.Lane.TheVariants.{Immutable, Powerless, DeepSelfless}
-use Rattle.captured.specs.Captured.{lane_marker}
-use Rattle.captured.specs.Seeds.{OneOf, Lowering, Offered, Wanted, ByRecord, ByClasses}
+use Rattle.captured.specs.Captured.{lane_marker, variable_ty}
+use Rattle.captured.specs.Seeds.{OneOf, Lowering, Offered, ByRecord, ByClasses}
 use Rattle.captured.proofs.Lowering.{lower_none, lower_then, lower_same}
 
 marker_low : (lane : Lane) → lane_marker lane < 8
@@ -51,7 +54,7 @@ pub variable_markers : {g : ℕ → Group} {row : List ℕ} → Known g row → 
 variable_markers {row = row} k {u = u} e q = e ∙ ap (row_markers row) q ∙ row_markers_lem k u
 
 -- one that uses variable i of class d
-module _ (p : Pair) {m : ℕ} {r : List ℕ} (f : RecordFits (library_count p) (count p) (groups p) m r) {d i : ℕ} (w : Reads r (B.Uses d i)) where
+module _ {p : Pair} (x : Passed p) {m : ℕ} {r : List ℕ} (f : RecordFits (library_count p) (count p) (groups p) m r) {d i : ℕ} (w : Reads r (B.Uses d i)) where
   abbrev g : ℕ → Group
   g = groups p
 
@@ -66,44 +69,47 @@ module _ (p : Pair) {m : ℕ} {r : List ℕ} (f : RecordFits (library_count p) (
   pub variable_there : i < length (of_kind LOCAL (g d))
   variable_there = rw (w.2, w.1) (f.local uses)
 
-  abbrev ty : ℕ → ℕ → Ty
-  ty c j = local_ty (get_or (of_kind LOCAL (g c)) j [])
+  variable_low : i < 256
+  unfolding of_kind
+  variable_low = omega (arith, variable_there, keep_short (is_kind LOCAL) (g d), group_few (indexed x) d)
 
-  -- the lanes whose marker the variable's type lacks are lowered to its owner
-  pub record_uses : {markers : ℕ} {marks : List Bool} {s s' : List ℕ} → markers ≡ type_markers g (ty d i) → Enclosers (outer_of g) m marks → Lowering (Offered marks markers m d) s s'
-      → Lowering (ByRecord g m r) s s'
-  record_uses {markers} {marks} em right f = lower_same f there back
+  pub entry_low : (d < 256) × (i < 256)
+  entry_low = (omega (arith, owner_there, x.few), variable_low)
+
+  -- the lanes whose marker the variable's type lacks are lowered to it
+  pub record_uses : {markers y : ℕ} {marks : List Bool} {s s' : List ℕ} → markers ≡ type_markers g (variable_ty g (d, i)) → y ≡ 256 * d + i → Enclosers (outer_of g) m marks
+      → Lowering (Offered marks markers m y) s s' → Lowering (ByRecord g m r) s s'
+  record_uses {markers} {y} {marks} em ey right f = lower_same f there back
     where
-      lacks : (lane : Lane) → satisfies g (lane_marker lane) (ty (target r) (index r)) ≡ bit (lane_marker lane) markers
+      lacks : (lane : Lane) → satisfies g (lane_marker lane) (variable_ty g (target r, index r)) ≡ bit (lane_marker lane) markers
       lacks lane =
-          ap₂ (λ (c j : ℕ). satisfies g (lane_marker lane) (ty c j)) (sym w.1) (sym w.2) ∙ satisfies_bit g (lane_marker lane) (ty d i) (marker_low lane)
+          ap₂ (λ (c j : ℕ). satisfies g (lane_marker lane) (variable_ty g (c, j))) (sym w.1) (sym w.2) ∙ satisfies_bit g (lane_marker lane) (variable_ty g (d, i)) (marker_low lane)
           ∙ ap (bit (lane_marker lane)) (sym em)
 
-      there : (j y : ℕ) → Offered marks markers m d j y → ByRecord g m r j y
-      there j y q = record {
+      entry : 256 * target r + index r ≡ y
+      entry = omega (arith, ey, w.1, w.2)
+
+      owner : y / 256 ≡ target r
+      owner = omega (arith, ey, w.1, variable_low)
+
+      there : (j x : ℕ) → Offered marks markers m y j x → ByRecord g m r j x
+      there j x q = record {
         lane = q.lane;
-        entry = q.allows.entry;
-        wanted = subst (Wanted g (lane_marker q.lane) m r) (sym q.allows.owner) (record {
+        place = q.allows.place;
+        wanted = record {
           uses = uses;
-          owner = sym w.1;
-          lacking =
-              ap (λ (c : ℕ). satisfies g (lane_marker q.lane) (ty c (index r))) w.1 ∙ lacks q.lane ∙ q.allows.lacking;
-          within = right.only d q.marked;
-        });
+          entry = entry ∙ sym q.allows.entry;
+          lacking = lacks q.lane ∙ q.allows.lacking;
+          within = subst (λ (c : ℕ). Nested (outer_of g) c m) owner (right.only (y / 256) q.marked);
+        };
       }
 
-      back : (j y : ℕ) → ByRecord g m r j y → Offered marks markers m d j y
-      back j y q =
-          let ey : y ≡ d = sym q.wanted.owner ∙ sym w.1 in
-          record {
-            marked = right.every d (subst (λ (c : ℕ). Nested (outer_of g) c m) ey q.wanted.within);
-            lane = q.lane;
-            allows = record {
-              lacking = sym (lacks q.lane) ∙ ap (λ (c : ℕ). satisfies g (lane_marker q.lane) (ty c (index r))) q.wanted.owner ∙ q.wanted.lacking;
-              entry = q.entry;
-              owner = ey;
-            };
-          }
+      back : (j x : ℕ) → ByRecord g m r j x → Offered marks markers m y j x
+      back j x q = record {
+        marked = right.every (y / 256) (subst (λ (c : ℕ). Nested (outer_of g) c m) (sym owner) q.wanted.within);
+        lane = q.lane;
+        allows = record { lacking = sym (lacks q.lane) ∙ q.wanted.lacking; place = q.place; entry = sym q.wanted.entry ∙ entry };
+      }
 
 -- ---- a class
 

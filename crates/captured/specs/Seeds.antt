@@ -1,58 +1,57 @@
--- The seeds of the search for captured variables: an owner at each class that itself uses a variable whose type lacks a marker.
+-- The seeds of the search for captured variables: an entry at each class that itself uses a variable whose type lacks a marker.
 -- Assumes nothing.
-use Rattle.std.specs.Prelude.{◌≡◌, Bool, true, false, ◌⊎◌, ℕ, ◌+◌, ◌*◌, ◌≤◌, ◌<◌, T, length, get_or}
-use mathlib.Core.List.{List, [], Memᴰ}
-use Rattle.spec.specs.Record.{bit, is_kind, LOCAL, USES, target, index, local_ty}
-use Rattle.spec.specs.Sheet.{Group, of_kind}
+use Rattle.std.specs.Prelude.{◌≡◌, Bool, true, false, ◌⊎◌, ℕ, ◌+◌, ◌*◌, ◌/◌, ◌≤◌, ◌<◌, T, get_or}
+use mathlib.Core.List.{List, Memᴰ}
+use Rattle.spec.specs.Record.{bit, is_kind, USES, target, index}
+use Rattle.spec.specs.Sheet.{Group}
 use Rattle.spec.specs.Classes.{satisfies}
 use Rattle.lanes.specs.Lanes.{Nested}
 use Rattle.reach.specs.Reach.{outer_of}
 use Rattle.captured.specs.declared.Lane.{Lane}
-use Rattle.captured.specs.Captured.{lane_marker, lane_place}
+use Rattle.captured.specs.Captured.{lane_marker, lane_place, entry_of, variable_ty}
 
--- Each entry of the row is kept or lowered to an owner that Q allows it, and stands above none that Q allows it.
+-- Each entry of the row is kept or lowered to one that Q allows it, and stands above none that Q allows it.
 pub record Lowering (Q : ℕ → ℕ → Type 0) (before after : List ℕ) : Type 0 where
-  pub long : length after ≡ length before
-  pub down : (i : ℕ) → get_or after i 255 ≤ get_or before i 255
-  pub low : (i d : ℕ) → Q i d → get_or after i 255 ≤ d
-  pub from : (i : ℕ) → (get_or after i 255 ≡ get_or before i 255) ⊎ Q i (get_or after i 255)
+  pub down : (i : ℕ) → get_or after i 65535 ≤ get_or before i 65535
+  pub low : (i y : ℕ) → Q i y → get_or after i 65535 ≤ y
+  pub from : (i : ℕ) → (get_or after i 65535 ≡ get_or before i 65535) ⊎ Q i (get_or after i 65535)
 
--- one of a list allows an entry the owner
+-- one of a list allows place i the entry x
 pub record OneOf {A : Type 0} (Q : A → ℕ → ℕ → Type 0) (xs : List A) (i x : ℕ) : Type 0 where
   pub one : A
   pub member : Memᴰ one xs
   pub allows : Q one i x
 
--- ---- one variable, of class d, with the markers that its type satisfies
+-- ---- one variable, as the entry y, with the markers that its type satisfies
 
--- entry i is that of class m in a lane, x is d, and the lane's marker is lacking
-pub record InLane (markers m d : ℕ) (lane : Lane) (i x : ℕ) : Type 0 where
+-- place i is that of class m in a lane, x is y, and the lane's marker is lacking
+pub record InLane (markers m y : ℕ) (lane : Lane) (i x : ℕ) : Type 0 where
   pub lacking : bit (lane_marker lane) markers ≡ false
-  pub entry : i ≡ lane_place lane * 256 + m
-  pub owner : x ≡ d
+  pub place : i ≡ lane_place lane * 256 + m
+  pub entry : x ≡ y
 
--- so in any lane, if the row of marks holds d
-pub record Offered (marks : List Bool) (markers m d i x : ℕ) : Type 0 where
-  pub marked : get_or marks d false ≡ true
+-- so in any lane, if the row of marks holds the owner
+pub record Offered (marks : List Bool) (markers m y i x : ℕ) : Type 0 where
+  pub marked : get_or marks (y / 256) false ≡ true
   pub lane : Lane
-  pub allows : InLane markers m d lane i x
+  pub allows : InLane markers m y lane i x
 
 -- ---- the variables that records use
 
--- the record USES a variable of class d, its type lacks marker k, and class m lies inside d
-pub record Wanted (g : ℕ → Group) (k m : ℕ) (r : List ℕ) (d : ℕ) : Type 0 where
+-- the record USES the variable y, whose type lacks marker k, and class m lies inside its owner
+pub record Wanted (g : ℕ → Group) (k m : ℕ) (r : List ℕ) (y : ℕ) : Type 0 where
   pub uses : T (is_kind USES r)
-  pub owner : target r ≡ d
-  pub lacking : satisfies g k (local_ty (get_or (of_kind LOCAL (g d)) (index r) [])) ≡ false
-  pub within : Nested (outer_of g) d m
+  pub entry : entry_of (target r, index r) ≡ y
+  pub lacking : satisfies g k (variable_ty g (target r, index r)) ≡ false
+  pub within : Nested (outer_of g) (target r) m
 
--- entry i is that of class m in a lane, and x is an owner that the record makes it want
+-- place i is that of class m in a lane, and x is an entry that the record makes it want
 pub record ByRecord (g : ℕ → Group) (m : ℕ) (r : List ℕ) (i x : ℕ) : Type 0 where
   pub lane : Lane
-  pub entry : i ≡ lane_place lane * 256 + m
+  pub place : i ≡ lane_place lane * 256 + m
   pub wanted : Wanted g (lane_marker lane) m r x
 
--- so one of the records of one of the first n classes
+-- so it is with one of the records of one of the first n classes
 pub record ByClasses (g : ℕ → Group) (n i x : ℕ) : Type 0 where
   pub class : ℕ
   pub below : class < n

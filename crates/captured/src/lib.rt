@@ -1,28 +1,28 @@
-// Captured variables: for each class and marker, whether it captures a variable whose type lacks the marker.
+// Captured variables: for each class and marker, the first that it captures and whose type lacks the marker.
 #![tactic(auto)]
 
-ghost use Rattle.std.specs.Prelude.{◌≡◌, [], ◌+◌, ◌*◌, ◌^◌, ◌≤◌, ◌<◌, ltb, length, get_or};
+ghost use Rattle.std.specs.Prelude.{◌≡◌, [], ◌^◌, ◌<◌, length, get_or};
 ghost use Rattle.spec.specs.Record.{LOCAL, local_ty};
 ghost use Rattle.spec.specs.Sheet.{of_kind};
 ghost use Rattle.records.specs.Kinds.{spec_ty};
 ghost use Rattle.sheets.specs.Sheets.{count, groups};
-ghost use Rattle.lanes.specs.Lanes.{entry_at};
+ghost use Rattle.lanes.specs.Lanes.{words, entry_at};
 ghost use Rattle.overlay.specs.Types.{Known};
-ghost use Rattle.captured.specs.Captured.{lane_marker, lane_place, Captured};
+ghost use Rattle.captured.specs.Captured.{lane_marker, lane_place, variable_of, Shown};
 ghost use Rattle.captured.specs.Seeds.{OneOf, Lowering, InLane, Offered, ByRecord, ByClasses};
 
-use lanes::{EMPTY, LANE, entry};
+use lanes::{EMPTY, ENTRY_BYTES, LANE, entry, put};
 use markers::{DEEP_SELFLESS, IMMUTABLE, POWERLESS, has};
 use named::Along;
 use overlay::type_markers;
-use reach::{close, enclosers};
+use reach::{Nest, close};
 use records::CLASS_LIMIT;
 use records::group::Group;
 use records::kind::Kind;
 use records::record::{Body, Ty};
 use sheets::formed::Formed;
 
-/// The markers whose captured variables are asked, a lane of owners each.
+/// The markers whose captured variables are asked, a lane of entries each.
 #[derive(Clone, Copy, PartialEq, Eq, Debug)]
 pub enum Lane {
     Immutable = 0,
@@ -33,7 +33,8 @@ pub enum Lane {
 /// All of them, as they lie in a row.
 pub const LANES: [Lane; 3] = [Lane::Immutable, Lane::Powerless, Lane::DeepSelfless];
 
-const OWNERS: usize = LANES.len() * LANE;
+/// All lanes, as bytes.
+pub const ROW_BYTES: usize = LANES.len() * LANE * ENTRY_BYTES;
 
 impl Lane {
     /// The lane's marker, as a set of its own.
@@ -70,71 +71,73 @@ fn variable_type(group: &Group, i: usize) -> Ty
         .unwrap()
 }
 
-// A lane of class m is lowered to the owner d if its marker is lacking.
-fn lower_lane(set: u8, lane: Lane, m: usize, d: usize, row: &mut [u8; OWNERS])
-    requires { (m < 256) × (d < 256) }
-    ensures { Lowering (InLane set m d lane) row.old row.new }
+// A lane of class m is lowered to the entry y if its marker is lacking.
+fn lower_lane(set: u8, lane: Lane, m: usize, y: u16, row: &mut [u8; ROW_BYTES])
+    requires { m < 256 }
+    ensures { Lowering (InLane set m y lane) (words row.old) (words row.new) }
 {
     if has(set, lane.set()) {
         return;
     }
     let at = lane.place() * LANE + m;
-    row[at] = row[at].min(d as u8);
+    let low = entry(row, at).min(y);
+    put(row, at, low);
 }
 
-// So are all lanes, if d encloses m.
-fn offer(marks: &[bool; CLASS_LIMIT], set: u8, m: usize, d: usize, row: &mut [u8; OWNERS])
-    requires { (m < 256) × (d < 256) }
-    ensures { Lowering (Offered marks.now set m d) row.old row.new }
+// So are all lanes, if the entry's owner encloses m.
+fn offer(marks: &[bool; CLASS_LIMIT], set: u8, m: usize, y: u16, row: &mut [u8; ROW_BYTES])
+    requires { m < 256 }
+    ensures { Lowering (Offered marks.now set m y) (words row.old) (words row.new) }
 {
-    if !marks[d] {
+    if !marks[usize::from(y / 256)] {
         return;
     }
     for lane in LANES {
-        lower_lane(set, lane, m, d, row);
+        lower_lane(set, lane, m, y, row);
     }
 }
 
-// Formed sheets and the row of their classes' markers.
+// Sheets with their classes' enclosers, and the row of the classes' markers.
 #[derive(Drop)]
 struct MarkedSheets<'a> {
-    formed: &'a Formed<'a>,
+    nest: &'a Nest<'a>,
     markers: &'a [u8],
-    ghost known: { Known (groups formed.now.sheets) markers.now },
+    ghost known: { Known (groups nest.now.formed.now.sheets) markers.now },
 }
 
 impl<'a> MarkedSheets<'a> {
     // What the records of class m use.
-    fn seed_records(&self, m: usize, row: &mut [u8; OWNERS])
-        requires { m < count self.now.formed.now.sheets }
-        ensures { Lowering (OneOf (ByRecord (groups self.now.formed.now.sheets) m) (groups self.now.formed.now.sheets m)) row.old row.new }
+    fn seed_records(&self, m: usize, row: &mut [u8; ROW_BYTES])
+        requires { m < count self.now.nest.now.formed.now.sheets }
+        ensures { Lowering (OneOf (ByRecord (groups self.now.nest.now.formed.now.sheets) m) (groups self.now.nest.now.formed.now.sheets m)) (words row.old) (words row.new) }
     {
-        let sheets = &self.formed.sheets;
+        let sheets = &self.nest.formed.sheets;
         let group = sheets.group(m);
-        let marks = enclosers(sheets, m);
+        let marks = self.nest.enclosers(m);
         for record in group.records() {
             if let Body::Uses { class, index } = record.body() {
                 let ty = variable_type(&sheets.group(class), index);
-                offer(&marks, type_markers(ty, self.markers), m, class, row);
+                let y = (LANE * class + index) as u16;
+                offer(&marks, type_markers(ty, self.markers), m, y, row);
             }
         }
     }
 
     // What class m itself uses. Most classes use nothing.
-    fn seed_class(&self, m: usize, row: &mut [u8; OWNERS])
-        requires { m < count self.now.formed.now.sheets }
-        ensures { Lowering (OneOf (ByRecord (groups self.now.formed.now.sheets) m) (groups self.now.formed.now.sheets m)) row.old row.new }
+    fn seed_class(&self, m: usize, row: &mut [u8; ROW_BYTES])
+        requires { m < count self.now.nest.now.formed.now.sheets }
+        ensures { Lowering (OneOf (ByRecord (groups self.now.nest.now.formed.now.sheets) m) (groups self.now.nest.now.formed.now.sheets m)) (words row.old) (words row.new) }
     {
-        if self.formed.sheets.group(m).has(Kind::Uses) {
+        if self.nest.formed.sheets.group(m).has(Kind::Uses) {
             self.seed_records(m, row);
         }
     }
 
     // What each class itself uses. No library class uses a variable.
-    fn seed(&self, row: &mut [u8; OWNERS])
-        ensures { Lowering (ByClasses (groups self.now.formed.now.sheets) (count self.now.formed.now.sheets)) row.old row.new }
+    fn seed(&self, row: &mut [u8; ROW_BYTES])
+        ensures { Lowering (ByClasses (groups self.now.nest.now.formed.now.sheets) (count self.now.nest.now.formed.now.sheets)) (words row.old) (words row.new) }
     {
-        let sheets = &self.formed.sheets;
+        let sheets = &self.nest.formed.sheets;
         for m in sheets.library_count()..sheets.count() {
             self.seed_class(m, row);
         }
@@ -142,21 +145,37 @@ impl<'a> MarkedSheets<'a> {
 }
 
 /// Fills three lanes; the variables are found along BUILDS.
-pub fn captures(formed: &Formed, markers: &[u8], row: &mut [u8])
-    requires known { Known (groups formed.now.sheets) markers.now }
-    requires long { 768 ≤ length row.old }
-    ensures { Captured (groups formed.now.sheets) (count formed.now.sheets) row.old row.new }
+pub fn captures(formed: &Formed, markers: &[u8], row: &mut [u8; ROW_BYTES])
+    requires { Known (groups formed.now.sheets) markers.now }
+    ensures { Shown (groups formed.now.sheets) (count formed.now.sheets) row.new }
 {
-    let owners: &mut [u8; OWNERS] = row.first_chunk_mut().unwrap();
-    owners.fill(EMPTY);
-    MarkedSheets { formed, markers }.seed(owners);
-    close(&formed.sheets, Along::Builds, LANES.len(), owners);
+    row.fill(u8::MAX);
+    let nest = Nest::of(formed);
+    MarkedSheets {
+        nest: &nest,
+        markers,
+    }
+    .seed(row);
+    close(&nest, Along::Builds, LANES.len(), row);
 }
 
-/// Whether class l has an owner in a lane.
-pub fn lacking(row: &[u8], lane: Lane, l: usize) -> bool
+/// A variable of class `owner`, by its index among that class's LOCALs.
+#[derive(Clone, Copy)]
+pub struct Variable {
+    pub owner: usize,
+    pub index: usize,
+}
+
+/// The first variable that class l captures and whose type lacks the lane's marker.
+pub fn first_lacking(row: &[u8; ROW_BYTES], lane: Lane, l: usize) -> Option<Variable>
     requires { l < 256 }
-    ensures { result ≡ ltb (entry_at row.now (lane_place lane) l) 255 }
+    ensures { result ≡ variable_of (entry_at (words row.now) (lane_place lane) l) }
 {
-    entry(row, lane.place() * LANE + l) < EMPTY
+    match entry(row, lane.place() * LANE + l) {
+        EMPTY => None,
+        y => Some(Variable {
+            owner: usize::from(y / 256),
+            index: usize::from(y % 256),
+        }),
+    }
 }

@@ -5,7 +5,7 @@ use std::io;
 use verifier::{Counts, Refusal, SCRATCH_BYTES, VERDICT_BYTES, judge};
 
 // More than a judging needs, so that bytes past its need are lent and must be left as they are.
-pub(crate) const ROW: usize = 600;
+pub(crate) const ROW: usize = 900;
 
 pub(crate) const SCRATCH: usize = 65600;
 

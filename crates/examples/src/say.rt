@@ -3,7 +3,7 @@ use crate::case::Case;
 use reader::{Found, nth};
 use std::io;
 use verdicts::faulted;
-use verifier::{Place, Refusal, judge, marks, name, name_place};
+use verifier::{Place, Refusal, VERDICT_BYTES, judge, marks, name, name_place};
 
 pub(crate) fn refused(rt: &impl Print, text: &str, refusal: Refusal) -> io::Result<()> {
     let number = refusal.reason.number();
@@ -53,22 +53,22 @@ pub(crate) fn record(rt: &impl Print, sheet: &[u8], n: usize) -> io::Result<()> 
 
 // How many user classes are faulted, counted through a row of structs; none where judging refuses.
 pub(crate) fn structs(rt: &impl Print, case: &Case) -> io::Result<()> {
-    let mut row = [0u8; 512];
+    let mut row = [0u8; 256 * VERDICT_BYTES];
     let mut scratch = [0u8; 65536];
     let judged = judge(&case.library, &case.user, case.used, &mut row, &mut scratch);
     let classes = judged.map_or(0, |counts| counts.classes);
     println!(rt; ": faulted {}", faulted(&row, classes))
 }
 
-// A byte of a row stands after a colon, a space or a bar: two bytes are one class's verdict.
+// A byte of a row stands after a colon, a space or a bar: a bar stands between two classes' verdicts.
 pub(crate) fn row(rt: &impl Print, verdicts: &[u8]) -> io::Result<()> {
     for (i, byte) in verdicts.iter().enumerate() {
         let mark = if i == 0 {
             ": "
-        } else if i % 2 == 1 {
-            " "
-        } else {
+        } else if i % VERDICT_BYTES == 0 {
             " | "
+        } else {
+            " "
         };
         print!(rt; "{mark}{byte}")?;
     }

@@ -8,7 +8,7 @@
 //   used N             the used length, where it is not the whole user buffer
 //   row N              how many bytes of the row are lent
 //   scratch N          how many bytes of scratch are lent
-//   expect R K | R K   the verdicts that the case must have
+//   expect R K C | ..  the verdicts that the case must have
 //   ask C              writes what `marks`, `name_place` and `name` answer of class C
 //   record N           writes what a reader of the user sheet finds as record N
 //   structs            writes how many user classes are faulted, counted through a row of structs

@@ -1,24 +1,16 @@
--- The scratch after a search and a clearing.
+-- The scratch after its front was used, and cleared at the end.
 -- Assumes nothing.
-use mathlib.Core.Path.{◌≡◌, sym, ap, ◌∙◌}
+use mathlib.Core.Path.{◌≡◌, ap, ap₂, ◌∙◌}
 use mathlib.Core.List.{List, ◌++◌}
-use Prim.Native.Nat.{ℕ, ◌+◌, ◌≤◌}
-use native.Mathlib.Omega.{arith}
-use lib.ListN.{length, take, drop, replicate, length-drop}
-use lib.Seq.{get_or-drop, ext_get_or}
-use Rattle.spec.specs.Sheet.{Group}
+use Prim.Native.Nat.{ℕ, ◌≤◌}
+use lib.ListN.{length, take, drop, replicate}
+use Rattle.std.proofs.lemmas.List.{length-take-le}
+use Rattle.std.proofs.lemmas.Slice.{drop-append-drop}
 use Rattle.spec.specs.Refusals.{scratch_length}
 use Rattle.spec.specs.Promises.{cleared}
-use Rattle.captured.specs.Captured.{Captured}
-use Rattle.lanes.proofs.Filling.{filled}
 
--- the search left the bytes past the cleared ones
-pub clear_is : {g : ℕ → Group} {n : ℕ} {before after part : List ℕ} → Captured g n before after
-    → scratch_length ≤ length before → part ≡ replicate (length (take scratch_length after)) 0 → part ++ drop scratch_length after ≡ cleared before
+pub clear_is : (k : ℕ) (before front : List ℕ) {part : List ℕ} → length front ≡ k → k ≤ scratch_length → scratch_length ≤ length (front ++ drop k before)
+    → part ≡ replicate (length (take scratch_length (front ++ drop k before))) 0 → part ++ drop scratch_length (front ++ drop k before) ≡ cleared before
 unfolding cleared
-clear_is {before = before} {after} c h e =
-    filled {k = scratch_length} 0 after e (omega (arith, c.long))
-    ∙ ap (λ (l : List ℕ). replicate scratch_length 0 ++ l)
-    (ext_get_or 255 (drop scratch_length after) (drop scratch_length before)
-    (length-drop scratch_length after ∙ omega (arith, c.long, length-drop scratch_length before))
-    (λ i h. get_or-drop scratch_length after i 255 ∙ c.past (scratch_length + i) (omega arith) ∙ sym (get_or-drop scratch_length before i 255)))
+clear_is k before front l h s c =
+    ap₂ (λ (a b : List ℕ). a ++ b) (c ∙ ap (λ (n : ℕ). replicate n 0) (length-take-le scratch_length (front ++ drop k before) s)) (drop-append-drop k before front scratch_length h l)

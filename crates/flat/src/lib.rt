@@ -11,7 +11,7 @@ ghost use Rattle.flat.specs.Row.{put_at, chosen, faulted_in, marked_in};
 
 use breaks::bans::bans;
 use breaks::judging::Judging;
-use captured::captures;
+use captured::{ROW_BYTES, captures};
 use form::accepted::Accepted;
 use overlay::{Falling, overlays};
 use records::{CLASS_LIMIT, SCRATCH_BYTES, VERDICT_BYTES};
@@ -20,14 +20,14 @@ use survey::Survey;
 
 // ---- writing
 
-// A line of the row: rule and record; 0 and 0 is clean.
+// A line of the row: rule, record and class; three zeros are clean.
 #[tactic(auto, unfolding(spec::specs::Verdicts::bytes_of))]
 fn line(fault: Option<Fault>) -> [u8; VERDICT_BYTES]
     ensures { result ≡ bytes_of (line_of fault) }
 {
     match fault {
-        Some(fault) => [fault.rule.number(), fault.record],
-        None => [0, 0],
+        Some(fault) => [fault.rule.number(), fault.site.number, fault.site.class],
+        None => [0, 0, 0],
     }
 }
 
@@ -40,9 +40,8 @@ fn put(verdicts: &mut [u8], i: usize, fault: Option<Fault>)
     verdicts[at..at + VERDICT_BYTES].copy_from_slice(&line(fault));
 }
 
-// Writes the verdict of each user class whose mark is 0. A clean class needs no walk over the rules.
-fn rewrite(survey: &Survey, marks: &[u8], verdicts: &mut [u8])
-    requires marks { 256 ≤ length marks.now }
+// Writes the verdict of each marked user class. A clean class needs no walk over the rules.
+fn rewrite(survey: &Survey, marks: &[bool; CLASS_LIMIT], verdicts: &mut [u8])
     requires lines { count survey.now.judging.formed.now.sheets - library_count survey.now.judging.formed.now.sheets ≤ flat_lines verdicts.old }
     ensures { verdicts.new ≡ flat_rewritten (chosen (library_count survey.now.judging.formed.now.sheets) (count survey.now.judging.formed.now.sheets) marks.now)
         (user_verdict survey.now.judging.formed.now.sheets.library survey.now.judging.formed.now.sheets.user) verdicts.old }
@@ -51,7 +50,7 @@ fn rewrite(survey: &Survey, marks: &[u8], verdicts: &mut [u8])
     let first = sheets.library_count();
     let mut walk = Walk::new(&survey.judging);
     for c in first..sheets.count() {
-        if marks[c] == 0 {
+        if marks[c] {
             let fault = if survey.clean(c) {
                 None
             } else {
@@ -62,9 +61,13 @@ fn rewrite(survey: &Survey, marks: &[u8], verdicts: &mut [u8])
     }
 }
 
-/// Judges each user class whose mark is 0, from nothing but the sheets; the scratch is left clean.
-pub fn rejudge(accepted: &Accepted, marks: &[u8], verdicts: &mut [u8], scratch: &mut [u8])
-    requires marks { 256 ≤ length marks.now }
+/// Judges each marked user class, from nothing but the sheets; the scratch is left clean.
+pub fn rejudge(
+    accepted: &Accepted,
+    marks: &[bool; CLASS_LIMIT],
+    verdicts: &mut [u8],
+    scratch: &mut [u8],
+)
     requires lines { count accepted.now.formed.sheets - library_count accepted.now.formed.sheets ≤ flat_lines verdicts.old }
     requires scratch { scratch_length ≤ length scratch.old }
     ensures verdicts { verdicts.new ≡ flat_rewritten (chosen (library_count accepted.now.formed.sheets) (count accepted.now.formed.sheets) marks.now)
@@ -78,12 +81,13 @@ pub fn rejudge(accepted: &Accepted, marks: &[u8], verdicts: &mut [u8], scratch: 
         sheets: &formed.sheets,
     };
     overlays(&falling, &mut memo, &mut markers);
-    captures(formed, &markers, scratch);
+    let lanes: &mut [u8; ROW_BYTES] = scratch.first_chunk_mut().unwrap();
+    captures(formed, &markers, lanes);
     let survey = Survey::new(Judging {
         formed,
         markers,
         bans: bans(&formed.sheets),
-        lanes: scratch,
+        lanes,
     });
     rewrite(&survey, marks, verdicts);
     scratch[..SCRATCH_BYTES].fill(0);
@@ -96,13 +100,16 @@ pub fn faulted(verdicts: &[u8], n: usize) -> usize
     ensures { result ≡ faulted_in verdicts.now (min n (flat_lines verdicts.now)) }
 {
     let (lines, _) = verdicts.as_chunks::<VERDICT_BYTES>();
-    lines.iter().take(n).filter(|[rule, _]| *rule != 0).count()
+    lines
+        .iter()
+        .take(n)
+        .filter(|[rule, _, _]| *rule != 0)
+        .count()
 }
 
-/// How many of the first n classes have the mark 0.
-pub fn marked(marks: &[u8], n: usize) -> usize
-    requires { n ≤ length marks.now }
+/// How many of the first n classes are marked.
+pub fn marked(marks: &[bool; CLASS_LIMIT], n: usize) -> usize
     ensures { result ≡ marked_in marks.now n }
 {
-    marks[..n].iter().filter(|mark| **mark == 0).count()
+    marks.iter().take(n).filter(|mark| **mark).count()
 }

@@ -23,7 +23,7 @@ module _ (row : VerdictRow) where
     pub counts : Counts
     pub promised : Judges row library user used before scratch (accepted counts) after scratch_after
 
-  -- each class's verdict is clean exactly if the class breaks no rule, else the lowest broken rule and the lowest record that breaks it
+  -- each class's verdict is clean exactly if the class breaks no rule, else the lowest broken rule and, of its faults, the first in the walk
   abbrev pub RowRight : Type 0
   RowRight =
       (library user : List ℕ) (used : ℕ) (after : row.Row) → Accepts library user used after → Bytes library → Bytes user

@@ -1,4 +1,4 @@
--- Chains of steps: their owner fits.
+-- Chains of steps: the entry's owner fits.
 -- Assumes nothing.
 use mathlib.Core.List.{List}
 use Prim.Native.Nat.{ℕ}

@@ -4,7 +4,7 @@ use mathlib.Core.Path.{◌≡◌, refl, ◌∙◌}
 use mathlib.Core.Bool.{Bool, true, false, ◌||◌, and-true, or-true}
 use mathlib.Core.List.{List}
 use mathlib.Core.Logic.{inl, inr, ⊎_elim}
-use Prim.Native.Nat.{ℕ, zero, suc, ◌+◌, ◌*◌, ◌≤◌, ◌<◌}
+use Prim.Native.Nat.{ℕ, zero, suc, ◌+◌, ◌*◌, ◌/◌, ◌≤◌, ◌<◌}
 use native.Mathlib.Nat.{le_refl, not-suc-le-zero, le_of_suc-le-suc, eq-or-lt_of_le}
 use native.Mathlib.Decide.{ℕ_discrete}
 use native.Mathlib.Omega.{arith}
@@ -23,12 +23,12 @@ module _ (marks : List Bool) (outer : ℕ → ℕ) (m y : ℕ) (right : Encloser
     where
       go : Dec (y ≡ 0) → OwnerFits outer y m
       go (yes q) = inl q
-      go (no q) = inr (right.only y (rw (ne_eqb y 0 q) at h))
+      go (no q) = inr (right.only (y / 256) (rw (ne_eqb y 0 q) at h))
 
   pub fits_every : OwnerFits outer y m → fits_row marks y ≡ true
   unfolding fits_row
   fits_every (inl q) = rw (eq-eqb y 0 q)
-  fits_every (inr i) = rw (right.every y i) (or-true (eqb y 0))
+  fits_every (inr i) = rw (right.every (y / 256) i) (or-true (eqb y 0))
 
 -- ---- one lane
 

@@ -33,15 +33,15 @@ module _ {outer : ℕ → ℕ} where
   inside_nests {x} (deeper e l i) (direct f k) h = subst (Nested outer x) (sym e ∙ f) i
   inside_nests {x} {y} (deeper e l i) (deeper f k j) h = inside_nests i (subst (Nested outer y) (sym f ∙ e) j) h
 
-  -- where a higher owner fits both t and m, a lower one that fits t fits m too
+  -- where a higher entry fits both t and m, a lower one that fits t fits m too
   pub fits_lower : {x y t m : ℕ} → x ≤ y → OwnerFits outer x t → OwnerFits outer y t → OwnerFits outer y m → OwnerFits outer x m
   fits_lower h (inl a) b c = inl a
   fits_lower h (inr a) (inl b) c = inl (omega arith)
   fits_lower h (inr a) (inr b) (inl c) = inl (omega arith)
   fits_lower {x} {y} {m = m} h (inr a) (inr b) (inr c) =
-      ⊎_elim (λ q. inr (subst (λ (z : ℕ). Nested outer z m) (sym q) c)) (λ l. inr (inside_trans (inside_nests a b l) c)) (eq-or-lt_of_le h)
+      ⊎_elim (λ q. inr (subst (λ (z : ℕ). Nested outer z m) (sym q) c)) (λ l. inr (inside_trans (inside_nests a b l) c)) (eq-or-lt_of_le (omega arith))
 
-  -- an owner that fits is never 255, which is none
-  pub fits_owner : {y m : ℕ} → m < 256 → OwnerFits outer y m → y < 255
+  -- an entry that fits is never 65,535, which is none
+  pub fits_owner : {y m : ℕ} → m < 256 → OwnerFits outer y m → y < 65535
   fits_owner h (inl a) = omega arith
   fits_owner h (inr a) = let b = inside_lower a in omega arith

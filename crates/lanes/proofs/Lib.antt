@@ -1,3 +1,4 @@
+pub mod Words
 pub mod Rows
 pub mod Enclosing
 pub mod Chains
@@ -6,4 +7,3 @@ pub mod Runs
 pub mod Drawing
 pub mod Sweeping
 pub mod Closing
-pub mod Filling

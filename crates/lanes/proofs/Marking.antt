@@ -9,8 +9,9 @@ use native.Mathlib.Nat.{le_refl}
 use native.Mathlib.Omega.{arith}
 use Rattle.std.proofs.lemmas.Bool.{false≢true}
 use lib.ListN.{length, get_or, set, replicate, length-set}
+use Rattle.laws.proofs.Rows.{same_all}
 use Rattle.lanes.specs.Lanes.{Nested, direct, Enclosers}
-use Rattle.lanes.proofs.Rows.{same_all, marked_by, marked_still}
+use Rattle.lanes.proofs.Rows.{marked_by, marked_still}
 use Rattle.lanes.proofs.Enclosing.{inside_trans, inside_up, inside_none}
 
 -- The walk stands at c, which is m or encloses it. What encloses m is marked or encloses c.

@@ -1,6 +1,6 @@
--- Rows: one that is the same everywhere, and what one write changes.
+-- What one write changes in a row.
 -- Assumes nothing.
-use mathlib.Core.Path.{◌≡◌, refl, sym, ◌∙◌}
+use mathlib.Core.Path.{◌≡◌, sym, ◌∙◌}
 use mathlib.Core.Bool.{Bool, true, false}
 use mathlib.Core.List.{List, [], ◌∷◌}
 use mathlib.Core.Logic.{◌⊎◌, inl, inr}
@@ -8,14 +8,9 @@ use Prim.Native.Nat.{ℕ, zero, suc, ◌+◌, ◌<◌}
 use native.Mathlib.Nat.{not-suc-le-zero, le_of_suc-le-suc}
 use native.Mathlib.Decide.{ℕ_discrete}
 use native.Mathlib.Omega.{arith}
-use lib.ListN.{length, get_or, set, replicate}
+use lib.ListN.{length, get_or, set}
 use lib.Seq.{get_or-set_same, get_or-set_other}
 use Rattle.lanes.specs.Lanes.{sum_of}
-
-pub same_all : {A : Type 0} (a : A) (n x : ℕ) → get_or (replicate n a) x a ≡ a
-same_all a zero x = refl
-same_all a (suc n) zero = refl
-same_all a (suc n) (suc x) = same_all a n x
 
 -- ---- a mark is set
 
@@ -36,7 +31,7 @@ marked_still s i x l h = go (ℕ_discrete x i) h
 
 -- ---- an entry is written
 
-pub sum_set : (s : List ℕ) (i x : ℕ) → i < length s → sum_of (set s i x) + get_or s i 255 ≡ sum_of s + x
+pub sum_set : (s : List ℕ) (i x : ℕ) → i < length s → sum_of (set s i x) + get_or s i 65535 ≡ sum_of s + x
 unfolding sum_of
 sum_set [] i x h = absurd (not-suc-le-zero h)
 sum_set (y ∷ s) zero x h = omega arith

@@ -21,7 +21,7 @@ module _ {step : ℕ → List ℕ} {outer : ℕ → ℕ} {n lanes : ℕ} where
   pub run_none : {P : List ℕ → Type 0} (s : List ℕ) → P s → Run step outer n lanes P s s false
   run_none s p = record {
     keeps = λ g h. h;
-    down = λ i. le_refl (get_or s i 255);
+    down = λ i. le_refl (get_or s i 65535);
     kept = λ i o. refl;
     less = λ z. absurd (false≢true z);
     still = λ z. refl;
@@ -50,7 +50,7 @@ module _ {step : ℕ → List ℕ} {outer : ℕ → ℕ} {n lanes : ℕ} where
 
 -- The entry of m in lane k becomes that of t.
 module _ (step : ℕ → List ℕ) (outer : ℕ → ℕ) (n lanes : ℕ) (s : List ℕ) (k m t : ℕ) (few : n ≤ 256) (hk : k < lanes) (hm : m < n) (ht : t < n) (long : lanes * 256 ≤ length s) where
-  lower_sound : entry_at s k t < 255 → OwnerFits outer (entry_at s k t) m → Memᴰ t (step m) → (g : List ℕ) → Sound step outer n lanes g s
+  lower_sound : entry_at s k t < 65535 → OwnerFits outer (entry_at s k t) m → Memᴰ t (step m) → (g : List ℕ) → Sound step outer n lanes g s
       → Sound step outer n lanes g (set s (k * 256 + m) (entry_at s k t))
   unfolding Sound
   lower_sound b f e g h k' m' hk' hm' v = go (ℕ_discrete (k' * 256 + m') (k * 256 + m))
@@ -59,11 +59,11 @@ module _ (step : ℕ → List ℕ) (outer : ℕ → ℕ) (n lanes : ℕ) (s : Li
       go (yes q) =
           let ek : k' ≡ k = omega arith in
           let em : m' ≡ m = omega arith in
-          let ev : entry_at (set s (k * 256 + m) (entry_at s k t)) k m ≡ entry_at s k t = get_or-set_same s (k * 256 + m) (entry_at s k t) 255 (omega arith) in
+          let ev : entry_at (set s (k * 256 + m) (entry_at s k t)) k m ≡ entry_at s k t = get_or-set_same s (k * 256 + m) (entry_at s k t) 65535 (omega arith) in
           rw (ek, em, ev) (via f e ht (h k t hk ht b))
       go (no q) =
           let ev : entry_at (set s (k * 256 + m) (entry_at s k t)) k' m' ≡ entry_at s k' m' =
-          get_or-set_other s (k * 256 + m) (k' * 256 + m') (entry_at s k t) 255 q in
+          get_or-set_other s (k * 256 + m) (k' * 256 + m') (entry_at s k t) 65535 q in
           rw ev (h k' m' hk' hm' (rw ev at v))
 
   pub run_lower : (P : List ℕ → Type 0) → entry_at s k t < entry_at s k m → OwnerFits outer (entry_at s k t) m → Memᴰ t (step m)
@@ -74,15 +74,15 @@ module _ (step : ℕ → List ℕ) (outer : ℕ → ℕ) (n lanes : ℕ) (s : Li
       record {
         keeps = lower_sound (fits_owner (omega arith) f) f e;
         down = λ i. go i (ℕ_discrete i (k * 256 + m));
-        kept = λ i o. get_or-set_other s (k * 256 + m) i (entry_at s k t) 255 (λ q. o k m hk hm q);
+        kept = λ i o. get_or-set_other s (k * 256 + m) i (entry_at s k t) 65535 (λ q. o k m hk hm q);
         less = λ z. let u = sum_set s (k * 256 + m) (entry_at s k t) l in omega arith;
         still = λ z. absurd (true≢false z);
         closed = λ z. absurd (true≢false z);
       }
     where
-      go : (i : ℕ) → Dec (i ≡ k * 256 + m) → get_or (set s (k * 256 + m) (entry_at s k t)) i 255 ≤ get_or s i 255
-      go i (yes q) = let u = get_or-set_same s (k * 256 + m) (entry_at s k t) 255 (omega arith) in rw (q, u) (omega arith)
-      go i (no q) = let u = get_or-set_other s (k * 256 + m) i (entry_at s k t) 255 q in omega arith
+      go : (i : ℕ) → Dec (i ≡ k * 256 + m) → get_or (set s (k * 256 + m) (entry_at s k t)) i 65535 ≤ get_or s i 65535
+      go i (yes q) = let u = get_or-set_same s (k * 256 + m) (entry_at s k t) 65535 (omega arith) in rw (q, u) (omega arith)
+      go i (no q) = let u = get_or-set_other s (k * 256 + m) i (entry_at s k t) 65535 q in omega arith
 
 -- Class m was offered what t has, in the lanes named. Only the row of marks was asked, so it holds for all steps and enclosers that the marks are right for.
 pub record Offered (marks : List Bool) (n lanes m t : ℕ) (lane : ℕ → Type 0) (s₀ s : List ℕ) (r : Bool) : Type 0 where

@@ -5,7 +5,6 @@ use mathlib.Core.Bool.{Bool, true, false}
 use mathlib.Core.List.{List}
 use Prim.Native.Nat.{ℕ, ◌≤◌, ◌<◌}
 use native.Mathlib.Omega.{arith}
-use lib.ListN.{length}
 use Rattle.lanes.specs.Lanes.{Run, SettledAt, AllSettled, swept_of}
 use Rattle.lanes.proofs.Runs.{run_only}
 
@@ -24,7 +23,6 @@ place_low false n m h = omega arith
 -- ---- the sweep: the first i classes of the order have drawn
 
 pub record SweepAt (step : ℕ → List ℕ) (outer : ℕ → ℕ) (n lanes : ℕ) (up : Bool) (s₀ s : List ℕ) (a : Bool) (i : ℕ) : Type 0 where
-  pub long : length s ≡ length s₀
   pub run : Run step outer n lanes (λ s. (j : ℕ) → j < i → SettledAt step outer n lanes (swept_of up n j) s) s₀ s a
 
 module _ {step : ℕ → List ℕ} {outer : ℕ → ℕ} {n lanes : ℕ} {up : Bool} {s₀ s : List ℕ} {a : Bool} {i : ℕ} (f : SweepAt step outer n lanes up s₀ s a i) where

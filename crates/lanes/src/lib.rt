@@ -1,11 +1,16 @@
-// Rows of owners, 256 entries a lane, and how a class draws an owner from one other class. Dependents and captured variables are both found so.
+// Rows of entries, 256 a lane, and how a class draws an entry from one other class. Dependents and captured variables are both found so.
 #![tactic(auto)]
 
-ghost use Rattle.std.specs.Prelude.{◌≡◌, ◌+◌, ◌*◌, ◌≤◌, ◌<◌, length, get_or};
-ghost use Rattle.lanes.specs.Lanes.{Room, fits_row, lowers, drawn, drawn_lanes, drew_lanes, lanes_of, swept_of};
+ghost use Rattle.std.specs.Prelude.{◌≡◌, ◌+◌, ◌*◌, ◌≤◌, ◌<◌, length, get_or, set};
+ghost use Rattle.lanes.specs.Lanes.{words, Room, fits_row, lowers, drawn, drawn_lanes, drew_lanes, lanes_of, swept_of};
 
 // The entries of a lane, one a class.
 pub const LANE: usize = 256;
+
+pub const ENTRY_BYTES: usize = 2;
+
+// What an entry is where there is nothing to be drawn. Any other is 256 times an owner plus an index.
+pub const EMPTY: u16 = 65535;
 
 /// How much of a row counts: the classes of each lane, and the lanes.
 #[derive(Clone, Copy)]
@@ -14,36 +19,44 @@ pub struct Extent {
     pub lanes: usize,
 }
 
-// What an entry holds where there is no owner.
-pub const EMPTY: u8 = 255;
-
-// The entry at i; past the end there is no owner.
-pub fn entry(row: &[u8], i: usize) -> u8
-    ensures { result ≡ get_or row.now i 255 }
+/// The entry at i.
+pub fn entry(row: &[u8], i: usize) -> u16
+    requires { 2 * i + 1 < length row.now }
+    ensures { result ≡ get_or (words row.now) i 65535 }
 {
-    row.get(i).copied().unwrap_or(EMPTY)
+    u16::from_le_bytes([row[ENTRY_BYTES * i], row[ENTRY_BYTES * i + 1]])
 }
 
-// 0 needs no mark: as an owner it only says that a class is reached, and any class may be.
+/// Writes the entry at i.
+pub fn put(row: &mut [u8], i: usize, y: u16)
+    requires { 2 * i + 1 < length row.old }
+    ensures { words row.new ≡ set (words row.old) i y }
+{
+    let [low, high] = y.to_le_bytes();
+    row[ENTRY_BYTES * i] = low;
+    row[ENTRY_BYTES * i + 1] = high;
+}
+
+// 0 needs no mark: it only says that a class is reached, and any class may be.
 #[tactic(auto, unfolding(crate::specs::Lanes::fits_row))]
-fn fits(marks: &[bool; LANE], y: u8) -> bool
+fn fits(marks: &[bool; LANE], y: u16) -> bool
     ensures { result ≡ fits_row marks.now y }
 {
-    y == 0 || marks[usize::from(y)]
+    y == 0 || marks[usize::from(y / 256)]
 }
 
 // Class m takes in lane k what t has there, if that is lower and fits m. Answers whether anything changes, so that a search knows when to end.
-#[tactic(auto, using(std::proofs::lemmas::List::get_or_default), unfolding(crate::specs::Lanes::lowers, crate::specs::Lanes::drawn))]
+#[tactic(auto, unfolding(crate::specs::Lanes::lowers, crate::specs::Lanes::drawn))]
 fn draw(marks: &[bool; LANE], k: usize, m: usize, t: usize, row: &mut [u8]) -> bool
-    requires { (k * 256 + m < length row.old) × (k * 256 + t < length row.old) }
-    ensures row { row.new ≡ drawn marks.now m t k row.old }
-    ensures answer { result ≡ lowers marks.now m t k row.old }
+    requires { (2 * (k * 256 + m) + 1 < length row.old) × (2 * (k * 256 + t) + 1 < length row.old) }
+    ensures row { words row.new ≡ drawn marks.now m t k (words row.old) }
+    ensures answer { result ≡ lowers marks.now m t k (words row.old) }
 {
-    let offered = row[k * LANE + t];
-    if row[k * LANE + m] <= offered || !fits(marks, offered) {
+    let offered = entry(row, k * LANE + t);
+    if entry(row, k * LANE + m) <= offered || !fits(marks, offered) {
         return false;
     }
-    row[k * LANE + m] = offered;
+    put(row, k * LANE + m, offered);
     true
 }
 
@@ -52,8 +65,8 @@ fn draw(marks: &[bool; LANE], k: usize, m: usize, t: usize, row: &mut [u8]) -> b
 pub fn draw_lanes(marks: &[bool; LANE], extent: Extent, m: usize, t: usize, row: &mut [u8]) -> bool
     requires room { Room extent.classes extent.lanes row.old }
     requires there { m < extent.classes }
-    ensures row { row.new ≡ drawn_lanes marks.now m t (lanes_of extent.classes extent.lanes t) row.old }
-    ensures answer { result ≡ drew_lanes marks.now m t (lanes_of extent.classes extent.lanes t) row.old }
+    ensures row { words row.new ≡ drawn_lanes marks.now m t (lanes_of extent.classes extent.lanes t) (words row.old) }
+    ensures answer { result ≡ drew_lanes marks.now m t (lanes_of extent.classes extent.lanes t) (words row.old) }
 {
     if extent.classes <= t {
         return false;

@@ -1,13 +1,29 @@
--- Counting by a test along the numbers below n, one number at a time.
+-- Counting by a test: a part of a list is no longer; along the numbers below n, one number at a time.
 -- Assumes nothing.
 use mathlib.Core.Path.{◌≡◌, refl, sym, ap, ap₂, ◌∙◌}
 use mathlib.Core.Bool.{Bool, true, false}
 use mathlib.Core.List.{List, [], ◌∷◌, ◌++◌}
-use Prim.Native.Nat.{ℕ, zero, suc, ◌+◌, ◌<◌}
-use native.Mathlib.Nat.{zero-add, add-zero, add-suc, suc-add}
+use Prim.Native.Nat.{ℕ, zero, suc, ◌+◌, ◌≤◌, ◌<◌}
+use native.Mathlib.Nat.{le_refl, zero-add, add-zero, add-suc, suc-add}
 use native.Mathlib.Omega.{arith}
 use lib.ListN.{length}
-use Rattle.spec.specs.Lists.{keep, count, span}
+use Rattle.spec.specs.Lists.{keep, count, numbered, span}
+
+module _ {A : Type 0} where
+  -- a part is no longer than the whole
+  pub keep_short : (p : A → Bool) (xs : List A) → length (keep p xs) ≤ length xs
+  unfolding keep
+  keep_short p [] = le_refl 0
+  keep_short p (x ∷ xs) = go (p x) (keep_short p xs)
+    where
+      go : (b : Bool) → length (keep p xs) ≤ length xs → length {A = A} (elim b as (λ (c : Bool). List A) [ true ↦ x ∷ keep p xs | false ↦ keep p xs ]) ≤ suc (length xs)
+      go true h = omega arith
+      go false h = omega arith
+
+  pub length_numbered : (i : ℕ) (xs : List A) → length (numbered i xs) ≡ length xs
+  unfolding numbered
+  length_numbered i [] = refl
+  length_numbered i (x ∷ xs) = ap suc (length_numbered (suc i) xs)
 
 span_last : (i n : ℕ) → span i (suc n) ≡ span i n ++ ((i + n) ∷ [])
 unfolding span

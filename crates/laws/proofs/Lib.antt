@@ -1,6 +1,8 @@
 pub mod Bools
 pub mod All
 pub mod Members
+pub mod Lists
+pub mod Sorted
 pub mod Parts
 pub mod Rows
 pub mod Count

@@ -9,6 +9,7 @@ use Prim.Native.Nat.{ℕ, zero, suc, ◌+◌, ◌≤◌, ◌<◌}
 use native.Mathlib.Nat.{add-zero, suc-add, add-suc, zero-add}
 use native.Mathlib.Omega.{arith}
 use lib.Dec.{T, T_not, eqb, eqb→eq, eqb_refl}
+use lib.ListN.{length, drop}
 use Rattle.spec.specs.Lists.{any, keep, gather, numbered, only_if, elem, span, ascending}
 use Rattle.spec.specs.Relations.{At, here, next}
 use Rattle.laws.proofs.Bools.{or_cases, or_l, or_r, decide}
@@ -108,11 +109,28 @@ module _ {A : Type 0} where
   mem_only true xs t m = m
   mem_only false xs t m = absurd t
 
-  -- ---- numbered elements
+  -- ---- an element's place
 
   pub at_in : {xs : List A} {k : ℕ} {x : A} → At xs k x → Memᴰ x xs
   at_in here = Memᴰ.head refl
   at_in (next a) = Memᴰ.tail (at_in a)
+
+  pub in_at : {x : A} {xs : List A} → Memᴰ x xs → (k : ℕ) × At xs k x
+  in_at {x} (Memᴰ.head {xs = xs} e) = (0, subst (λ (y : A). At (y ∷ xs) 0 x) e here)
+  in_at (Memᴰ.tail m) = let r = in_at m in (suc r.0, next r.1)
+
+  pub at_low : {xs : List A} {k : ℕ} {x : A} → At xs k x → k < length xs
+  at_low here = omega arith
+  at_low (next a) = let h = at_low a in omega arith
+
+  -- what is left from a place on begins with what stands there
+  pub at_drop : (xs : List A) (k : ℕ) {y : A} {ys : List A} → y ∷ ys ≡ drop k xs → At xs k y
+  at_drop [] zero e = absurd (cc)
+  at_drop [] (suc k) e = absurd (cc)
+  at_drop (x ∷ xs) zero {y} e = subst (At (x ∷ xs) 0) (let q : x ≡ y = cc in q) here
+  at_drop (x ∷ xs) (suc k) e = next (at_drop xs k e)
+
+  -- ---- numbered elements
 
   pub record Placed (i : ℕ) (xs : List A) (n : ℕ × A) : Type 0 where
     pub number : ℕ

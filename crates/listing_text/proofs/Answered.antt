@@ -3,21 +3,21 @@
 use mathlib.Core.Path.{◌≡◌, sym, ap, ◌∙◌}
 use mathlib.Core.List.{List, ◌++◌}
 use mathlib.Core.Option.{none, some}
-use Prim.Native.Nat.{ℕ, ◌+◌, ◌*◌, ◌%◌, ◌≤◌, ◌<◌}
+use Prim.Native.Nat.{ℕ, ◌*◌, ◌≤◌}
 use native.Mathlib.Omega.{arith}
 use lib.Dec.{ltb, lt→ltb}
-use lib.ListN.{length, get_or, take, length-append}
+use lib.ListN.{length, take, length-append}
 use lib.Seq.{take-length, length-take-le}
 use Rattle.std.specs.Prelude.{Result, Ok, Err}
 use Rattle.spec.specs.Lists.{gather, span}
 use Rattle.spec.specs.Sheet.{class_count, total}
-use Rattle.spec.specs.Verdicts.{user_verdict, flat, flat_lines, flat_at, bytes_of, flat_rewritten}
+use Rattle.spec.specs.Verdicts.{verdict_bytes, user_verdict, flat, flat_lines, flat_at, flat_rewritten}
 use Rattle.spec.specs.Refusals.{present_refusal, judge_refusal}
 use Rattle.spec.specs.Promises.{Counts, counts_of, afterwards, cleared, judged_row, Judges}
 use Rattle.theory.proofs.Answers.{first_none}
 use Rattle.theory.proofs.Form.{accepted_sound}
 use Rattle.theory.proofs.Unrefused.{present_facts, facts_present}
-use Rattle.theory.proofs.FlatRow.{read_new, rewritten_length}
+use Rattle.theory.proofs.FlatRow.{at_new, rewritten_length}
 use Rattle.text.specs.Written.{Writes}
 use Rattle.text.specs.declared.Writer.{Writer}
 use Rattle.text.proofs.Digits.{decimal_length}
@@ -35,11 +35,11 @@ pub counts_short : (c : Counts) → length (counts_text c) ≤ 58
 unfolding counts_text classes_word faulted_word
 counts_short c = simp length-append (omega (arith, decimal_length c.classes, decimal_length c.faulted))
 
-lines_of : (verdicts : List ℕ) → length verdicts ≡ 512 → flat_lines verdicts ≡ listed_lines
+lines_of : (verdicts : List ℕ) → length verdicts ≡ verdict_bytes * listed_lines → flat_lines verdicts ≡ listed_lines
 unfolding flat_lines
 lines_of verdicts room = rw room
 
-module _ (library user : List ℕ) (used : ℕ) (verdicts scratch : List ℕ) (room : length verdicts ≡ 512) (judged : Result Counted Refusal) {verdicts' scratch' : List ℕ}
+module _ (library user : List ℕ) (used : ℕ) (verdicts scratch : List ℕ) (room : length verdicts ≡ verdict_bytes * listed_lines) (judged : Result Counted Refusal) {verdicts' scratch' : List ℕ}
     (j : Judges flat library user used verdicts scratch (answer_in counts_in judged) verdicts' scratch') where
   pub scratch_after_lem : scratch' ≡ afterwards (judge_refusal library user used listed_lines (length scratch)) scratch (cleared scratch)
   scratch_after_lem = j.scratch_is ∙ ap (λ (k : ℕ). afterwards (judge_refusal library user used k (length scratch)) scratch (cleared scratch)) (lines_of verdicts room)
@@ -89,24 +89,13 @@ module _ (library user : List ℕ) (used : ℕ) (verdicts scratch : List ℕ) (r
     unfolding total
     few = omega (arith, (accepted_sound library user used accepted_sheets).few)
 
-    byte_is : (i : ℕ) → i < class_count (take used user) → (k : ℕ) → k < 2 → get_or verdicts' (2 * i + k) 0 ≡ get_or (bytes_of (user_verdict library (take used user) i)) k 0
-    unfolding flat_lines
-    byte_is i h k l =
-        let q : (2 * i + k) % 2 ≡ k = omega arith in
-        ap (λ (r : List ℕ). get_or r (2 * i + k) 0) row_is
-        ∙ read_new (λ i. ltb i (class_count (take used user))) (user_verdict library (take used user)) verdicts i (omega (arith, few, room))
-        (lt→ltb i (class_count (take used user)) h) (2 * i + k) (omega arith)
-        ∙ ap (λ (m : ℕ). get_or (bytes_of (user_verdict library (take used user) i)) m 0) q
-
     pub row_holds : RowHolds library (take used user) verdicts'
-    unfolding flat_at bytes_of
     row_holds = record {
       long = ap length row_is ∙ rewritten_length _ _ verdicts ∙ room;
       verdicts = λ i h.
-          let zero : 2 * i ≡ 2 * i + 0 = omega arith in
-          let a = ap (λ (k : ℕ). get_or verdicts' k 0) zero ∙ byte_is i h 0 (omega arith) in
-          let b = byte_is i h 1 (omega arith) in
-          λ k. record { rule = a k; record_number = b k };
+          ap (λ (r : List ℕ). flat_at r i) row_is
+          ∙ at_new (λ j. ltb j (class_count (take used user))) (user_verdict library (take used user)) verdicts i (omega (arith, few, lines_of verdicts room))
+          (lt→ltb i (class_count (take used user)) h);
     }
 
     listed_text : counts_text (counts_in counts) ++ gather (line_text library (take used user)) (span 0 (class_count (take used user)))

@@ -10,7 +10,7 @@ use lib.Seq.{get_or-append-add}
 use Rattle.spec.specs.Lists.{gather, span}
 use Rattle.spec.specs.Record.{class_name}
 use Rattle.spec.specs.Sheet.{groups_of, class_count, group_start, group, class_record}
-use Rattle.spec.specs.Verdicts.{user_verdict, flat_at}
+use Rattle.spec.specs.Verdicts.{verdict_bytes, user_verdict, flat_at}
 use Rattle.theory.specs.Claims.{running}
 use Rattle.theory.proofs.Running.{begins}
 use Rattle.groups.proofs.Held.{class_fits}
@@ -32,13 +32,13 @@ unfolding group class_count
 user_group library sheet i = get_or-append-add (groups_of library) (groups_of sheet) i []
 
 module _ {sheet : List ℕ} {i : ℕ} (h : i < class_count sheet) where
-  pub line_short : {nlib : ℕ} → UserSheet nlib sheet → (library : List ℕ) → length (line_text library sheet i) ≤ 164
+  pub line_short : {nlib : ℕ} → UserSheet nlib sheet → (library : List ℕ) → length (line_text library sheet i) ≤ 185
   unfolding line_text line_of class_name
   line_short u library =
       let c = class_count library + i in
       let v = user_verdict library sheet i in
       let s : length (class_record (group library sheet c)) ≤ 112 = rw (user_group library sheet i) (class_fits u.clear i h).1 in
-      simp (length-append, length-drop) (omega (arith, decimal_length c, decimal_length v.rule, decimal_length v.record_number))
+      simp (length-append, length-drop) (omega (arith, decimal_length c, decimal_length v.rule, decimal_length v.record_number, decimal_length v.class))
 
   -- a line by what the code reads is that of the class, beside the library whose verdicts the row holds
   pub line_is : {nlib : ℕ} {verdicts : List ℕ} (library : List ℕ) → nlib ≡ class_count library → RowHolds library sheet verdicts
@@ -47,10 +47,11 @@ module _ {sheet : List ℕ} {i : ℕ} (h : i < class_count sheet) where
   line_is library en w = rw (en, w.verdicts i h, user_group library sheet i)
 
 -- the verdict's bytes as the code reads them
-pub line_read : (c : ℕ) (verdicts : List ℕ) (i : ℕ) {name name' : List ℕ} → name ≡ name' → {rule place : ℕ} → rule ≡ get_or verdicts (2 * i) 0 → place ≡ get_or verdicts (2 * i + 1) 0
-    → decimal c ++ (space ++ (name ++ (space ++ (decimal rule ++ (space ++ (decimal place ++ newline)))))) ≡ line_of c name' (flat_at verdicts i)
+pub line_read : (c : ℕ) (verdicts : List ℕ) (i : ℕ) {name name' : List ℕ} → name ≡ name' → {rule place class : ℕ}
+    → rule ≡ get_or verdicts (verdict_bytes * i) 0 → place ≡ get_or verdicts (verdict_bytes * i + 1) 0 → class ≡ get_or verdicts (verdict_bytes * i + 2) 0
+    → decimal c ++ (space ++ (name ++ (space ++ (decimal rule ++ (space ++ (decimal place ++ (space ++ (decimal class ++ newline)))))))) ≡ line_of c name' (flat_at verdicts i)
 unfolding line_of flat_at
-line_read c verdicts i e er ep = rw (e, er, ep)
+line_read c verdicts i e er ep ec = rw (e, er, ep, ec)
 
 -- ---- the lines
 
@@ -65,7 +66,7 @@ gather_last f k (suc m) =
 -- the first i lines are written, and `start` has run along to the i-th class
 pub record Lines (library sheet : List ℕ) (first writer : Writer) (i start : ℕ) : Type 0 where
   pub high : i ≤ class_count sheet
-  pub short : writer.at ≤ first.at + 164 * i
+  pub short : writer.at ≤ first.at + 185 * i
   pub reached : start ≡ running sheet i
   pub text : Writes first (gather (line_text library sheet) (span 0 i)) writer
 

@@ -41,9 +41,9 @@ counts_text c = classes_word ++ (decimal c.classes ++ (faulted_word ++ (decimal 
 unfoldable pub refusal_text : Refusal → List ℕ
 refusal_text r = refused_word ++ (decimal r.number ++ (sheet_word ++ (decimal r.sheet ++ (byte_word ++ (decimal r.byte ++ newline)))))
 
--- "per user class number, name, rule, place"
+-- "per user class number, name, rule, place"; 02, C-16: "prints the new number last"
 unfoldable pub line_of : ℕ → List ℕ → Verdict → List ℕ
-line_of c name v = decimal c ++ (space ++ (name ++ (space ++ (decimal v.rule ++ (space ++ (decimal v.record_number ++ newline))))))
+line_of c name v = decimal c ++ (space ++ (name ++ (space ++ (decimal v.rule ++ (space ++ (decimal v.record_number ++ (space ++ (decimal v.class ++ newline))))))))
 
 module _ (library user : List ℕ) where
   -- that of the i-th one

@@ -6,7 +6,7 @@ ghost use Rattle.std.proofs.Math.Option.{none};
 ghost use Rattle.spec.specs.Lists.{gather, span};
 ghost use Rattle.spec.specs.Record.{class_name};
 ghost use Rattle.spec.specs.Sheet.{groups_of, class_count, group_start, class_record};
-ghost use Rattle.spec.specs.Verdicts.{flat_at};
+ghost use Rattle.spec.specs.Verdicts.{verdict_bytes, flat_at};
 ghost use Rattle.spec.specs.Refusals.{present_refusal, judge_refusal};
 ghost use Rattle.spec.specs.Promises.{afterwards, cleared};
 ghost use Rattle.groups.specs.Sheets.{UserSheet};
@@ -51,19 +51,21 @@ fn counts_line(writer: &mut Writer, classes: usize, faulted: usize)
     writer.put(b'\n');
 }
 
-// The end of a class's line: rule and place.
+// The end of a class's line: rule, place, class.
 #[tactic(auto, using(text::proofs::Digits::decimal_length))]
-fn put_verdict(writer: &mut Writer, rule: usize, place: usize)
+fn put_verdict(writer: &mut Writer, rule: usize, place: usize, class: usize)
     requires { writer.old.at < 800000 }
-    ensures { Writes writer.old (decimal rule ++ (space ++ (decimal place ++ newline))) writer.new }
+    ensures { Writes writer.old (decimal rule ++ (space ++ (decimal place ++ (space ++ (decimal class ++ newline))))) writer.new }
 {
     writer.put_number(rule);
     writer.put(b' ');
     writer.put_number(place);
+    writer.put(b' ');
+    writer.put_number(class);
     writer.put(b'\n');
 }
 
-// The line of the i-th user class, whose group begins at `start`: number, name, rule, place.
+// The line of the i-th user class, whose group begins at `start`: number, name, rule, place, class.
 #[tactic(auto, using(text::proofs::Digits::decimal_length))]
 fn class_line(
     sheet: &[u8],
@@ -75,7 +77,7 @@ fn class_line(
 )
     requires user_sheet { UserSheet nlib sheet.now }
     requires group { (i < class_count sheet.now) × (start ≡ group_start sheet.now i) }
-    requires line { (2 * i + 1 < length verdicts.now) × (writer.old.at < 700000) }
+    requires line { (verdict_bytes * i + 2 < length verdicts.now) × (writer.old.at < 700000) }
     ensures { Writes writer.old
         (line_of (nlib + i) (class_name (class_record (get_or (groups_of sheet.now) i []))) (flat_at verdicts.now i))
         writer.new }
@@ -84,11 +86,12 @@ fn class_line(
     let name = &sheet[start + NAME_AT..end];
     let rule = usize::from(verdicts[VERDICT_BYTES * i]);
     let place = usize::from(verdicts[VERDICT_BYTES * i + 1]);
+    let class = usize::from(verdicts[VERDICT_BYTES * i + 2]);
     writer.put_number(nlib + i);
     writer.put(b' ');
     writer.put_bytes(name);
     writer.put(b' ');
-    put_verdict(writer, rule, place);
+    put_verdict(writer, rule, place, class);
 }
 
 // The lines of all user classes; `start` runs along from one group to the next, up to the sheet's end.

@@ -52,11 +52,6 @@ covers_itself g = record {
   references = λ a. a;
 }
 
--- where a record of a group stands
-pub member_place : {r : List ℕ} {g : Group} → Memᴰ r g → (k : ℕ) × At g k r
-member_place {r} (Memᴰ.head {x} {xs} e) = (0, subst (λ (y : List ℕ). At (x ∷ xs) 0 y) (sym e) here)
-member_place (Memᴰ.tail m) = let p = member_place m in (suc p.0, next p.1)
-
 -- ---- the records of a kind, where two groups have the same
 
 kind_member : (k : ℕ) (g h : Group) → of_kind k g ≡ of_kind k h → {r : List ℕ} → Memᴰ r g → T (is_kind k r) → Memᴰ r h

@@ -1,12 +1,17 @@
--- Each relation between classes goes over to groups that cover these ones, number by number. A record number may be another one.
+-- Each relation between classes goes over to groups that cover these ones, number by number. A record number may be another one, and so a place in the walk.
 -- Assumes nothing.
+use mathlib.Core.List.{List, [], ◌∷◌}
 use Prim.Native.Nat.{ℕ}
 use Rattle.spec.specs.Record.{Ty}
 use Rattle.spec.specs.Sheet.{Group}
 use Rattle.spec.specs.Relations.{Supertype, self, above, beside, Marked, own, given, Lineage, self as lineage_self, up, Root, Inside, direct, deeper, Chain, start, step, Captures}
-use Rattle.spec.specs.Breaks.{Flag, Satisfies, object, primitive, SlotShape, OwnSlot, instance, outer, captured, HasSlot, own as has_own, inherited}
-use Rattle.laws.proofs.Members.{at_in}
-use Rattle.meaning.proofs.Covers.{Covers, member_place}
+use Rattle.spec.specs.Breaks.{Flag, Satisfies, object, primitive, SlotShape, OwnSlot, outer, instance, captured, HasSlot, of}
+use Rattle.laws.proofs.Members.{at_in, in_at}
+use Rattle.meaning.proofs.Covers.{Covers}
+
+-- it holds somewhere, by place in the walk, class and record
+abbrev pub Somewhere : (List ℕ → ℕ → ℕ → Type 0) → Type 0
+Somewhere P = (w : List ℕ) × (d : ℕ) × (k : ℕ) × P w d k
 
 pub flag_over : {g h : Group} → Covers g h → {k : ℕ} → Flag k g → Flag k h
 flag_over o f = record { bytes = f.bytes; first = o.first f.first; set = f.set }
@@ -36,19 +41,18 @@ module _ (g h : ℕ → Group) (over : (c : ℕ) → Covers (g c) (h c)) where
   captures_over : {l d i : ℕ} → Captures g l d i → Captures h l d i
   captures_over c = record { last = c.last; chain = chain_over c.chain; uses = (over c.last).uses c.uses }
 
-  own_slot_over : {c k : ℕ} {s : SlotShape} → OwnSlot g c k s → (n : ℕ) × OwnSlot h c n s
-  own_slot_over {c} (instance a t f) = let p = member_place ((over c).field (at_in a) t) in (p.0, instance p.1 t f)
-  own_slot_over {c} (outer f e) = (0, outer (flag_over (over c) f) ((over c).encloser e))
-  own_slot_over (captured {d} v n) = let p = (over d).local n in (0, captured (captures_over v) p.1)
+  own_slot_over : {c d k : ℕ} {w : List ℕ} {s : SlotShape} → OwnSlot g c w d k s → Somewhere (λ w d k. OwnSlot h c w d k s)
+  own_slot_over {c} (outer f e) = (0 ∷ [], c, 0, outer (flag_over (over c) f) ((over c).encloser e))
+  own_slot_over {c} (instance a t f) = let p = in_at ((over c).field (at_in a) t) in (1 ∷ p.0 ∷ [], c, p.0, instance p.1 t f)
+  own_slot_over (captured {d} {i} v n) = let p = (over d).local n in (2 ∷ d ∷ i ∷ [], d, p.0, captured (captures_over v) p.1)
 
   module _ (nlib : ℕ) where
-    lineage_over : {c t : ℕ} → Lineage nlib g c t → Lineage nlib h c t
+    lineage_over : {c i t : ℕ} → Lineage nlib g c i t → Lineage nlib h c i t
     lineage_over lineage_self = lineage_self
     lineage_over (up {s} l u n) = up (lineage_over l) ((over s).superclass u) n
 
     pub root_over : {c d : ℕ} → Root nlib g c d → Root nlib h c d
-    root_over r = record { last = r.last; line = lineage_over r.line; above = (over r.last).superclass r.above; library = r.library }
+    root_over r = record { height = r.height; last = r.last; line = lineage_over r.line; above = (over r.last).superclass r.above; library = r.library }
 
-    pub slot_over : {c k : ℕ} {s : SlotShape} → HasSlot nlib g c k s → (n : ℕ) × HasSlot nlib h c n s
-    slot_over (has_own o) = let p = own_slot_over o in (p.0, has_own p.1)
-    slot_over (inherited l n o) = let p = own_slot_over o in (0, inherited (lineage_over l) n p.1)
+    pub slot_over : {c d k : ℕ} {w : List ℕ} {s : SlotShape} → HasSlot nlib g c w d k s → Somewhere (λ w d k. HasSlot nlib h c w d k s)
+    slot_over (of {h = i} l o) = let p = own_slot_over o in (i ∷ p.0, p.1, p.2, of (lineage_over l) p.3)

@@ -4,19 +4,21 @@ use mathlib.Core.Path.{◌≡◌, refl, sym, ap, ap₂, ◌∙◌, subst}
 use mathlib.Core.Logic.{◌↔◌}
 use mathlib.Core.Bool.{false, not}
 use mathlib.Core.List.{List, [], ◌∷◌, map, Memᴰ}
-use Prim.Native.Nat.{ℕ, zero, suc, ◌≤◌, ◌<◌}
+use Prim.Native.Nat.{ℕ, suc, ◌≤◌, ◌<◌}
+use native.Mathlib.Nat.{le_refl}
 use native.Mathlib.Omega.{arith}
 use lib.Dec.{T, not_T}
 use lib.ListN.{length, take, get_or, length-take}
 use Rattle.spec.specs.Lists.{any, keep, concat, elem, span}
 use Rattle.spec.specs.Record.{is_kind, kind_fits, target, index, CLASS, IMPLEMENTS, FIELD, LOCAL, USES, BUILDS, MEMBER, REFERS}
 use Rattle.spec.specs.Sheet.{Group, groups_of, class_record, of_kind}
-use Rattle.spec.specs.Relations.{At, here, next, Says, Uses}
+use Rattle.spec.specs.Relations.{Says, Uses}
 use Rattle.spec.specs.Refusals.{one_class, Accepted}
 use Rattle.spec.proofs.Also.{◌also◌}
 use Rattle.laws.proofs.All.{All, weaken, at_member, all_get, all_map, gather_cong}
-use Rattle.laws.proofs.Members.{at_in, keep_mem, mem_keep}
+use Rattle.laws.proofs.Members.{keep_mem, mem_keep}
 use Rattle.theory.proofs.Cut.{sheet_grouped, concat_concat}
+use Rattle.laws.proofs.Sorted.{sorted_at}
 use Rattle.theory.proofs.Form.{accepted_sound, one_record}
 use Rattle.theory.proofs.References.{by_kind_lem}
 use Rattle.meaning.specs.Canonical.{is_set, body_number, ascend, arranged, canonical_group, canonical}
@@ -257,16 +259,9 @@ module _ (s : List ℕ) (p : Fine (groups_of s)) where
 
 -- ---- the sets ascend, one record after the other
 
-after_first : (r : List ℕ) (rs : Group) (s : List ℕ) → Strict (r ∷ rs) → At rs 0 s → body_number r < body_number s
-after_first r rs s h a = at_member (λ x. body_number r < body_number x) rs h.0 (at_in a)
-
-row_ascends : (rs : Group) → Strict rs → (i : ℕ) (r s : List ℕ) → At rs i r → At rs (suc i) s → body_number r < body_number s
-row_ascends [] h i r s a b = elim a [ ]
-row_ascends (x ∷ rs) h zero r s here (next b) = after_first r rs s h b
-row_ascends (x ∷ rs) h (suc i) r s (next a) (next b) = row_ascends rs h.1 i r s a b
-
 form_ascends : (g : Group) → All Shaped g → Ascending (canonical_group g)
-form_ascends g p k t = row_ascends (of_kind k (canonical_group g)) (subst Strict (sym (row_of_form g p k t)) (ascend_strict (of_kind k g)))
+form_ascends g p k t i r s a b =
+    sorted_at (λ r s. body_number r < body_number s) a b (le_refl (suc i)) (subst Strict (sym (row_of_form g p k t)) (ascend_strict (of_kind k g)))
 
 none_ascends : Ascending []
 unfolding of_kind keep

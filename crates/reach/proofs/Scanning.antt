@@ -8,7 +8,6 @@ use mathlib.Core.List.{List, [], ◌∷◌, ◌++◌, Memᴰ}
 use Prim.Native.Nat.{ℕ, ◌+◌, ◌*◌, ◌≤◌, ◌<◌}
 use native.Mathlib.Omega.{arith}
 use lib.ListN.{length, get_or}
-use Rattle.std.proofs.lemmas.List.{get_or_default}
 use Rattle.spec.specs.Lists.{any, keep, gather}
 use Rattle.spec.specs.Record.{is_kind, BUILDS, target}
 use Rattle.spec.specs.Sheet.{Group, of_kind}
@@ -31,11 +30,11 @@ empty {l = y ∷ l} e m = omega arith
 -- ---- a class that has 0
 
 -- nothing is lower than 0
-settled_zero : (step : ℕ → List ℕ) (outer : ℕ → ℕ) (n : ℕ) {lanes m : ℕ} (s : List ℕ) → lanes ≡ 1 → m < length s → get_or s m 0 ≡ 0 → SettledAt step outer n lanes m s
+settled_zero : (step : ℕ → List ℕ) (outer : ℕ → ℕ) (n : ℕ) {lanes : ℕ} (m : ℕ) (s : List ℕ) → lanes ≡ 1 → get_or s m 65535 ≡ 0 → SettledAt step outer n lanes m s
 unfolding SettledAt Settled
-settled_zero step outer n {m = m} s e l z k t hk w ht b f =
+settled_zero step outer n m s e z k t hk w ht b f =
     let i : k * 256 + m ≡ m = omega arith in
-    omega (arith, ap (λ (j : ℕ). get_or s j 255) i, get_or_default s m 0 255 l)
+    omega (arith, ap (λ (j : ℕ). get_or s j 65535) i, z)
 
 -- ---- from classes, one after another
 
@@ -45,8 +44,8 @@ module _ {marks : List Bool} {n lanes m : ℕ} where
   drawn_none s = record { run = λ step outer p g. run_none s (λ k t h x. absurd (Memᴰ.not-nil x)) }
 
   -- m has 0, so no class has anything for it
-  pub drawn_zero : (ts s : List ℕ) → lanes ≡ 1 → m < length s → get_or s m 0 ≡ 0 → DrawnFrom ts marks n lanes m s s false
-  drawn_zero ts s e l z = record { run = λ step outer p g. run_none s (settled_zero (λ c. ts) outer n s e l z) }
+  pub drawn_zero : (ts s : List ℕ) → lanes ≡ 1 → get_or s m 65535 ≡ 0 → DrawnFrom ts marks n lanes m s s false
+  drawn_zero ts s e z = record { run = λ step outer p g. run_none s (settled_zero (λ c. ts) outer n m s e z) }
 
   pub drawn_one : {s s' : List ℕ} {t : ℕ} {r : Bool} → n ≤ 256 → m < n → lanes * 256 ≤ length s → s' ≡ drawn_lanes marks m t (lanes_of n lanes t) s
       → r ≡ drew_lanes marks m t (lanes_of n lanes t) s → DrawnFrom (t ∷ []) marks n lanes m s s' r
@@ -108,8 +107,8 @@ scanned g along {h = h} eh f right =
     run_only _ (f.run (steps_of g along) (outer_of g) (λ t x. rw same at x) right) (λ p k t l x. p k t l (rw (← same) at x))
 
 -- the class has 0 already
-pub visit_marked : {step : ℕ → List ℕ} {outer : ℕ → ℕ} {n lanes m : ℕ} (s : List ℕ) → lanes ≡ 1 → m < length s → get_or s m 0 ≡ 0 → Run step outer n lanes (SettledAt step outer n lanes m) s s false
-visit_marked {step} {outer} {n} s e l z = run_none s (settled_zero step outer n s e l z)
+pub visit_marked : {step : ℕ → List ℕ} {outer : ℕ → ℕ} {n lanes : ℕ} (m : ℕ) (s : List ℕ) → lanes ≡ 1 → get_or s m 65535 ≡ 0 → Run step outer n lanes (SettledAt step outer n lanes m) s s false
+visit_marked {step} {outer} {n} m s e z = run_none s (settled_zero step outer n m s e z)
 
 -- no record of a kind, as a count
 pub none_of_kind : (k : ℕ) (rs : Group) → any (is_kind k) rs ≡ false → length (of_kind k rs) ≡ 0

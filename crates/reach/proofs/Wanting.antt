@@ -1,24 +1,21 @@
--- A class none of whose named classes has a lower owner has nothing to draw.
+-- A class none of whose named classes has a lower entry has nothing to draw.
 -- Assumes nothing.
-use mathlib.Core.Path.{◌≡◌, refl, sym, ap, ap₂, ◌∙◌}
+use mathlib.Core.Path.{◌≡◌, refl, sym, ap, ◌∙◌}
 use mathlib.Core.Bool.{false, ◌&&◌}
 use mathlib.Core.List.{List, Memᴰ}
-use Prim.Native.Nat.{ℕ, ◌+◌, ◌*◌, ◌≤◌, ◌<◌}
+use Prim.Native.Nat.{ℕ, ◌≤◌, ◌<◌}
 use native.Mathlib.Nat.{zero-add}
-use native.Mathlib.Omega.{arith}
 use lib.Dec.{T, ltb}
-use lib.ListN.{get_or}
 use borrow.Author.Tests.{lt-ltb, le-ltb, ltb-false}
 use Rattle.std.specs.Prelude.{Bool, not}
 use Rattle.std.specs.List.{list_any, range_with_len}
-use Rattle.std.proofs.lemmas.List.{get_or_default}
 use Rattle.spec.specs.Lists.{any, span}
 use Rattle.spec.specs.Sheet.{Group}
 use Rattle.laws.proofs.Bools.{t_false, false_t}
-use Rattle.laws.proofs.All.{not_any, any_cong, at_member, at_span, below_span}
+use Rattle.laws.proofs.All.{not_any, at_member, at_span}
 use Rattle.records.proofs.Chains.{any_is, span_is}
 use Rattle.named.specs.declared.Along.{Along}
-use Rattle.lanes.specs.Lanes.{Room, entry_at, Settled, Run, SettledAt}
+use Rattle.lanes.specs.Lanes.{entry_at, Settled, Run, SettledAt}
 use Rattle.lanes.proofs.Runs.{run_none}
 use Rattle.reach.specs.Reach.{named_in, steps_of, offers}
 
@@ -27,10 +24,6 @@ use Rattle.reach.specs.Reach.{named_in, steps_of, offers}
 -- the lanes of a class
 abbrev pub lower_in : List ℕ → ℕ → ℕ → ℕ → Bool
 lower_in row m t k = ltb (entry_at row k t) (entry_at row k m)
-
--- the same, as bytes of the row
-abbrev pub lower_byte : List ℕ → ℕ → ℕ → ℕ → Bool
-lower_byte row m t k = ltb (get_or row (k * 256 + t) 0) (get_or row (k * 256 + m) 0)
 
 module _ (row : List ℕ) (n lanes m t : ℕ) where
   pub offers_past : n ≤ t → ltb t n ≡ offers row n lanes m t
@@ -41,12 +34,8 @@ module _ (row : List ℕ) (n lanes m t : ℕ) where
   unfolding offers
   offers_in h e = e ∙ sym (ap (λ (b : Bool). b && any (lower_in row m t) (span 0 lanes)) (lt-ltb t n h))
 
-  pub offers_read : Room n lanes row → m < n → t < n → {b : Bool} → b ≡ list_any (lower_byte row m t) (range_with_len 0 lanes) → b ≡ offers row n lanes m t
-  offers_read room hm ht e =
-      let at : (k : ℕ) → k < 0 + lanes → lower_byte row m t k ≡ lower_in row m t k = λ k l.
-      ap₂ ltb (get_or_default row (k * 256 + t) 0 255 (omega (arith, room.few, room.long, l, ht))) (get_or_default row (k * 256 + m) 0 255 (omega (arith, room.few, room.long, l, hm))) in
-      offers_in ht
-      (e ∙ any_is _ _ ∙ ap (any (lower_byte row m t)) (span_is 0 lanes) ∙ any_cong (λ k. k < 0 + lanes) (lower_byte row m t) (lower_in row m t) at (span 0 lanes) (below_span 0 lanes))
+  pub offers_read : t < n → {b : Bool} → b ≡ list_any (lower_in row m t) (range_with_len 0 lanes) → b ≡ offers row n lanes m t
+  offers_read ht e = offers_in ht (e ∙ any_is _ _ ∙ ap (any (lower_in row m t)) (span_is 0 lanes))
 
   offers_none : t < n → offers row n lanes m t ≡ false → (k : ℕ) → k < lanes → entry_at row k m ≤ entry_at row k t
   offers_none h e k hk =

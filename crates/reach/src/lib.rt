@@ -1,14 +1,15 @@
-// The search along what the records of both sheets name: each class draws the least owner that reaches it, until nothing changes.
+// The search along what the records of both sheets name: each class draws the least entry that reaches it, until nothing changes.
 #![tactic(auto)]
 
-ghost use Rattle.std.specs.Prelude.{◌≡◌, true, [], ◌≤◌, ◌<◌, length};
-ghost use Rattle.spec.specs.Lists.{any};
+ghost use Rattle.std.specs.Prelude.{◌≡◌, true, [], ◌≤◌, ◌<◌, map};
+ghost use Rattle.spec.specs.Lists.{any, span};
+ghost use Rattle.spec.specs.Verdicts.{depends_on};
 ghost use Rattle.sheets.specs.Sheets.{count, groups};
-ghost use Rattle.lanes.specs.Lanes.{Room, Enclosers, Run, SettledAt, AllSettled, SeedsFit, Least};
+ghost use Rattle.lanes.specs.Lanes.{words, Room, Enclosers, Run, SettledAt, AllSettled, SeedsFit, Least};
 ghost use Rattle.named.specs.Named.{named_by};
-ghost use Rattle.reach.specs.Reach.{named_in, steps_of, outer_of, lower_outer, DrawnFrom, offers, dependent_row};
+ghost use Rattle.reach.specs.Reach.{named_in, steps_of, outer_of, nearest, Outers, DrawnFrom, offers};
 
-use lanes::{EMPTY, Extent, LANE, draw_lanes, swept};
+use lanes::{ENTRY_BYTES, Extent, LANE, draw_lanes, entry, put, swept};
 use named::{Along, named_along};
 use records::CLASS_LIMIT;
 use records::group::Group;
@@ -17,26 +18,51 @@ use records::record::Record;
 use sheets::Sheets;
 use sheets::formed::Formed;
 
-// The encloser of class c, unless its number is not lower.
-fn outer(sheets: &Sheets, c: usize) -> Option<usize>
+// The encloser of class c, or c itself: where there is none, or one whose number is not lower.
+fn nearest(sheets: &Sheets, c: usize) -> usize
     requires { (c < count sheets.now) × (c ≤ 256) }
-    ensures { result ≡ lower_outer (groups sheets.now) c }
+    ensures { result ≡ nearest (groups sheets.now) c }
 {
-    sheets.group(c).head().encloser.filter(|e| *e < c)
+    match sheets.group(c).head().encloser {
+        Some(e) => e.min(c),
+        None => c,
+    }
 }
 
-/// Marks each encloser of class m.
-pub fn enclosers(sheets: &Sheets, m: usize) -> [bool; CLASS_LIMIT]
-    requires { (m < count sheets.now) × (m ≤ 256) }
-    ensures { Enclosers (outer_of (groups sheets.now)) m result }
-{
-    let mut marks = [false; CLASS_LIMIT];
-    let mut c = m;
-    while let Some(e) = outer(sheets, c) {
-        marks[e] = true;
-        c = e;
+/// Formed sheets, and the encloser of each class: a row, since a search climbs it again and again. A class without one has itself.
+#[derive(Drop)]
+pub struct Nest<'a> {
+    pub formed: &'a Formed<'a>,
+    outer: [u8; CLASS_LIMIT],
+    ghost read: { Outers formed.now.sheets outer },
+}
+
+impl<'a> Nest<'a> {
+    /// Reads each class's encloser once.
+    pub fn of(formed: &'a Formed<'a>) -> Nest<'a>
+        ensures { result.formed ≡ formed.entry }
+    {
+        let sheets = &formed.sheets;
+        let mut outer = [0; CLASS_LIMIT];
+        for (c, above) in outer[..sheets.count()].iter_mut().enumerate() {
+            *above = nearest(sheets, c) as u8;
+        }
+        Nest { formed, outer }
     }
-    marks
+
+    /// Marks each encloser of class m.
+    pub fn enclosers(&self, m: usize) -> [bool; CLASS_LIMIT]
+        requires { m < count self.now.formed.now.sheets }
+        ensures { Enclosers (outer_of (groups self.now.formed.now.sheets)) m result }
+    {
+        let mut marks = [false; CLASS_LIMIT];
+        let mut c = m;
+        while usize::from(self.outer[c]) < c {
+            c = usize::from(self.outer[c]);
+            marks[c] = true;
+        }
+        marks
+    }
 }
 
 // Class m draws along one record.
@@ -50,7 +76,7 @@ fn draw_record(
 ) -> bool
     requires room { Room extent.classes extent.lanes row.old }
     requires there { m < extent.classes }
-    ensures { DrawnFrom (named_by along record.now) marks.now extent.classes extent.lanes m row.old row.new result }
+    ensures { DrawnFrom (named_by along record.now) marks.now extent.classes extent.lanes m (words row.old) (words row.new) result }
 {
     let mut added = false;
     for t in named_along(record, along) {
@@ -70,41 +96,42 @@ fn scan(
 ) -> bool
     requires room { Room extent.classes extent.lanes row.old }
     requires there { m < extent.classes }
-    ensures { DrawnFrom (named_in along group.now) marks.now extent.classes extent.lanes m row.old row.new result }
+    ensures { DrawnFrom (named_in along group.now) marks.now extent.classes extent.lanes m (words row.old) (words row.new) result }
 {
     let mut added = false;
     for record in group.records() {
         added |= draw_record(&record, marks, along, extent, m, row);
-        if extent.lanes == 1 && row[m] == 0 {
+        if extent.lanes == 1 && entry(row, m) == 0 {
             return added;
         }
     }
     added
 }
 
-// Whether class t has in some lane a lower owner than m. A class that is not there has none.
+// Whether class t has in some lane a lower entry than m. A class that is not there has none.
 fn has_lower(row: &[u8], extent: Extent, m: usize, t: usize) -> bool
     requires room { Room extent.classes extent.lanes row.now }
     requires there { m < extent.classes }
-    ensures { result ≡ offers row.now extent.classes extent.lanes m t }
+    ensures { result ≡ offers (words row.now) extent.classes extent.lanes m t }
 {
-    t < extent.classes && (0..extent.lanes).any(|k| row[k * LANE + t] < row[k * LANE + m])
+    t < extent.classes
+        && (0..extent.lanes).any(|k| entry(row, k * LANE + t) < entry(row, k * LANE + m))
 }
 
-// Whether a record names a class that has in some lane a lower owner than m.
+// Whether a record names a class that has in some lane a lower entry than m.
 fn names_lower(record: &Record, along: Along, extent: Extent, m: usize, row: &[u8]) -> bool
     requires room { Room extent.classes extent.lanes row.now }
     requires there { m < extent.classes }
-    ensures { result ≡ any (offers row.now extent.classes extent.lanes m) (named_by along record.now) }
+    ensures { result ≡ any (offers (words row.now) extent.classes extent.lanes m) (named_by along record.now) }
 {
     named_along(record, along).any(|t| has_lower(row, extent, m, t))
 }
 
-// Whether class m, whose records these are, names a class that has in some lane a lower owner.
+// Whether class m, whose records these are, names a class that has in some lane a lower entry.
 fn wants(group: &Group, along: Along, extent: Extent, m: usize, row: &[u8]) -> bool
     requires room { Room extent.classes extent.lanes row.now }
     requires there { m < extent.classes }
-    ensures { result ≡ any (offers row.now extent.classes extent.lanes m) (named_in along group.now) }
+    ensures { result ≡ any (offers (words row.now) extent.classes extent.lanes m) (named_in along group.now) }
 {
     group
         .records()
@@ -123,63 +150,69 @@ fn steps_nowhere(sheets: &Sheets, along: Along, m: usize) -> bool
 }
 
 // Class m draws along all that its records name, unless there is nothing to draw: in a single lane nothing is lower than 0; a class may have no step;
-// or nothing named has a lower owner. Only then its enclosers are looked up.
-fn visit(sheets: &Sheets, along: Along, extent: Extent, m: usize, row: &mut [u8]) -> bool
-    requires count { extent.classes ≡ count sheets.now }
+// or nothing named has a lower entry. Only then its enclosers are looked up.
+fn visit(nest: &Nest, along: Along, extent: Extent, m: usize, row: &mut [u8]) -> bool
+    requires count { extent.classes ≡ count nest.now.formed.now.sheets }
     requires room { Room extent.classes extent.lanes row.old }
     requires there { m < extent.classes }
-    ensures { Run (steps_of (groups sheets.now) along) (outer_of (groups sheets.now)) extent.classes extent.lanes
-        (SettledAt (steps_of (groups sheets.now) along) (outer_of (groups sheets.now)) extent.classes extent.lanes m) row.old row.new result }
+    ensures { Run (steps_of (groups nest.now.formed.now.sheets) along) (outer_of (groups nest.now.formed.now.sheets)) extent.classes extent.lanes
+        (SettledAt (steps_of (groups nest.now.formed.now.sheets) along) (outer_of (groups nest.now.formed.now.sheets)) extent.classes extent.lanes m) (words row.old) (words row.new) result }
 {
-    if extent.lanes == 1 && row[m] == 0 {
+    if extent.lanes == 1 && entry(row, m) == 0 {
         return false;
     }
-    if steps_nowhere(sheets, along, m) {
+    if steps_nowhere(&nest.formed.sheets, along, m) {
         return false;
     }
-    let group = sheets.group(m);
+    let group = nest.formed.sheets.group(m);
     if !wants(&group, along, extent, m, row) {
         return false;
     }
-    let marks = enclosers(sheets, m);
+    let marks = nest.enclosers(m);
     scan(&group, &marks, along, extent, m, row)
 }
 
 // Each class draws once, in rising or in falling order.
-fn sweep(sheets: &Sheets, along: Along, extent: Extent, up: bool, row: &mut [u8]) -> bool
-    requires count { extent.classes ≡ count sheets.now }
+fn sweep(nest: &Nest, along: Along, extent: Extent, up: bool, row: &mut [u8]) -> bool
+    requires count { extent.classes ≡ count nest.now.formed.now.sheets }
     requires room { Room extent.classes extent.lanes row.old }
-    ensures { Run (steps_of (groups sheets.now) along) (outer_of (groups sheets.now)) extent.classes extent.lanes
-        (AllSettled (steps_of (groups sheets.now) along) (outer_of (groups sheets.now)) extent.classes extent.lanes) row.old row.new result }
+    ensures { Run (steps_of (groups nest.now.formed.now.sheets) along) (outer_of (groups nest.now.formed.now.sheets)) extent.classes extent.lanes
+        (AllSettled (steps_of (groups nest.now.formed.now.sheets) along) (outer_of (groups nest.now.formed.now.sheets)) extent.classes extent.lanes) (words row.old) (words row.new) result }
 {
     let mut added = false;
     for i in 0..extent.classes {
         let m = swept(up, extent.classes, i);
-        added |= visit(sheets, along, extent, m, row);
+        added |= visit(nest, along, extent, m, row);
     }
     added
 }
 
 /// Sweeps to and fro until nothing changes.
-pub fn close(sheets: &Sheets, along: Along, lanes: usize, row: &mut [u8])
-    requires room { Room (count sheets.now) lanes row.old }
-    requires seeds_fit { SeedsFit (outer_of (groups sheets.now)) (count sheets.now) lanes row.old }
-    ensures { Least (steps_of (groups sheets.now) along) (outer_of (groups sheets.now)) (count sheets.now) lanes row.old row.new }
+pub fn close(nest: &Nest, along: Along, lanes: usize, row: &mut [u8])
+    requires room { Room (count nest.now.formed.now.sheets) lanes row.old }
+    requires seeds_fit { SeedsFit (outer_of (groups nest.now.formed.now.sheets)) (count nest.now.formed.now.sheets) lanes (words row.old) }
+    ensures { Least (steps_of (groups nest.now.formed.now.sheets) along) (outer_of (groups nest.now.formed.now.sheets)) (count nest.now.formed.now.sheets) lanes (words row.old) (words row.new) }
 {
-    let classes = sheets.count();
+    let classes = nest.formed.sheets.count();
     let extent = Extent { classes, lanes };
     let mut up = true;
-    while sweep(sheets, along, extent, up, row) {
+    while sweep(nest, along, extent, up, row) {
         up = !up;
     }
 }
 
-/// Writes 0 at each class that depends on d, 255 at the others.
-pub fn dependents(formed: &Formed, d: usize, row: &mut [u8])
-    requires { (d < count formed.now.sheets) × (256 ≤ length row.old) }
-    ensures { row.new ≡ dependent_row formed.now.sheets.library formed.now.sheets.user d row.old }
+/// Marks each class that depends on d. Its rows are not to lie in the frame of the judging that comes after it.
+#[inline(never)]
+pub fn dependents(formed: &Formed, d: usize) -> [bool; CLASS_LIMIT]
+    requires { d < count formed.now.sheets }
+    ensures { result ≡ map (depends_on formed.now.sheets.library formed.now.sheets.user d) (span 0 256) }
 {
-    row[..CLASS_LIMIT].fill(EMPTY);
-    row[d] = 0;
-    close(&formed.sheets, Along::Every, 1, row);
+    let mut row = [u8::MAX; LANE * ENTRY_BYTES];
+    put(&mut row, d, 0);
+    close(&Nest::of(formed), Along::Every, 1, &mut row);
+    let mut marks = [false; CLASS_LIMIT];
+    for (c, mark) in marks.iter_mut().enumerate() {
+        *mark = entry(&row, c) == 0;
+    }
+    marks
 }

@@ -82,7 +82,7 @@ pub const CLASS_LIMIT: usize = 256;
 pub const RECORD_LIMIT: usize = 255;
 
 // A verdict in the flat row, and the scratch that a call takes.
-pub const VERDICT_BYTES: usize = 2;
+pub const VERDICT_BYTES: usize = 3;
 
 pub const SCRATCH_BYTES: usize = 65536;
 

@@ -1,18 +1,17 @@
--- The classes that a rule asks, one after the other: from the superclass up to the root, and at last the class itself.
+-- The classes that a rule asks, one after the other: the class itself, and under rules 7 to 10 its superclasses up to the root.
 -- Assumes nothing.
 use mathlib.Core.Path.{◌≡◌, refl, sym, ap, ap₂, ◌∙◌, subst}
 use mathlib.Core.Logic.{◌⊎◌, inl, inr}
-use mathlib.Core.Bool.{Bool, true, false, not}
-use mathlib.Core.List.{List, [], ◌∷◌, ◌++◌, append-nil}
-use Prim.Native.Nat.{ℕ, ◌+◌, ◌≤◌, ◌<◌}
+use mathlib.Core.Bool.{true, not}
+use mathlib.Core.List.{List, [], ◌∷◌, ◌++◌}
+use Prim.Native.Nat.{ℕ, suc, ◌≤◌, ◌<◌}
 use native.Mathlib.Omega.{arith}
-use lib.Dec.{T, eqb, ltb, ltb→lt, nltb→le}
-use borrow.Author.Tests.{eq-eqb, ne_eqb, lt-ltb, le-ltb}
+use lib.Dec.{T, ltb, ltb→lt, nltb→le}
+use borrow.Author.Tests.{ne_eqb, lt-ltb, le-ltb}
 use Rattle.std.specs.Prelude.{Option, None, Some, IfSome}
-use Rattle.spec.specs.Lists.{gather, only_if}
 use Rattle.spec.specs.Record.{superclass}
 use Rattle.spec.specs.Sheet.{Group, class_record, is_interface}
-use Rattle.spec.specs.Classes.{superclasses, has_marker, lineage, root}
+use Rattle.spec.specs.Classes.{has_marker, lineage, root}
 use Rattle.spec.specs.Rules.{judged_for}
 use Rattle.laws.proofs.Bools.{decide, true_t, and_l}
 use Rattle.theory.proofs.Lines.{lineage_library, root_library}
@@ -21,30 +20,26 @@ use Rattle.records.specs.Kinds.{optional}
 use Rattle.slots.specs.declared.Late.{Late as LateRule}
 use Rattle.slots.specs.Slots.{rule_marker}
 use Rattle.breaks.specs.declared.rule.Rule.{Rule}
-use Rattle.breaks.specs.declared.rule.Rule.TheVariants.{Classes, Members, Reserved, Clash, Statics, LetsOut, Late}
-use Rattle.rules.specs.Walk.{above, order, afterward, first_class, next_class, classes_from}
+use Rattle.breaks.specs.declared.rule.Rule.TheVariants.{Late}
+use Rattle.breaks.proofs.LateRules.{EarlyOrLate, early_or_late}
+use Rattle.rules.specs.Walk.{applies, above, order, afterward, next_class, classes_from}
 use Rattle.rules.proofs.Ground.{Ground}
 
--- where the walk may stand: at a class above c, at c itself, or past the end
-abbrev pub Spot : (ℕ → Group) → ℕ → Option ℕ → Type 0
-Spot g c None = Unit {0}
-Spot g c (Some t) = ((t < c) × T (not (is_interface (g t)))) ⊎ (t ≡ c)
+-- where the walk may stand: at a class that is there, under rules 7 to 10 at one that is no interface
+pub record Spot (n : ℕ) (g : ℕ → Group) (rule : Rule) (t : ℕ) : Type 0 where
+  pub there : t < n
+  pub concrete : (l : LateRule) → rule ≡ Late l → T (not (is_interface (g t)))
 
--- a measure of what is left: a class above c, c itself, nothing
-abbrev pub left : ℕ → Option ℕ → ℕ
-left c None = 0
-left c (Some t) = elim (eqb t c) as (λ (b : Bool). ℕ) [ true ↦ 1 | false ↦ t + 2 ]
+-- a measure of what is left: class numbers fall
+abbrev pub rank : Option ℕ → ℕ
+rank None = 0
+rank (Some t) = suc t
 
 -- the walk goes from class t to the next one
-pub record Onward (nlib : ℕ) (g : ℕ → Group) (c t : ℕ) (next : Option ℕ) : Type 0 where
-  pub rest : afterward nlib g c t ≡ classes_from nlib g c next
-  pub spot : Spot g c next
-  pub less : left c next < left c (Some t)
-
--- it begins at a class
-pub record Begins (nlib : ℕ) (g : ℕ → Group) (rule : Rule) (c : ℕ) (first : Option ℕ) : Type 0 where
-  pub all : order nlib g rule c ≡ classes_from nlib g c first
-  pub spot : Spot g c first
+pub record Onward (nlib n : ℕ) (g : ℕ → Group) (rule : Rule) (t : ℕ) (next : Option ℕ) : Type 0 where
+  pub rest : afterward nlib g rule t ≡ classes_from nlib g rule next
+  pub spot : IfSome next (λ u. Spot n g rule u)
+  pub less : rank next < suc t
 
 optional_is : (x : ℕ) → x < 65535 → optional x ≡ Some x
 optional_is x h = rw (ne_eqb x 65535 (λ e. omega arith), optional)
@@ -57,94 +52,58 @@ module _ {nlib n : ℕ} {g : ℕ → Group} (w : Ground nlib n g) where
   pub super_is : {t : ℕ} → Super g t → t < n → optional (sup t) ≡ Some (sup t)
   super_is {t} u l = optional_is (sup t) (omega (arith, u.lower, w.few))
 
-  above_up : (c t : ℕ) → nlib ≤ t → Super g t → above nlib g c t ≡ t ∷ above nlib g c (sup t)
+  pub above_up : (t : ℕ) → nlib ≤ t → Super g t → above nlib g t ≡ t ∷ above nlib g (sup t)
   unfolding above
-  above_up c t h u = ap₂ (λ (a b : List ℕ). a ++ (b ++ (c ∷ []))) (lineage_up nlib g w.falls t h u) (root_up nlib g w.falls t h u)
+  above_up t h u = ap₂ (λ (a b : List ℕ). a ++ b) (lineage_up nlib g w.falls t h u) (root_up nlib g w.falls t h u)
 
-  above_library : (c t : ℕ) → t < nlib → above nlib g c t ≡ t ∷ c ∷ []
+  above_library : (t : ℕ) → t < nlib → above nlib g t ≡ t ∷ []
   unfolding above lineage root
-  above_library c t h = ap₂ (λ (a b : List ℕ). a ++ (b ++ (c ∷ []))) (lineage_library nlib g w.falls t t h) (root_library nlib g w.falls t t h)
+  above_library t h = ap₂ (λ (a b : List ℕ). a ++ b) (lineage_library nlib g w.falls t t h) (root_library nlib g w.falls t t h)
 
-  module _ {c : ℕ} (user : nlib ≤ c) (there : c < n) where
-    pub below : (o : Option ℕ) → Spot g c o → IfSome o (λ t. t < n)
-    below None s = tt
-    below (Some t) (inl h) = omega (arith, h.0)
-    below (Some t) (inr e) = omega arith
+  -- what is above a class, as the walk goes
+  pub above_from : (rule : LateRule) {t : ℕ} → t < n → T (not (is_interface (g t))) → above nlib g t ≡ classes_from nlib g (Late rule) (Some t)
+  above_from rule {t} h k = go (decide (ltb t nlib))
+    where
+      go : T (ltb t nlib) ⊎ T (not (ltb t nlib)) → above nlib g t ≡ classes_from nlib g (Late rule) (Some t)
+      go (inl x) = let l = ltb→lt t nlib x in above_library t l ∙ rw (lt-ltb t nlib l, afterward)
+      go (inr x) = let l = nltb→le t nlib x in above_up t l (w.supers t l h k) ∙ rw (le-ltb t nlib l, afterward)
 
-    pub after_self : afterward nlib g c c ≡ []
-    unfolding afterward
-    after_self = rw (eq-eqb c c refl, afterward)
+  late_onward : (rule : LateRule) {t : ℕ} → Spot n g (Late rule) t → Onward nlib n g (Late rule) t (next_class nlib (Late rule) t (g t))
+  late_onward rule {t} s = go (decide (ltb t nlib))
+    where
+      go : T (ltb t nlib) ⊎ T (not (ltb t nlib)) → Onward nlib n g (Late rule) t (next_class nlib (Late rule) t (g t))
+      go (inl x) = rw (lt-ltb t nlib (ltb→lt t nlib x), next_class) (record { rest = rw (lt-ltb t nlib (ltb→lt t nlib x), afterward); spot = tt; less = omega arith })
+      go (inr x) =
+          let l = nltb→le t nlib x in
+          let u = w.supers t l s.there (s.concrete rule refl) in
+          let lower : sup t < n = omega (arith, u.lower, s.there) in
+          rw (le-ltb t nlib l, super_is u s.there, next_class)
+          (record {
+            rest = rw (le-ltb t nlib l, afterward) (above_from rule lower u.concrete);
+            spot = record { there = lower; concrete = λ r e. u.concrete };
+            less = omega (arith, u.lower);
+          })
 
-    pub own_from : classes_from nlib g c (Some c) ≡ c ∷ []
-    own_from = ap (λ (l : List ℕ). c ∷ l) after_self
+  pub onward : (rule : Rule) {t : ℕ} → Spot n g rule t → Onward nlib n g rule t (next_class nlib rule t (g t))
+  onward rule {t} s = go (early_or_late rule)
+    where
+      go : EarlyOrLate rule → Onward nlib n g rule t (next_class nlib rule t (g t))
+      go (inl q) = rw (q, next_class) (record { rest = rw (q, afterward) refl; spot = tt; less = omega arith })
+      go (inr (late, q)) = subst (λ (r : Rule). Onward nlib n g r t (next_class nlib r t (g t))) (sym q) (late_onward late (subst (λ (r : Rule). Spot n g r t) q s))
 
-    after_library : {t : ℕ} → t < c → t < nlib → afterward nlib g c t ≡ c ∷ []
-    unfolding afterward
-    after_library {t} h l = rw (ne_eqb t c (λ e. omega arith), lt-ltb t nlib l, afterward)
-
-    after_user : {t : ℕ} → t < c → nlib ≤ t → afterward nlib g c t ≡ above nlib g c (sup t)
-    unfolding afterward
-    after_user {t} h l = rw (ne_eqb t c (λ e. omega arith), le-ltb t nlib l, afterward)
-
-    pub above_from : {t : ℕ} → t < c → T (not (is_interface (g t))) → above nlib g c t ≡ classes_from nlib g c (Some t)
-    above_from {t} h k = go (decide (ltb t nlib))
-      where
-        go : T (ltb t nlib) ⊎ T (not (ltb t nlib)) → above nlib g c t ≡ t ∷ afterward nlib g c t
-        go (inl x) = let l = ltb→lt t nlib x in above_library c t l ∙ ap (λ (l : List ℕ). t ∷ l) (sym (after_library h l))
-        go (inr x) = let l = nltb→le t nlib x in above_up c t l (w.supers t l (omega arith) k) ∙ ap (λ (l : List ℕ). t ∷ l) (sym (after_user h l))
-
-    pub left_self : left c (Some c) ≡ 1
-    left_self = rw (eq-eqb c c refl, left)
-
-    pub left_up : {t : ℕ} → t < c → left c (Some t) ≡ t + 2
-    left_up {t} h = rw (ne_eqb t c (λ e. omega arith), left)
-
-    pub onward : {t : ℕ} → Spot g c (Some t) → Onward nlib g c t (next_class nlib c t (g t))
-    unfolding next_class
-    onward {t} (inr e) =
-        subst (λ (x : ℕ). Onward nlib g c x (next_class nlib c x (g x))) (sym e)
-        (rw (eq-eqb c c refl, next_class) (record { rest = after_self; spot = tt; less = omega (arith, left_self) }))
-    onward {t} (inl h) = go (decide (ltb t nlib))
-      where
-        go : T (ltb t nlib) ⊎ T (not (ltb t nlib)) → Onward nlib g c t (next_class nlib c t (g t))
-        go (inl x) =
-            let l = ltb→lt t nlib x in
-            rw (ne_eqb t c (λ e. omega (arith, h.0)), lt-ltb t nlib l, next_class)
-            (record { rest = after_library h.0 l ∙ sym own_from; spot = inr refl; less = omega (arith, left_self, left_up h.0) })
-        go (inr x) =
-            let l = nltb→le t nlib x in
-            let u = w.supers t l (omega (arith, h.0)) h.1 in
-            let lower : sup t < c = omega (arith, u.lower, h.0) in
-            rw (ne_eqb t c (λ e. omega (arith, h.0)), le-ltb t nlib l, super_is u (omega (arith, h.0)), next_class)
-            (record { rest = after_user h.0 l ∙ above_from lower u.concrete; spot = inl (lower, u.concrete); less = omega (arith, left_up h.0, left_up lower, u.lower) })
-
-    -- a rule that asks slots
-    pub judged_super : (rule : LateRule) → judged_for g (rule_marker rule) c ≡ true → Super g c
+  module _ {c : ℕ} (there : c < n) where
+    -- a rule that asks slots asks no interface
+    pub asked_concrete : (rule : LateRule) → applies g (Late rule) c ≡ true → T (not (is_interface (g c)))
     unfolding judged_for
-    judged_super rule e = w.supers c user there (and_l (not (is_interface (g c))) (has_marker g (rule_marker rule) c) (true_t e))
+    asked_concrete rule e = and_l (not (is_interface (g c))) (has_marker g (rule_marker rule) c) (true_t e)
 
-    pub begins : (rule : Rule) → Begins nlib g rule c (first_class g rule c)
-    unfolding only_if gather
-    begins Classes = record { all = sym own_from; spot = inr refl }
-    begins Members = record { all = sym own_from; spot = inr refl }
-    begins Reserved = record { all = sym own_from; spot = inr refl }
-    begins Clash = record { all = sym own_from; spot = inr refl }
-    begins Statics = record { all = sym own_from; spot = inr refl }
-    begins LetsOut = record { all = sym own_from; spot = inr refl }
-    begins (Late rule) = go (judged_for g (rule_marker rule) c) refl
+    pub first_spot : (rule : Rule) → applies g rule c ≡ true → Spot n g rule c
+    first_spot rule e = record { there = there; concrete = λ r q. asked_concrete r (ap (λ (x : Rule). applies g x c) (sym q) ∙ e) }
+
+    -- the walk begins at the class itself
+    pub begins : (rule : Rule) → applies g rule c ≡ true → order nlib g rule c ≡ classes_from nlib g rule (Some c)
+    begins rule = go (early_or_late rule)
       where
-        first : (b : Bool) → Option ℕ
-        first b = elim b as (λ (_ : Bool). Option ℕ) [ true ↦ optional (sup c) | false ↦ None ]
-
-        from : (b : Bool) → judged_for g (rule_marker rule) c ≡ b
-            → only_if (judged_for g (rule_marker rule) c) (gather (above nlib g c) (superclasses (g c))) ≡ only_if b (gather (above nlib g c) (superclasses (g c)))
-        from b e = ap (λ (x : Bool). only_if x (gather (above nlib g c) (superclasses (g c)))) e
-
-        go : (b : Bool) → judged_for g (rule_marker rule) c ≡ b → Begins nlib g (Late rule) c (first_class g (Late rule) c)
-        go true e =
-            let u = judged_super rule e in
-            subst (Begins nlib g (Late rule) c) (sym (ap first e ∙ super_is u there)) (record {
-              all = from true e ∙ ap (gather (above nlib g c)) u.only ∙ append-nil (above nlib g c (sup c)) ∙ above_from u.lower u.concrete;
-              spot = inl (u.lower, u.concrete);
-            })
-        go false e = subst (Begins nlib g (Late rule) c) (sym (ap first e)) (record { all = from false e; spot = tt })
+        go : EarlyOrLate rule → applies g rule c ≡ true → order nlib g rule c ≡ classes_from nlib g rule (Some c)
+        go (inl q) e = rw (q, order, afterward) refl
+        go (inr (late, q)) e = rw q (above_from late there (asked_concrete late (rw q at e)))

@@ -1,8 +1,7 @@
 pub mod Ground
 pub mod Ascent
-pub mod Hits
 pub mod Stepping
-pub mod Slotted
+pub mod Finding
 pub mod Verdicts
 pub mod Judging
 pub mod Keeping

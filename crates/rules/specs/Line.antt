@@ -7,4 +7,4 @@ use Rattle.rules.specs.declared.Fault.{Fault}
 
 abbrev pub line_of : Option Fault → Verdict
 line_of None = clean
-line_of (Some f) = record { rule = number_of f.rule; record_number = f.record }
+line_of (Some f) = record { rule = number_of f.rule; record_number = f.site.number; class = f.site.class }

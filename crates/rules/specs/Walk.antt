@@ -1,24 +1,27 @@
--- The judging of one class as a walk over rules, classes and records: the classes that a rule asks, and the records that it asks of each of them.
+-- The judging of one class as a walk over rules, classes and records: the classes that a rule asks, and what it finds in each of them.
 -- Assumes nothing.
-use Rattle.std.specs.Prelude.{◌≡◌, Bool, true, false, not, ◌||◌, Option, None, Some, List, [], ◌∷◌, ◌++◌, map, ℕ, ◌<◌, T, eqb, ltb, get_or, take}
+use Rattle.std.specs.Prelude.{◌≡◌, Bool, true, false, ◌||◌, Option, None, Some, List, [], ◌∷◌, ◌++◌, map, ℕ, ltb, get_or, length, take}
 use Rattle.spec.specs.Lists.{keep, gather, numbered, only_if}
-use Rattle.spec.specs.Record.{superclass}
-use Rattle.spec.specs.Sheet.{Group, class_record, is_interface}
-use Rattle.spec.specs.Classes.{superclasses, lineage, root}
-use Rattle.spec.specs.Rules.{Fault, judged_for}
+use Rattle.spec.specs.Record.{bit, superclass}
+use Rattle.spec.specs.Sheet.{Group, class_record}
+use Rattle.spec.specs.Classes.{lineage, root}
+use Rattle.spec.specs.Rules.{Fault, fault_if, judged_for}
 use Rattle.records.specs.Kinds.{optional}
-use Rattle.sheets.specs.Sheets.{Pair, count, groups, library_count}
 use Rattle.slots.specs.declared.Late.{Late as LateRule}
-use Rattle.slots.specs.declared.Late.TheVariants.{Immutable, Powerless, Selfless, DeepSelfless}
 use Rattle.slots.specs.Slots.{rule_marker}
 use Rattle.breaks.specs.declared.rule.TheConstants.{RULES}
 use Rattle.breaks.specs.declared.rule.Rule.{Rule}
-use Rattle.breaks.specs.declared.rule.Rule.TheVariants.{Classes, Members, Reserved, Clash, Statics, LetsOut, Late}
-use Rattle.breaks.specs.Breaking.{asks_first, breaks_at, line_breaks}
+use Rattle.breaks.specs.declared.rule.Rule.TheVariants.{Classes, Late}
+use Rattle.breaks.specs.Breaking.{late_of, asks_first, breaks_at}
+use Rattle.breaks.specs.Beyond.{captured_at, base_at}
 
 -- the rules in their order, counted from 0
 abbrev pub rule_at : ℕ → Rule
 rule_at i = get_or RULES i Classes
+
+-- the rule asks class c
+abbrev pub applies : (ℕ → Group) → Rule → ℕ → Bool
+applies g rule c = elim (late_of rule) [ None ↦ true | Some late ↦ judged_for g (rule_marker late) c ]
 
 -- the CLASS record alone is asked: of the root, and by rules 3, 4 and 6
 unfoldable pub only_first : ℕ → Rule → ℕ → Bool
@@ -29,90 +32,65 @@ unfoldable pub asked_of : ℕ → Rule → ℕ → Group → Group
 asked_of nlib rule t rs = elim (only_first nlib rule t) [ true ↦ take 1 rs | false ↦ rs ]
 
 module _ (nlib : ℕ) (g : ℕ → Group) where
-  -- ---- the records of one class
+  -- ---- one class
 
   abbrev pub asked : Rule → ℕ → Group
   asked rule t = asked_of nlib rule t (g t)
 
   -- those of some records, the first with number k, that break the rule
-  unfoldable pub found_in : Rule → ℕ → ℕ → ℕ → Group → List Fault
-  found_in rule c t k rs = map (λ n. record { class = t; record_number = n.0 }) (keep (λ n. breaks_at nlib g rule c t n.0 n.1) (numbered k rs))
+  unfoldable pub found_in : Rule → ℕ → ℕ → Group → List Fault
+  found_in rule t k rs = map (λ n. record { class = t; record_number = n.0 }) (keep (λ n. breaks_at nlib g rule t n.0 n.1) (numbered k rs))
 
-  unfoldable pub found : Rule → ℕ → ℕ → List Fault
-  found rule c t = found_in rule c t 0 (asked rule t)
+  -- its records, then its captured variables
+  unfoldable pub found : Rule → ℕ → List Fault
+  found rule t = found_in rule t 0 (asked rule t) ++ captured_at nlib g rule t
 
   -- ---- the classes
 
-  -- class t and its superclasses up to the root, and at last c itself
-  unfoldable pub above : ℕ → ℕ → List ℕ
-  above c t = lineage nlib g t ++ (root nlib g t ++ (c ∷ []))
+  -- class t and its superclasses up to the root
+  unfoldable pub above : ℕ → List ℕ
+  above t = lineage nlib g t ++ root nlib g t
 
-  -- the classes that a rule asks in the judging of c: inherited faults stand at record 0, so its superclasses come first
+  -- the classes that a rule asks in the judging of c: "own class, then upward"
   abbrev pub order : Rule → ℕ → List ℕ
-  order Classes c = c ∷ []
-  order Members c = c ∷ []
-  order Reserved c = c ∷ []
-  order Clash c = c ∷ []
-  order Statics c = c ∷ []
-  order LetsOut c = c ∷ []
-  order (Late rule) c = only_if (judged_for g (rule_marker rule) c) (gather (above c) (superclasses (g c)))
+  order rule c = elim (late_of rule) as (λ (_ : Option LateRule). List ℕ) [ None ↦ c ∷ [] | Some late ↦ above c ]
 
   -- what comes after class t
-  unfoldable pub afterward : ℕ → ℕ → List ℕ
-  afterward c t = elim (eqb t c) [ true ↦ [] | false ↦ elim (ltb t nlib) [ true ↦ c ∷ [] | false ↦ above c (superclass (class_record (g t))) ] ]
-
-  unfoldable pub walked : Rule → ℕ → List Fault
-  walked rule c = gather (found rule c) (order rule c)
+  abbrev pub afterward : Rule → ℕ → List ℕ
+  afterward rule t = elim (late_of rule) as (λ (_ : Option LateRule). List ℕ) [
+    | None ↦ []
+    | Some late ↦ elim (ltb t nlib) [ true ↦ [] | false ↦ above (superclass (class_record (g t))) ]
+  ]
 
   -- class t, if there is one, and what comes after it
-  abbrev pub classes_from : ℕ → Option ℕ → List ℕ
-  classes_from c None = []
-  classes_from c (Some t) = t ∷ afterward c t
+  abbrev pub classes_from : Rule → Option ℕ → List ℕ
+  classes_from rule None = []
+  classes_from rule (Some t) = t ∷ afterward rule t
 
--- ---- one class after the other
+  -- "a fault of rule 9's second part .. comes last"
+  abbrev pub last : Rule → ℕ → List Fault
+  last rule c = fault_if (base_at g rule c) c
 
-abbrev pub first_class : (ℕ → Group) → Rule → ℕ → Option ℕ
-first_class g Classes c = Some c
-first_class g Members c = Some c
-first_class g Reserved c = Some c
-first_class g Clash c = Some c
-first_class g Statics c = Some c
-first_class g LetsOut c = Some c
-first_class g (Late rule) c = elim (judged_for g (rule_marker rule) c) [ true ↦ optional (superclass (class_record (g c))) | false ↦ None ]
+  unfoldable pub walked : Rule → ℕ → List Fault
+  walked rule c = only_if (applies g rule c) (gather (found rule) (order rule c) ++ last rule c)
 
 -- the class after t, whose records these are
-unfoldable pub next_class : ℕ → ℕ → ℕ → Group → Option ℕ
-next_class nlib c t h = elim (eqb t c) [ true ↦ None | false ↦ elim (ltb t nlib) [ true ↦ Some c | false ↦ optional (superclass (class_record h)) ] ]
+abbrev pub next_class : ℕ → Rule → ℕ → Group → Option ℕ
+next_class nlib rule t h = elim (late_of rule) as (λ (_ : Option LateRule). Option ℕ) [
+  | None ↦ None
+  | Some late ↦ elim (ltb t nlib) [ true ↦ None | false ↦ optional (superclass (class_record h)) ]
+]
 
 -- ---- what earlier walks found
 
--- under one of rules 7 to 10 nothing is found from class t upward
-pub record Empty (p : Pair) (rule : LateRule) (t : ℕ) : Type 0 where
-  pub there : t < count p
-  pub line : line_breaks (library_count p) (groups p) rule t ≡ false
-  pub concrete : T (not (is_interface (groups p t)))
+-- the row has of each class a set of markers; one that is there says that nothing is found in the class under its rule
+unfoldable pub kept_at : List ℕ → LateRule → ℕ → Bool
+kept_at row rule t = bit (rule_marker rule) (get_or row t 0)
 
--- a row for each of those rules
-abbrev pub lane_of : LateRule → ℕ
-lane_of Immutable = 0
-lane_of Powerless = 1
-lane_of Selfless = 2
-lane_of DeepSelfless = 3
+pub record Kept (nlib : ℕ) (g : ℕ → Group) (row : List ℕ) : Type 0 where
+  pub long : length row ≡ 256
+  pub is : (rule : LateRule) (t : ℕ) → kept_at row rule t ≡ true → found nlib g (Late rule) t ≡ []
 
-unfoldable pub kept_at : List (List Bool) → LateRule → ℕ → Bool
-kept_at rows rule t = get_or (get_or rows (lane_of rule) []) t false
-
--- the rows have a class only where nothing is found
-pub record Kept (p : Pair) (rows : List (List Bool)) : Type 0 where
-  pub is : (rule : LateRule) (t : ℕ) → kept_at rows rule t ≡ true → Empty p rule t
-
--- a class, or c where nothing is found from it upward
-abbrev pub climbed : List (List Bool) → Rule → ℕ → Option ℕ → Option ℕ
-climbed rows rule c None = None
-climbed rows Classes c (Some t) = Some t
-climbed rows Members c (Some t) = Some t
-climbed rows Reserved c (Some t) = Some t
-climbed rows Clash c (Some t) = Some t
-climbed rows Statics c (Some t) = Some t
-climbed rows LetsOut c (Some t) = Some t
-climbed rows (Late rule) c (Some t) = elim (kept_at rows rule t) [ true ↦ Some c | false ↦ Some t ]
+-- so it is kept of class t
+abbrev pub sound : List ℕ → Rule → ℕ → Bool
+sound row rule t = elim (late_of rule) [ None ↦ false | Some late ↦ kept_at row late t ]

@@ -1,38 +1,48 @@
--- Record 0 of a class: its encloser and its captured variables are slots that never change, so rule 9 has nothing to say of them,
+-- Record 0 of a class, and its captured variables: encloser and captured variables are slots that never change, so rule 9 has nothing to say of them,
 -- and the others ask their types alone. The sets that the code finds by the rows tell just that.
 -- Assumes nothing.
-use mathlib.Core.Path.{◌≡◌, refl, sym, ap, ap₂, ◌∙◌}
+use mathlib.Core.Path.{◌≡◌, refl, sym, ap, ap₂, ◌∙◌, subst}
 use mathlib.Core.Bool.{Bool, true, false, not, ◌&&◌, ◌||◌, and-true}
 use mathlib.Core.List.{List, [], ◌∷◌, ◌++◌, map, append-nil}
 use mathlib.Core.Logic.{◌⊎◌, inl, inr}
+use mathlib.Core.Option as option
 use Prim.Native.Nat.{ℕ, ◌<◌}
+use native.Mathlib.Omega.{arith}
 use lib.Dec.{T, ltb, ltb→lt, nltb→le}
 use lib.ListN.{get_or}
 use borrow.Author.Tests.{lt-ltb, le-ltb}
-use Rattle.spec.specs.Lists.{any, all, gather, only_if}
+use Rattle.std.specs.Prelude.{is_some}
+use Rattle.spec.specs.Lists.{any, all, keep, gather, numbered, only_if}
 use Rattle.spec.specs.Record.{bit, flags, encloser, unless_none, ty_references}
-use Rattle.spec.specs.Sheet.{Group, class_record, is_inner}
-use Rattle.spec.specs.Classes.{Slot, encloser_slot, variable_slot, class_ty, enclosing, local_at, captured, has_marker, satisfies, encloser_slots, captured_slots}
+use Rattle.spec.specs.Sheet.{Group, class_record, is_inner, is_instance_field}
+use Rattle.spec.specs.Classes.{Slot, field_slot, encloser_slot, variable_slot, class_ty, enclosing, local_at, captured, has_marker, satisfies, encloser_slots, field_slots, captured_slots, own_slots}
+use Rattle.spec.specs.Rules.{slot_fault}
+use Rattle.spec.specs.Refusals.{form_refusal}
 use Rattle.laws.proofs.Bools.{decide}
 use Rattle.laws.proofs.All.{All, all_append, all_if, any_cong}
-use Rattle.theory.proofs.Somewhere.{any_append, any_map, any_never}
+use Rattle.theory.proofs.Somewhere.{any_append, any_map, any_keep, any_numbered, any_never, any_same, some, some_keep}
 use Rattle.theory.proofs.Form.{one_record, group_one_class}
 use Rattle.records.specs.declared.record.Head.{Head}
 use Rattle.records.specs.Kinds.{optional, head_of}
-use Rattle.sheets.specs.Sheets.{Pair, count, groups, library_count}
+use Rattle.sheets.specs.Sheets.{Pair, Passed, count, groups, library_count}
+use Rattle.lanes.specs.Lanes.{words, entry_at}
 use Rattle.overlay.specs.Types.{Known}
+use Rattle.captured.specs.declared.Lane.{Lane}
 use Rattle.captured.specs.declared.Lane.TheVariants as lane
-use Rattle.captured.specs.Captured.{lacks_captured, Shown}
+use Rattle.captured.specs.Captured.{lane_marker, lane_place, variable_of, Shown}
+use Rattle.captured.proofs.Firsts.{variable_none, variable_some, First, none, some as first}
+use Rattle.captured.proofs.Meaning.{first_slot}
 use Rattle.slots.specs.declared.Late.{Late}
 use Rattle.slots.specs.declared.Late.TheVariants.{Immutable, Powerless, Selfless, DeepSelfless}
-use Rattle.slots.specs.Slots.{rule_marker, slot_fits, fixed_breaks, head_slots, encloser_has, encloser_by, if_there, captured_by, HeadSet}
+use Rattle.slots.specs.Slots.{rule_marker, slot_fits, captured_faults, encloser_breaks, field_breaks, slots_break, head_breaks, encloser_has, encloser_by, if_there, lane_shows, captured_by, HeadSet}
 use Rattle.slots.proofs.Base.{asked}
+use Rattle.slots.proofs.Sets.{twice, late_cases}
 
 -- ---- slots that never change
 
-record Still (s : Slot) : Type 0 where
-  final : s.final ≡ true
-  transient : s.transient ≡ false
+pub record Still (s : Slot) : Type 0 where
+  pub final : s.final ≡ true
+  pub transient : s.transient ≡ false
 
 map_still : {A : Type 0} (f : A → Slot) → ((x : A) → Still (f x)) → (xs : List A) → All Still (map f xs)
 map_still f h [] = tt
@@ -43,88 +53,149 @@ unfolding gather
 gather_still f h [] = tt
 gather_still f h (x ∷ xs) = all_append Still (f x) (gather f xs) (h x) (gather_still f h xs)
 
-all_still : (g : ℕ → Group) (t : ℕ) → All Still (encloser_slots g t ++ captured_slots g t)
-unfolding encloser_slots captured_slots only_if encloser_slot variable_slot
-all_still g t =
-    all_append Still (encloser_slots g t) (captured_slots g t)
-    (all_if Still (is_inner (g t)) (map (encloser_slot t) (enclosing (g t))) [] (map_still (encloser_slot t) (λ e. record { final = refl; transient = refl }) (enclosing (g t))) tt)
-    (gather_still (λ v. map (variable_slot v.0) (local_at (g v.0) v.1)) (λ v. map_still (variable_slot v.0) (λ n. record { final = refl; transient = refl }) (local_at (g v.0) v.1))
-    (captured g t))
+-- a test that asks their types alone passes where rule 9 does
+encloser_still : (g : ℕ → Group) (t : ℕ) → All Still (encloser_slots g t)
+unfolding encloser_slots only_if encloser_slot
+encloser_still g t = all_if Still (is_inner (g t)) (map (encloser_slot t) (enclosing (g t))) [] (map_still (encloser_slot t) (λ e. record { final = refl; transient = refl }) (enclosing (g t))) tt
 
-module _ (g : ℕ → Group) (t : ℕ) where
-  -- some slot has a type that lacks the marker
-  lacks : ℕ → List Slot → Bool
-  lacks k ss = any (λ s. not (satisfies g k s.type)) ss
+captured_still : (g : ℕ → Group) (t : ℕ) → All Still (captured_slots g t)
+unfolding captured_slots variable_slot
+captured_still g t =
+    gather_still (λ v. map (variable_slot v.0) (local_at (g v.0) v.1)) (λ v. map_still (variable_slot v.0) (λ n. record { final = refl; transient = refl }) (local_at (g v.0) v.1)) (captured g t)
 
-  fixed_selfless : fixed_breaks g Selfless t ≡ false
-  unfolding fixed_breaks
-  fixed_selfless =
-      any_cong Still (λ s. not (slot_fits g Selfless s)) (λ s. false) (λ s w. ap not (ap₂ (λ (a b : Bool). a && not b) w.final w.transient)) (encloser_slots g t ++ captured_slots g t)
-      (all_still g t)
-      ∙ any_never (encloser_slots g t ++ captured_slots g t)
+module _ (g : ℕ → Group) where
+  -- some of these slots fails the rule
+  abbrev pub fails : Late → List Slot → Bool
+  fails rule ss = any (λ s. not (slot_fits g rule s)) ss
 
-  fixed_by : (rule : Late) (k : ℕ) → ((s : Slot) → Still s → slot_fits g rule s ≡ satisfies g k s.type) → fixed_breaks g rule t ≡ (lacks k (encloser_slots g t) || lacks_captured g k t)
-  unfolding fixed_breaks lacks_captured lacks
-  fixed_by rule k h =
-      any_cong Still (λ s. not (slot_fits g rule s)) (λ s. not (satisfies g k s.type)) (λ s w. ap not (h s w)) (encloser_slots g t ++ captured_slots g t) (all_still g t)
-      ∙ any_append (λ s. not (satisfies g k s.type)) (encloser_slots g t) (captured_slots g t)
+  fails_selfless : (ss : List Slot) → All Still ss → fails Selfless ss ≡ false
+  fails_selfless ss w =
+      any_cong Still (λ s. not (slot_fits g Selfless s)) (λ s. false) (λ s w. ap not (ap₂ (λ (a b : Bool). a && not b) w.final w.transient)) ss w ∙ any_never ss
 
-module _ (p : Pair) {t : ℕ} (there : t < count p) {head : Head} (e : head ≡ head_of (class_record (groups p t))) {markers : List ℕ} (known : Known (groups p) markers) where
+  -- a test of a slot that never changes asks its type
+  abbrev pub Asks : Late → ℕ → Type 0
+  Asks rule k = (s : Slot) → s.final ≡ true → s.transient ≡ false → slot_fits g rule s ≡ satisfies g k s.type
+
+  pub asks_immutable : Asks Immutable 0
+  asks_immutable s f t = ap (λ (b : Bool). b && satisfies g 0 s.type) f
+
+  fails_by : (rule : Late) (k : ℕ) → Asks rule k → (ss : List Slot) → All Still ss → fails rule ss ≡ any (λ s. not (satisfies g k s.type)) ss
+  fails_by rule k h ss w = any_cong Still (λ s. not (slot_fits g rule s)) (λ s. not (satisfies g k s.type)) (λ s w. ap not (h s w.final w.transient)) ss w
+
+  -- ---- all slots of one class
+
+  module _ (rule : Late) (t : ℕ) where
+    -- a field is asked the same wherever it stands
+    field_same : (n : ℕ × List ℕ) → slot_fits g rule (field_slot t n) ≡ slot_fits g rule (field_slot 0 (0, n.1))
+    unfolding field_slot
+    field_same n = late_cases (λ l. slot_fits g l (field_slot t n) ≡ slot_fits g l (field_slot 0 (0, n.1))) refl refl refl refl rule
+
+    fields_are : fails rule (field_slots g t) ≡ any (field_breaks g rule 0 0) (g t)
+    unfolding field_slots field_breaks
+    fields_are =
+        let ns : List (ℕ × List ℕ) = numbered 0 (g t) in
+        any_map (λ s. not (slot_fits g rule s)) (field_slot t) (keep (λ (n : ℕ × List ℕ). is_instance_field n.1) ns)
+        ∙ any_keep (λ (n : ℕ × List ℕ). not (slot_fits g rule (field_slot t n))) (λ n. is_instance_field n.1) ns
+        ∙ any_same (λ (n : ℕ × List ℕ). is_instance_field n.1 && not (slot_fits g rule (field_slot t n))) (λ n. field_breaks g rule 0 0 n.1)
+        (λ n. ap (λ (b : Bool). is_instance_field n.1 && not b) (field_same n)) ns
+        ∙ any_numbered (field_breaks g rule 0 0) 0 (g t)
+
+    -- the encloser, the captured variables and the fields
+    pub own_are : ((encloser_breaks g rule t || fails rule (captured_slots g t)) || any (field_breaks g rule 0 0) (g t)) ≡ slots_break g rule t
+    unfolding own_slots slots_break encloser_breaks
+    own_are = sym (
+        any_append (λ s. not (slot_fits g rule s)) (encloser_slots g t) (field_slots g t ++ captured_slots g t)
+        ∙ ap (λ (b : Bool). fails rule (encloser_slots g t) || b) (any_append (λ s. not (slot_fits g rule s)) (field_slots g t) (captured_slots g t))
+        ∙ swap (fails rule (encloser_slots g t)) (fails rule (field_slots g t)) (fails rule (captured_slots g t))
+        ∙ ap (λ (b : Bool). (fails rule (encloser_slots g t) || fails rule (captured_slots g t)) || b) fields_are)
+      where
+        swap : (x y z : Bool) → (x || (y || z)) ≡ ((x || z) || y)
+        swap true y z = refl
+        swap false true true = refl
+        swap false true false = refl
+        swap false false true = refl
+        swap false false false = refl
+
+-- no captured variable fails rule 9
+pub selfless_none : (g : ℕ → Group) (t : ℕ) → captured_faults g Selfless t ≡ []
+unfolding captured_faults some
+selfless_none g t = go (keep (λ s. not (slot_fits g Selfless s)) (captured_slots g t)) (some_keep _ (captured_slots g t) ∙ fails_selfless g (captured_slots g t) (captured_still g t))
+  where
+    go : (ss : List Slot) → some ss ≡ false → map slot_fault ss ≡ []
+    go [] e = refl
+    go (s ∷ ss) e = absurd (subst T e tt)
+
+module _ (p : Pair) {t : ℕ} (there : t < count p) where
   abbrev g : ℕ → Group
   g = groups p
 
   -- ---- the encloser
 
-  type_is : (k c : ℕ) → satisfies g k (class_ty c) ≡ bit k (get_or markers c 0)
-  unfolding satisfies class_ty ty_references all has_marker
-  type_is k c = and-true (has_marker g k c) ∙ sym (ap (bit k) (known.is c))
+  module _ {head : Head} (e : head ≡ head_of (class_record (groups p t))) {markers : List ℕ} (known : Known (groups p) markers) where
+    type_is : (k c : ℕ) → satisfies g k (class_ty c) ≡ bit k (get_or markers c 0)
+    unfolding satisfies class_ty ty_references all has_marker
+    type_is k c = and-true (has_marker g k c) ∙ sym (ap (bit k) (known.is c))
 
-  encloser_lacks : (k : ℕ) → lacks g t k (encloser_slots g t) ≡ not (encloser_has head markers k)
-  unfolding lacks encloser_slots enclosing gather is_inner only_if encloser_slot any
-  encloser_lacks k =
-      let h : List ℕ → List ℕ = λ r. unless_none (encloser r) in
-      let es : enclosing (g t) ≡ unless_none (encloser r) = ap (gather h) (one_record (g t) (group_one_class p.library p.user t there)) ∙ append-nil (h r) in
-      go (bit 1 (flags r)) es ∙ ap (λ (x : Head). not (encloser_has x markers k)) (sym e)
-    where
-      r : List ℕ
-      r = class_record (g t)
-
-      has : ℕ → Bool
-      has c = bit k (get_or markers c 0)
-
-      go : (b : Bool) → enclosing (g t) ≡ unless_none (encloser r)
-          → any (λ s. not (satisfies g k s.type)) (elim b as (λ (_ : Bool). List Slot) [ true ↦ map (encloser_slot t) (enclosing (g t)) | false ↦ [] ])
-          ≡ not (not b || if_there has (optional (encloser r)))
-      go true es =
-          any_map (λ s. not (satisfies g k s.type)) (encloser_slot t) (enclosing (g t))
-          ∙ ap₂ (λ (f : ℕ → Bool) (xs : List ℕ). any f xs) (λ i c. not (type_is k c i)) es
-          ∙ asked has (encloser r)
-      go false es = refl
-
-  -- ---- both
-
-  module _ {lanes : List ℕ} (shown : Shown g (count p) lanes) where
-    both : (rule : Late) (k : ℕ) → ((s : Slot) → Still s → slot_fits g rule s ≡ satisfies g k s.type) → {b : Bool} → b ≡ lacks_captured g k t
-        → (encloser_has head markers k && not b) ≡ not (fixed_breaks g rule t)
-    both rule k h {b} eb =
-        one (encloser_has head markers k) b
-        ∙ ap not (sym (fixed_by g t rule k h ∙ ap₂ (λ (x y : Bool). x || y) (encloser_lacks k) (sym eb)))
+    encloser_lacks : (k : ℕ) → any (λ s. not (satisfies g k s.type)) (encloser_slots g t) ≡ not (encloser_has head markers k)
+    unfolding encloser_slots enclosing gather is_inner only_if encloser_slot any
+    encloser_lacks k =
+        let h : List ℕ → List ℕ = λ r. unless_none (encloser r) in
+        let es : enclosing (g t) ≡ unless_none (encloser r) = ap (gather h) (one_record (g t) (group_one_class p.library p.user t there)) ∙ append-nil (h r) in
+        go (bit 1 (flags r)) es ∙ ap (λ (x : Head). not (encloser_has x markers k)) (sym e)
       where
-        one : (a b : Bool) → (a && not b) ≡ not (not a || b)
-        one true b = refl
-        one false b = refl
+        r : List ℕ
+        r = class_record (g t)
 
-    pub fixed_is : (rule : Late) → (encloser_by head markers rule && captured_by lanes t rule) ≡ not (fixed_breaks g rule t)
-    fixed_is Immutable = both Immutable 0 (λ s w. ap (λ (b : Bool). b && satisfies g 0 s.type) w.final) (shown.lane lane.Immutable t there)
-    fixed_is Powerless = both Powerless 1 (λ s w. refl) (shown.lane lane.Powerless t there)
-    fixed_is Selfless = ap not (sym (fixed_selfless g t))
-    fixed_is DeepSelfless = both DeepSelfless 7 (λ s w. refl) (shown.lane lane.DeepSelfless t there)
+        has : ℕ → Bool
+        has c = bit k (get_or markers c 0)
+
+        go : (b : Bool) → enclosing (g t) ≡ unless_none (encloser r)
+            → any (λ s. not (satisfies g k s.type)) (elim b as (λ (_ : Bool). List Slot) [ true ↦ map (encloser_slot t) (enclosing (g t)) | false ↦ [] ])
+            ≡ not (not b || if_there has (optional (encloser r)))
+        go true es =
+            any_map (λ s. not (satisfies g k s.type)) (encloser_slot t) (enclosing (g t))
+            ∙ ap₂ (λ (f : ℕ → Bool) (xs : List ℕ). any f xs) (λ i c. not (type_is k c i)) es
+            ∙ asked has (encloser r)
+        go false es = refl
+
+    encloser_told : (rule : Late) (k : ℕ) → Asks g rule k → encloser_has head markers k ≡ not (encloser_breaks g rule t)
+    unfolding encloser_breaks
+    encloser_told rule k h = sym (twice (encloser_has head markers k)) ∙ ap not (sym (fails_by g rule k h (encloser_slots g t) (encloser_still g t) ∙ encloser_lacks k))
+
+    pub encloser_is : (rule : Late) → encloser_by head markers rule ≡ not (encloser_breaks g rule t)
+    unfolding encloser_breaks
+    encloser_is Immutable = encloser_told Immutable 0 (asks_immutable g)
+    encloser_is Powerless = encloser_told Powerless 1 (λ s f t. refl)
+    encloser_is Selfless = ap not (sym (fails_selfless g (encloser_slots g t) (encloser_still g t)))
+    encloser_is DeepSelfless = encloser_told DeepSelfless 7 (λ s f t. refl)
 
     -- the set tells just what stands at record 0
-    pub head_is : {set : ℕ} → HeadSet markers lanes head (library_count p) t set → (rule : Late) → bit (rule_marker rule) set ≡ not (head_slots (library_count p) g rule t)
-    unfolding head_slots
+    pub head_is : {set : ℕ} → HeadSet markers head (library_count p) t set → (rule : Late) → bit (rule_marker rule) set ≡ not (head_breaks (library_count p) g rule t)
+    unfolding head_breaks
     head_is {set} h rule = go (decide (ltb t (library_count p)))
       where
-        go : T (ltb t (library_count p)) ⊎ T (not (ltb t (library_count p))) → bit (rule_marker rule) set ≡ not (head_slots (library_count p) g rule t)
-        go (inl b) = let k = ltb→lt t (library_count p) b in rw (lt-ltb t (library_count p) k, head_slots) (((h.root k).is g known).is rule)
-        go (inr b) = let k = nltb→le t (library_count p) b in rw (le-ltb t (library_count p) k, head_slots) ((h.own k).is rule ∙ fixed_is rule)
+        go : T (ltb t (library_count p)) ⊎ T (not (ltb t (library_count p))) → bit (rule_marker rule) set ≡ not (head_breaks (library_count p) g rule t)
+        go (inl b) = let k = ltb→lt t (library_count p) b in rw (lt-ltb t (library_count p) k, head_breaks) (((h.root k).is g known).is rule)
+        go (inr b) = let k = nltb→le t (library_count p) b in rw (le-ltb t (library_count p) k, head_breaks) ((h.own k).is rule ∙ encloser_is rule)
+
+  -- ---- the captured variables
+
+  module _ (x : Passed p) (ok : form_refusal p.library p.user ≡ option.none) {lanes : List ℕ} (shown : Shown (groups p) (count p) lanes) where
+    -- the entry of a rule's lane is the first of those that fail
+    pub first_is : (rule : Late) (lane : Lane) → Asks g rule (lane_marker lane)
+        → First g t (entry_at (words lanes) (lane_place lane) t) (keep (λ s. not (slot_fits g rule s)) (captured_slots g t))
+    first_is rule lane h = first_slot x ok (lane_marker lane) there (shown.lane lane t there) (λ s. slot_fits g rule s) h
+
+    lane_told : (rule : Late) (lane : Lane) → Asks g rule (lane_marker lane) → not (lane_shows lanes t lane) ≡ not (fails g rule (captured_slots g t))
+    unfolding some
+    lane_told rule lane h = ap not (go (first_is rule lane h) ∙ some_keep (λ s. not (slot_fits g rule s)) (captured_slots g t))
+      where
+        go : {y : ℕ} {ss : List Slot} → First g t y ss → is_some (variable_of y) ≡ some ss
+        go (none e q) = ap is_some (variable_none e) ∙ ap some (sym q)
+        go (first e d i w q) = ap is_some (variable_some (λ z. omega (arith, there, x.few))) ∙ ap some (sym q)
+
+    pub captured_is : (rule : Late) → captured_by lanes t rule ≡ not (fails g rule (captured_slots g t))
+    captured_is Immutable = lane_told Immutable lane.Immutable (asks_immutable g)
+    captured_is Powerless = lane_told Powerless lane.Powerless (λ s f t. refl)
+    captured_is Selfless = ap not (sym (fails_selfless g (captured_slots g t) (captured_still g t)))
+    captured_is DeepSelfless = lane_told DeepSelfless lane.DeepSelfless (λ s f t. refl)

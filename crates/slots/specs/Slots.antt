@@ -1,21 +1,21 @@
 -- Slots against rules 7 to 10: as the definitions have them, and as sets of the markers whose rules a slot passes.
 -- Assumes nothing.
-use Rattle.std.specs.Prelude.{◌≡◌, Bool, true, false, not, ◌&&◌, ◌||◌, Option, None, Some, List, ◌++◌, ℕ, ◌-◌, ◌^◌, ◌≤◌, ◌<◌, eqb, ltb, get_or}
-use Rattle.spec.specs.Lists.{any}
+use Rattle.std.specs.Prelude.{◌≡◌, Bool, true, false, not, ◌&&◌, ◌||◌, Option, None, Some, is_some, List, map, ℕ, ◌-◌, ◌^◌, ◌≤◌, ◌<◌, eqb, ltb, get_or}
+use Rattle.spec.specs.Lists.{any, keep}
 use Rattle.spec.specs.Record.{bit, flags}
 use Rattle.spec.specs.Sheet.{Group, class_record, is_instance_field}
 use Rattle.spec.specs.Markers as marker
-use Rattle.spec.specs.Classes.{Slot, field_slot, superclasses, satisfies, encloser_slots, captured_slots}
-use Rattle.spec.specs.Rules.{root_fits, base_fits}
+use Rattle.spec.specs.Classes.{Slot, field_slot, superclasses, satisfies, encloser_slots, captured_slots, own_slots}
+use Rattle.spec.specs.Rules.{Fault, slot_fault, root_fits, base_fits}
 use Rattle.records.specs.declared.record.Ty.{Ty}
 use Rattle.records.specs.declared.record.Head.{Head}
 use Rattle.records.specs.declared.record.Body.TheVariants.{Field}
 use Rattle.records.specs.Kinds.{Reads}
-use Rattle.lanes.specs.Lanes.{entry_at}
+use Rattle.lanes.specs.Lanes.{words, entry_at}
 use Rattle.overlay.specs.Types.{Known}
 use Rattle.captured.specs.declared.Lane.{Lane}
 use Rattle.captured.specs.declared.Lane.TheVariants as lane
-use Rattle.captured.specs.Captured.{lane_marker, lane_place}
+use Rattle.captured.specs.Captured.{lane_marker, lane_place, variable_of}
 use Rattle.slots.specs.declared.Late.{Late}
 use Rattle.slots.specs.declared.Late.TheVariants.{Immutable, Powerless, Selfless, DeepSelfless}
 
@@ -41,9 +41,13 @@ module _ (g : ℕ → Group) where
   slot_fits Selfless s = s.final && not s.transient
   slot_fits DeepSelfless s = satisfies g marker.DeepSelfless s.type
 
-  -- record 0: the encloser and the captured variables
-  unfoldable pub fixed_breaks : Late → ℕ → Bool
-  fixed_breaks rule t = any (λ s. not (slot_fits rule s)) (encloser_slots g t ++ captured_slots g t)
+  -- record 0: the encloser
+  unfoldable pub encloser_breaks : Late → ℕ → Bool
+  encloser_breaks rule t = any (λ s. not (slot_fits rule s)) (encloser_slots g t)
+
+  -- the captured variables that fail, where they are declared
+  unfoldable pub captured_faults : Late → ℕ → List Fault
+  captured_faults rule t = map slot_fault (keep (λ s. not (slot_fits rule s)) (captured_slots g t))
 
   -- record 0 of the root
   abbrev pub root_breaks : Late → ℕ → Bool
@@ -62,11 +66,11 @@ module _ (g : ℕ → Group) where
 
   -- the own slots of class t
   unfoldable pub slots_break : Late → ℕ → Bool
-  slots_break rule t = fixed_breaks rule t || any (field_breaks rule 0 0) (g t)
+  slots_break rule t = any (λ s. not (slot_fits rule s)) (own_slots g t)
 
--- what stands at record 0 of class t but for rule 9's second part
-unfoldable pub head_slots : ℕ → (ℕ → Group) → Late → ℕ → Bool
-head_slots nlib g rule t = elim (ltb t nlib) [ true ↦ root_breaks g rule t | false ↦ fixed_breaks g rule t ]
+-- record 0 of class t: as a root, or by its encloser
+unfoldable pub head_breaks : ℕ → (ℕ → Group) → Late → ℕ → Bool
+head_breaks nlib g rule t = elim (ltb t nlib) [ true ↦ root_breaks g rule t | false ↦ encloser_breaks g rule t ]
 
 -- ---- sets: 1 Immutable, 2 Powerless, 4 Selfless, 128 DeepSelfless
 
@@ -109,7 +113,7 @@ encloser_by head row DeepSelfless = encloser_has head row marker.DeepSelfless
 
 -- the variables that class t captures, which rule 9 does not ask: a lane shows that one lacks the lane's marker
 abbrev pub lane_shows : List ℕ → ℕ → Lane → Bool
-lane_shows row t lane = ltb (entry_at row (lane_place lane) t) 255
+lane_shows row t lane = is_some (variable_of (entry_at (words row) (lane_place lane) t))
 
 abbrev pub captured_by : List ℕ → ℕ → Late → Bool
 captured_by row t Immutable = not (lane_shows row t lane.Immutable)
@@ -128,7 +132,7 @@ base_by head markers =
     (if_there (λ s. bit marker.Selfless (get_or markers s 0) || (eqb s 0 && bit 2 head.flags && bit 3 head.flags && not (bit 4 head.flags)))
     head.superclass)
 
--- record 0 of class t: as a root, or by its encloser and its captured variables
-pub record HeadSet (markers lanes : List ℕ) (head : Head) (nlib t set : ℕ) : Type 0 where
+-- record 0 of class t: as a root, or by its encloser
+pub record HeadSet (markers : List ℕ) (head : Head) (nlib t set : ℕ) : Type 0 where
   pub root : t < nlib → RootSet markers t set
-  pub own : nlib ≤ t → Passes (λ rule. encloser_by head markers rule && captured_by lanes t rule) set
+  pub own : nlib ≤ t → Passes (encloser_by head markers) set

@@ -6,7 +6,7 @@ ghost use Rattle.std.specs.Prelude.{◌≡◌, ◌^◌, ◌<◌, ◌&&◌, not};
 ghost use Rattle.spec.specs.Record.{bit};
 ghost use Rattle.slots.specs.Slots.{rule_number, rule_marker, Passes, slot_by, FieldSet, FieldsSet, RootSet, encloser_by, lane_by, captured_by, HeadSet, base_by};
 
-use captured::{LANES, Lane, lacking};
+use captured::{LANES, Lane, ROW_BYTES, first_lacking};
 use markers::{ALL, DEEP_SELFLESS, IMMUTABLE, POWERLESS, SELFLESS, common, has, union};
 use overlay::{known, type_markers};
 use records::group::Records;
@@ -111,19 +111,19 @@ fn encloser_set(head: &Head, markers: &[u8]) -> u8
 }
 
 // Those that the captured variables of class t pass by one lane: all, or all but the lane's marker.
-fn lane_set(row: &[u8], lane: Lane, t: usize) -> u8
+fn lane_set(row: &[u8; ROW_BYTES], lane: Lane, t: usize) -> u8
     requires { t < 256 }
     ensures { result ≡ lane_by row.now t lane }
 {
-    if lacking(row, lane, t) {
+    if first_lacking(row, lane, t).is_some() {
         ALL - lane.set()
     } else {
         ALL
     }
 }
 
-// Those that the captured variables of class t pass.
-fn captured_set(row: &[u8], t: usize) -> u8
+/// Those that the captured variables of class t pass.
+pub fn captured_set(row: &[u8; ROW_BYTES], t: usize) -> u8
     requires { t < 256 }
     ensures { Passes (captured_by row.now t) result }
 {
@@ -134,15 +134,14 @@ fn captured_set(row: &[u8], t: usize) -> u8
     set
 }
 
-/// Those that record 0 of class t passes, whose head this is: as a root, or by its encloser and its captured variables.
-pub fn head_set(head: &Head, markers: &[u8], lanes: &[u8], nlib: usize, t: usize) -> u8
-    requires { t < 256 }
-    ensures { HeadSet markers.now lanes.now head.now nlib t result }
+/// Those that record 0 of class t passes, whose head this is: as a root, or by its encloser.
+pub fn head_set(head: &Head, markers: &[u8], nlib: usize, t: usize) -> u8
+    ensures { HeadSet markers.now head.now nlib t result }
 {
     if t < nlib {
         return root_set(markers, t);
     }
-    common(encloser_set(head, markers), captured_set(lanes, t))
+    encloser_set(head, markers)
 }
 
 // A class has an equals and a hashCode of its own that do not ask Object's.

@@ -11,4 +11,5 @@ unfolding changes row_for answer_over row_over answer_to state_to evaluation
 changes_hold =
     (refl, refl) also (refl, refl) also (refl, refl) also (refl, refl) also (refl, refl) also (refl, refl) also (refl, refl) also (refl, refl) also (refl, refl) also (refl, refl) also
     (refl, refl) also (refl, refl) also (refl, refl) also (refl, refl) also (refl, refl) also (refl, refl) also (refl, refl) also (refl, refl) also
-    refl also (refl, refl) also refl also refl also refl also (refl, refl) also tt
+    refl also (refl, refl) also refl also refl also refl also (refl, refl) also (refl, refl) also (refl, refl) also (refl, refl) also (refl, refl) also (refl, refl) also (refl, refl) also
+    (refl, refl) also (refl, refl) also (refl, refl) also (refl, refl) also (refl, refl) also tt

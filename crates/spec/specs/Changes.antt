@@ -1,7 +1,7 @@
 -- What the requests of document 02 say, as one list of small examples. All use document 01's library L.
 -- Assumes nothing.
 use Rattle.std.specs.Prelude.{List, [], ◌∷◌, ◌++◌, ℕ, replicate}
-use Rattle.spec.specs.Examples.{Claim, judges, refuses, withdraws, keeps, none², class, x, builds}
+use Rattle.spec.specs.Examples.{Claim, judges, refuses, withdraws, keeps, none², number, class, x, v, uses, builds}
 
 -- class 1 with own markers, and class 2 with fields
 abbrev pub static : ℕ → List ℕ → List ℕ
@@ -18,40 +18,73 @@ A = class 0 0 none² 0x41
 abbrev pub B : List ℕ
 B = class 0 0 none² 0x42
 
+-- the line of a clean class, and another
+abbrev pub clear : List ℕ
+clear = 0 ∷ 0 ∷ 0 ∷ []
+
+abbrev pub other : List ℕ
+other = 7 ∷ 7 ∷ 7 ∷ []
+
+-- an inner class: own markers, superclass, encloser, name
+abbrev pub inner : ℕ → ℕ → ℕ → ℕ → List ℕ
+inner markers super outer name = 13 ∷ 0 ∷ 1 ∷ 0 ∷ 2 ∷ 0 ∷ markers ∷ 0 ∷ number super ++ (number outer ++ (name ∷ []))
+
+-- a primitive LOCAL
+abbrev pub primitive : List ℕ
+primitive = 9 ∷ 0 ∷ 4 ∷ 0 ∷ 0 ∷ 4 ∷ 0 ∷ 0 ∷ 0x76 ∷ []
+
 unfoldable pub changes : List Claim
 changes =
     -- C-11, "a static field must be final and of a Powerless type": of a Token, of a class that is Immutable alone, of a Powerless one and of a subclass of it
-    judges (static 16 (x 5 0 0 1)) 2 2 (3 ∷ 0 ∷ 5 ∷ 1 ∷ [])
-    ∷ judges (static 1 (x 5 0 0 1)) 2 1 (0 ∷ 0 ∷ 5 ∷ 1 ∷ [])
-    ∷ judges (static 2 (x 5 0 0 1)) 2 0 (0 ∷ 0 ∷ 0 ∷ 0 ∷ [])
-    ∷ judges (static 2 (class 0 1 none² 0x43 ++ x 5 0 0 3)) 3 0 (0 ∷ 0 ∷ 0 ∷ 0 ∷ 0 ∷ 0 ∷ [])
+    judges (static 16 (x 5 0 0 1)) 2 2 (3 ∷ 0 ∷ 1 ∷ 5 ∷ 1 ∷ 2 ∷ [])
+    ∷ judges (static 1 (x 5 0 0 1)) 2 1 (clear ++ (5 ∷ 1 ∷ 2 ∷ []))
+    ∷ judges (static 2 (x 5 0 0 1)) 2 0 (replicate 6 0)
+    ∷ judges (static 2 (class 0 1 none² 0x43 ++ x 5 0 0 3)) 3 0 (replicate 9 0)
     -- a class that calls itself Powerless and a Token passes too: that is told in its own line
-    ∷ judges (static 18 (x 5 0 0 1)) 2 1 (3 ∷ 0 ∷ 0 ∷ 0 ∷ [])
+    ∷ judges (static 18 (x 5 0 0 1)) 2 1 (3 ∷ 0 ∷ 1 ∷ clear)
     -- "Primitives still pass, arrays still fail"; one that is not final
-    ∷ judges (static 1 (x 5 0 4 0)) 2 0 (0 ∷ 0 ∷ 0 ∷ 0 ∷ [])
-    ∷ judges (static 2 (x 5 1 0 1)) 2 1 (0 ∷ 0 ∷ 5 ∷ 1 ∷ [])
-    ∷ judges (static 2 (x 4 0 0 1)) 2 1 (0 ∷ 0 ∷ 5 ∷ 1 ∷ [])
+    ∷ judges (static 1 (x 5 0 4 0)) 2 0 (replicate 6 0)
+    ∷ judges (static 2 (x 5 1 0 1)) 2 1 (clear ++ (5 ∷ 1 ∷ 2 ∷ []))
+    ∷ judges (static 2 (x 4 0 0 1)) 2 1 (clear ++ (5 ∷ 1 ∷ 2 ∷ []))
     -- "the place stays the lowest such field"; an interface is asked too
-    ∷ judges (static 1 (x 5 0 4 0 ++ (x 5 0 0 1 ++ x 5 1 0 1))) 2 1 (0 ∷ 0 ∷ 5 ∷ 2 ∷ [])
-    ∷ judges (class 1 0 none² 0x41 ++ (interface_b ++ x 5 0 0 1)) 2 1 (0 ∷ 0 ∷ 5 ∷ 1 ∷ [])
+    ∷ judges (static 1 (x 5 0 4 0 ++ (x 5 0 0 1 ++ x 5 1 0 1))) 2 1 (clear ++ (5 ∷ 2 ∷ 2 ∷ []))
+    ∷ judges (class 1 0 none² 0x41 ++ (interface_b ++ x 5 0 0 1)) 2 1 (clear ++ (5 ∷ 1 ∷ 2 ∷ []))
     -- C-12, "Its bytes in the buffer become zero, the used length falls, its line becomes 0 0": a faulted class; what stands past it stays; then the first class; then 13
-    ∷ withdraws (A ++ (class 16 0 none² 0x42 ++ (9 ∷ []))) 26 (7 ∷ 7 ∷ 3 ∷ 0 ∷ 7 ∷ 7 ∷ 7 ∷ []) 2 (A ++ (replicate 13 0 ++ (9 ∷ []))) 13 (7 ∷ 7 ∷ 0 ∷ 0 ∷ 7 ∷ 7 ∷ 7 ∷ [])
-    ∷ withdraws (A ++ (9 ∷ [])) 13 (7 ∷ 7 ∷ []) 1 (replicate 13 0 ++ (9 ∷ [])) 0 (0 ∷ 0 ∷ [])
-    ∷ keeps (9 ∷ []) 0 (7 ∷ 7 ∷ []) (record { number = 13; sheet = 0; byte = 0 })
+    ∷ withdraws (A ++ (class 16 0 none² 0x42 ++ (9 ∷ []))) 26 (other ++ (3 ∷ 0 ∷ 2 ∷ other ++ (7 ∷ []))) 2 (A ++ (replicate 13 0 ++ (9 ∷ []))) 13
+    (other ++ (clear ++ (other ++ (7 ∷ []))))
+    ∷ withdraws (A ++ (9 ∷ [])) 13 other 1 (replicate 13 0 ++ (9 ∷ [])) 0 clear
+    ∷ keeps (9 ∷ []) 0 other (record { number = 13; sheet = 0; byte = 0 })
     -- "17 .. when another class names the last one": A builds B, or has a field of it; B builds itself, which is no other class
-    ∷ keeps (A ++ (builds 2 ++ B)) 32 (7 ∷ 7 ∷ 7 ∷ 7 ∷ []) (record { number = 17; sheet = 0; byte = 0 })
-    ∷ keeps (A ++ (x 1 1 0 2 ++ B)) 37 (7 ∷ 7 ∷ 7 ∷ 7 ∷ []) (record { number = 17; sheet = 0; byte = 0 })
-    ∷ withdraws (A ++ (B ++ builds 2)) 32 (7 ∷ 7 ∷ 7 ∷ 7 ∷ []) 2 (A ++ replicate 19 0) 13 (7 ∷ 7 ∷ 0 ∷ 0 ∷ [])
+    ∷ keeps (A ++ (builds 2 ++ B)) 32 (other ++ other) (record { number = 17; sheet = 0; byte = 0 })
+    ∷ keeps (A ++ (x 1 1 0 2 ++ B)) 37 (other ++ other) (record { number = 17; sheet = 0; byte = 0 })
+    ∷ withdraws (A ++ (B ++ builds 2)) 32 (other ++ other) 2 (A ++ replicate 19 0) 13 (other ++ clear)
     -- "and 12 for a slate too short": a line for each class that is there; 17 comes first
-    ∷ keeps (A ++ B) 26 (7 ∷ 7 ∷ 7 ∷ []) (record { number = 12; sheet = 0; byte = 0 })
+    ∷ keeps (A ++ B) 26 (other ++ (7 ∷ 7 ∷ [])) (record { number = 12; sheet = 0; byte = 0 })
     ∷ keeps (A ++ (builds 2 ++ B)) 32 [] (record { number = 17; sheet = 0; byte = 0 })
     -- C-13, "a lower kind than the one before it in its group": a FIELD after a BUILDS, in a withdrawal too; a torn record after it is not looked at
     ∷ refuses (A ++ (builds 1 ++ x 1 0 4 0)) (record { number = 16; sheet = 1; byte = 19 })
-    ∷ keeps (A ++ (builds 1 ++ x 1 0 4 0)) 30 (7 ∷ 7 ∷ []) (record { number = 16; sheet = 1; byte = 19 })
+    ∷ keeps (A ++ (builds 1 ++ x 1 0 4 0)) 30 other (record { number = 16; sheet = 1; byte = 19 })
     ∷ refuses (A ++ (builds 1 ++ (x 1 0 4 0 ++ (9 ∷ [])))) (record { number = 16; sheet = 1; byte = 19 })
     -- "right after 7": an undefined flag of that FIELD comes before it, and so does the record's 16 before a class that isn't there
     ∷ refuses (A ++ (builds 1 ++ x 8 0 4 0)) (record { number = 5; sheet = 1; byte = 19 })
     ∷ refuses (A ++ (builds 9 ++ x 1 0 4 0)) (record { number = 16; sheet = 1; byte = 19 })
     -- equal kinds pass, and a group is compared with no other
-    ∷ judges (A ++ (builds 1 ++ (builds 1 ++ (B ++ x 1 0 4 0)))) 2 0 (0 ∷ 0 ∷ 0 ∷ 0 ∷ [])
+    ∷ judges (A ++ (builds 1 ++ (builds 1 ++ (B ++ x 1 0 4 0)))) 2 0 (replicate 6 0)
+    -- C-16, "the encloser (record 0)": of the class walked, here of the superclass; then its FIELDs; the own field 2 before the inherited one
+    ∷ judges (A ++ (inner 0 0 1 0x42 ++ class 1 2 none² 0x43)) 3 1 (clear ++ (clear ++ (7 ∷ 0 ∷ 2 ∷ [])))
+    ∷ judges (A ++ (inner 0 0 1 0x42 ++ (class 1 2 none² 0x43 ++ x 0 0 4 0))) 3 1 (clear ++ (clear ++ (7 ∷ 1 ∷ 3 ∷ [])))
+    ∷ judges (A ++ (x 0 0 4 0 ++ (class 1 1 none² 0x42 ++ (x 1 0 4 0 ++ x 0 0 4 0)))) 2 1 (clear ++ (7 ∷ 2 ∷ 2 ∷ []))
+    -- "captured variables by class and index (place: the LOCAL, class: its owner)": the lower owner, though its variable is used later; the LOCAL behind a FIELD; past a primitive one
+    ∷ judges (A ++ (v 0 ++ (class 0 0 (number 1) 0x42 ++ (v 0 ++ (class 1 0 (number 2) 0x43 ++ (uses 2 0 ++ uses 1 0)))))) 3 1 (clear ++ (clear ++ (7 ∷ 1 ∷ 1 ∷ [])))
+    ∷ judges (A ++ (x 1 0 4 0 ++ (v 0 ++ (class 1 0 (number 1) 0x42 ++ uses 1 0)))) 2 1 (clear ++ (7 ∷ 2 ∷ 1 ∷ []))
+    ∷ judges (A ++ (primitive ++ (v 0 ++ (class 1 0 (number 1) 0x42 ++ (uses 1 0 ++ uses 1 1))))) 2 1 (clear ++ (7 ∷ 2 ∷ 1 ∷ []))
+    -- the lower index at the end of the longer chain: 2 builds 3, which uses variable 1, and 4, which builds 5, which uses variable 0
+    ∷ judges (A ++ (v 0 ++ (v 0 ++ (class 1 0 (number 1) 0x42 ++ (builds 3 ++ (builds 4 ++ (class 1 0 (number 1) 0x43 ++ (uses 1 1
+    ++ (class 0 0 (number 1) 0x44 ++ (builds 5 ++ (class 0 0 (number 1) 0x45 ++ uses 1 0))))))))))) 5 2 (clear ++ (7 ∷ 1 ∷ 1 ∷ (7 ∷ 2 ∷ 1 ∷ (clear ++ clear))))
+    -- what a superclass captures, of a class that lies outside
+    ∷ judges (A ++ (v 0 ++ (class 0 0 (number 1) 0x42 ++ (uses 1 0 ++ class 1 2 none² 0x43)))) 3 1 (clear ++ (clear ++ (7 ∷ 1 ∷ 1 ∷ [])))
+    -- "a fault of rule 9's second part names the class and 0 and comes last": after a field, an inherited one too; alone
+    ∷ judges (class 128 0 none² 0x41 ++ x 0 0 4 0) 1 1 (9 ∷ 1 ∷ 1 ∷ [])
+    ∷ judges (A ++ (x 0 0 4 0 ++ class 128 1 none² 0x42)) 2 1 (clear ++ (9 ∷ 1 ∷ 1 ∷ []))
+    ∷ judges (A ++ class 128 1 none² 0x42) 2 1 (clear ++ (9 ∷ 0 ∷ 2 ∷ []))
     ∷ []

@@ -11,9 +11,9 @@ use Rattle.spec.specs.Promises.{Answer, refused, accepted, answer_of, afterwards
 abbrev pub L : List ℕ
 L = 0x12 ∷ 0x00 ∷ 0x01 ∷ 0x00 ∷ 0x00 ∷ 0x01 ∷ 0x00 ∷ 0x00 ∷ 0xFF ∷ 0xFF ∷ 0xFF ∷ 0xFF ∷ 0x4F ∷ 0x62 ∷ 0x6A ∷ 0x65 ∷ 0x63 ∷ 0x74 ∷ []
 
--- what stands in the row before, and past the last verdict afterwards: a verdict's bytes and an odd one
+-- what stands in the row before, and past the last verdict afterwards: a verdict's bytes and two more
 abbrev pub past : List ℕ
-past = 99 ∷ 99 ∷ 99 ∷ []
+past = 99 ∷ 99 ∷ 99 ∷ 99 ∷ 99 ∷ []
 
 -- a row with room for n verdicts and more
 unfoldable pub row_for : ℕ → List ℕ
@@ -112,29 +112,29 @@ unfoldable pub starred : List Claim
 starred =
     -- "U: line 0 0"
     judges (0x0E ∷ 0x00 ∷ 0x01 ∷ 0x00 ∷ 0x00 ∷ 0x00 ∷ 0x01 ∷ 0x00 ∷ 0x00 ∷ 0x00 ∷ 0xFF ∷ 0xFF ∷ 0x50 ∷ 0x74
-    ∷ 0x0B ∷ 0x00 ∷ 0x03 ∷ 0x00 ∷ 0x01 ∷ 0x00 ∷ 0x00 ∷ 0x04 ∷ 0x00 ∷ 0x00 ∷ 0x78 ∷ []) 1 0 (0 ∷ 0 ∷ [])
+    ∷ 0x0B ∷ 0x00 ∷ 0x03 ∷ 0x00 ∷ 0x01 ∷ 0x00 ∷ 0x00 ∷ 0x04 ∷ 0x00 ∷ 0x00 ∷ 0x78 ∷ []) 1 0 (0 ∷ 0 ∷ 0 ∷ [])
     -- "U with field flags 0: 7 1"
-    ∷ judges (Pt 0 1 ++ x 0 0 4 0) 1 1 (7 ∷ 1 ∷ [])
+    ∷ judges (Pt 0 1 ++ x 0 0 4 0) 1 1 (7 ∷ 1 ∷ 1 ∷ [])
     -- "U with a final field of class 0: 7 1"
-    ∷ judges (Pt 0 1 ++ x 1 0 0 0) 1 1 (7 ∷ 1 ∷ [])
+    ∷ judges (Pt 0 1 ++ x 1 0 0 0) 1 1 (7 ∷ 1 ∷ 1 ∷ [])
     -- "Own marks 128, no flags: 9 0", "Own marks 12: 4 0", "Own marks 16: 3 0"
-    ∷ judges (Pt 0 128) 1 1 (9 ∷ 0 ∷ [])
-    ∷ judges (Pt 0 12) 1 1 (4 ∷ 0 ∷ [])
-    ∷ judges (Pt 0 16) 1 1 (3 ∷ 0 ∷ [])
+    ∷ judges (Pt 0 128) 1 1 (9 ∷ 0 ∷ 1 ∷ [])
+    ∷ judges (Pt 0 12) 1 1 (4 ∷ 0 ∷ 1 ∷ [])
+    ∷ judges (Pt 0 16) 1 1 (3 ∷ 0 ∷ 1 ∷ [])
     -- "No marks, record 1 a static final int array: 5 1", "Flag 7: 6 0"
-    ∷ judges (Pt 0 0 ++ x 5 1 4 0) 1 1 (5 ∷ 1 ∷ [])
-    ∷ judges (Pt 128 0) 1 1 (6 ∷ 0 ∷ [])
+    ∷ judges (Pt 0 0 ++ x 5 1 4 0) 1 1 (5 ∷ 1 ∷ 1 ∷ [])
+    ∷ judges (Pt 128 0) 1 1 (6 ∷ 0 ∷ 1 ∷ [])
     -- "Closed sets: 32 to 35, 16 to 25, 64 to 72, 128 to 132"
     ∷ closes 32 35
     ∷ closes 16 25
     ∷ closes 64 72
     ∷ closes 128 132
-    -- "Class 1 has a LOCAL of class 0; 2 and 3 lie in 1; 2 is Immutable and builds 3; 3 uses the LOCAL: class 2 gets 7 0"
+    -- "Class 1 has a LOCAL of class 0; 2 and 3 lie in 1; 2 is Immutable and builds 3; 3 uses the LOCAL: class 2 gets 7 0"; 02, C-16: "(the captured one 7 1 1)"
     ∷ judges (class 0 0 none² 0x41 ++ (v 0 ++ (class 1 0 (number 1) 0x42 ++ (builds 3 ++ (class 0 0 (number 1) 0x43 ++ uses 1 0))))) 3 1
-    (0 ∷ 0 ∷ 7 ∷ 0 ∷ 0 ∷ 0 ∷ [])
+    (0 ∷ 0 ∷ 0 ∷ 7 ∷ 1 ∷ 1 ∷ 0 ∷ 0 ∷ 0 ∷ [])
     -- "The same with the LOCAL in 2, and 3 inside 2: class 2 is clean"
     ∷ judges (class 0 0 none² 0x41 ++ (class 1 0 (number 1) 0x42 ++ (v 0 ++ (builds 3 ++ (class 0 0 (number 2) 0x43 ++ uses 2 0))))) 3 0
-    (0 ∷ 0 ∷ 0 ∷ 0 ∷ 0 ∷ 0 ∷ [])
+    (0 ∷ 0 ∷ 0 ∷ 0 ∷ 0 ∷ 0 ∷ 0 ∷ 0 ∷ 0 ∷ [])
     -- "User sheet of three bytes: refusal 2, sheet 1, byte 0"
     ∷ refuses (0 ∷ 0 ∷ 0 ∷ []) (record { number = 2; sheet = 1; byte = 0 })
     ∷ []

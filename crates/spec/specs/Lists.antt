@@ -1,6 +1,6 @@
 -- Lists: tests, searches, and sets that grow by steps.
 -- Assumes nothing.
-use Rattle.std.specs.Prelude.{Bool, true, false, ◌&&◌, ◌||◌, List, [], ◌∷◌, ◌++◌, ℕ, zero, suc, min, eqb, length}
+use Rattle.std.specs.Prelude.{Bool, true, false, ◌&&◌, ◌||◌, List, [], ◌∷◌, ◌++◌, ℕ, zero, suc, eqb, length}
 use Rattle.std.proofs.Math.Option.{Option, none, some}
 
 module _ {A : Type 0} where
@@ -58,11 +58,6 @@ span i (suc n) = i ∷ span (suc i) n
 -- the numbers below n that stand in a list: ascending, without repeats
 unfoldable pub ascending : ℕ → List ℕ → List ℕ
 ascending n xs = keep (λ k. elem k xs) (span 0 n)
-
--- the lowest number of a list
-unfoldable pub lowest : List ℕ → Option ℕ
-lowest [] = none
-lowest (k ∷ ks) = elim (lowest ks) [ none ↦ some k | some m ↦ some (min k m) ]
 
 -- the elements of a list that stand neither in `seen` nor earlier in the list
 unfoldable pub fresh : List ℕ → List ℕ → List ℕ

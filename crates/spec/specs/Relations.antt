@@ -1,7 +1,7 @@
 -- Document 01's words about classes as relations, with no search and no bound: references, supertypes, superclasses, root, lying inside, chains of BUILDS, captured variables.
 -- Assumes nothing.
 use Rattle.std.specs.Prelude.{◌≡◌, ◌≢◌, ℕ, suc, ◌≤◌, ◌<◌, T}
-use mathlib.Core.List.{List, ◌∷◌, Memᴰ}
+use mathlib.Core.List.{List, [], ◌∷◌, Memᴰ}
 use Rattle.spec.specs.Record.{kind, bit, none16, is_kind, CLASS, IMPLEMENTS, USES, BUILDS, own_markers, superclass, encloser, target, index, references}
 use Rattle.spec.specs.Sheet.{Group}
 use Rattle.spec.specs.Markers.{gives}
@@ -59,6 +59,14 @@ pub record References (g : Group) (d : ℕ) : Type 0 where
   pub member : Memᴰ bytes g
   pub names : Memᴰ d (references bytes)
 
+-- ---- places in a walk
+
+-- a list of numbers comes before another: at the first place where they differ it has the lower one, or it ends there
+pub data Before : List ℕ → List ℕ → Type 0 where
+  ends : {y : ℕ} {ys : List ℕ} → Before [] (y ∷ ys)
+  lower : {x y : ℕ} {xs ys : List ℕ} → x < y → Before (x ∷ xs) (y ∷ ys)
+  same : {x : ℕ} {xs ys : List ℕ} → Before xs ys → Before (x ∷ xs) (x ∷ ys)
+
 -- ---- chains. Each is read from a class c.
 
 -- "C stands on D if D is C, or a chain of namings (any record) leads from C to D"
@@ -77,15 +85,16 @@ pub data Marked (group : ℕ → Group) (c : ℕ) : ℕ → Type 0 where
   own : {d k : ℕ} {r : List ℕ} → Supertype group c d → At (group d) 0 r → k < 8 → T (bit k (own_markers r)) → Marked group c k
   given : {j k : ℕ} → Marked group c j → Memᴰ (j, k) gives → Marked group c k
 
--- c or a user superclass upward
-pub data Lineage (nlib : ℕ) (group : ℕ → Group) (c : ℕ) : ℕ → Type 0 where
-  self : Lineage nlib group c c
-  up : {s t : ℕ} → Lineage nlib group c s → Superclass (group s) t → nlib ≤ t → Lineage nlib group c t
+-- 02, C-16: "own class, then upward": h steps to the superclass, all of them to user classes, lead from c to t
+pub data Lineage (nlib : ℕ) (group : ℕ → Group) (c : ℕ) : ℕ → ℕ → Type 0 where
+  self : Lineage nlib group c 0 c
+  up : {h s t : ℕ} → Lineage nlib group c h s → Superclass (group s) t → nlib ≤ t → Lineage nlib group c (suc h) t
 
 -- "The walk ends at the first library superclass, called its root"
 pub record Root (nlib : ℕ) (group : ℕ → Group) (c d : ℕ) : Type 0 where
+  pub height : ℕ
   pub last : ℕ
-  pub line : Lineage nlib group c last
+  pub line : Lineage nlib group c height last
   pub above : Superclass (group last) d
   pub library : d < nlib
 

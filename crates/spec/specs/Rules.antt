@@ -1,32 +1,32 @@
 -- The ten rules and the verdict of a class, computed (document 01, "The ten rules, for each user class").
 -- Over the number of library classes and the groups by class number.
 -- Assumes nothing.
-use Rattle.std.specs.Prelude.{Bool, true, false, not, ◌&&◌, ◌||◌, List, [], ◌∷◌, ◌++◌, map, ℕ, suc, eqb, ltb, get_or}
-use Rattle.std.proofs.Math.Option.{none, some}
-use Rattle.spec.specs.Lists.{any, keep, gather, numbered, only_if, lowest, reach}
+use Rattle.std.specs.Prelude.{Bool, not, ◌&&◌, ◌||◌, List, [], ◌∷◌, ◌++◌, map, ℕ, suc, eqb, ltb, get_or}
+use Rattle.spec.specs.Lists.{any, keep, gather, numbered, only_if, reach}
 use Rattle.spec.specs.Record.{bit, is_kind, MEMBER, REFERS, flags, own_markers, target, index, field_ty, is_final, references}
 use Rattle.spec.specs.Sheet.{Group, class_record, group_references, of_kind, is_interface, is_allowed, is_static_field}
 use Rattle.spec.specs.Markers.{Immutable, Powerless, Selfless, Token, Throwable, Enum, DeepSelfless, clash}
 use Rattle.spec.specs.Classes.{Slot, superclasses, overlay, has_marker, satisfies, root, slots}
 
--- a fault with the class and the record where it sits, also where the verdict drops them
+-- a fault with the class and the record where it sits
 pub record Fault : Type 0 where
   pub class : ℕ
   pub record_number : ℕ
 
--- a line of the slate: "rule then place"
+-- a line of the slate: "rule then place"; 02, C-16: "a third number, the class in which the fault sits"
 pub record Verdict : Type 0 where
   pub rule : ℕ
   pub record_number : ℕ
+  pub class : ℕ
 
--- "clean is 0 and 0"
+-- 02, C-16: "clean lines hold three zeros"
 abbrev pub clean : Verdict
-clean = record { rule = 0; record_number = 0 }
+clean = record { rule = 0; record_number = 0; class = 0 }
 
 unfoldable pub slot_fault : Slot → Fault
 slot_fault s = record { class = s.holder; record_number = s.record_number }
 
--- a fault that stands at record 0
+-- a fault at record 0 of class c
 unfoldable pub fault_if : Bool → ℕ → List Fault
 fault_if bad c = only_if bad (record { class = c; record_number = 0 } ∷ [])
 
@@ -113,18 +113,15 @@ module _ (nlib : ℕ) (group : ℕ → Group) where
   unfoldable pub rules : ℕ → List (List Fault)
   rules c = rule1 c ∷ rule2 c ∷ rule3 c ∷ rule4 c ∷ rule5 c ∷ rule6 c ∷ rule7 c ∷ rule8 c ∷ rule9 c ∷ rule10 c ∷ []
 
--- "Place is the lowest record of the class's own group that breaks the rule"; encloser, captured, inherited and root faults "stand at record 0"
-unfoldable pub place_in : ℕ → Fault → ℕ
-place_in c f = elim (eqb f.class c) [ true ↦ f.record_number | false ↦ 0 ]
-
--- the first broken rule, counted from n, and the lowest record that breaks it
-unfoldable pub first_broken : ℕ → List (List ℕ) → Verdict
+-- the first broken rule, counted from n, and the first of its faults. Those of rules 1 to 6 stand in record order, those of rules 7 to 10 in the order of the slots, which is that
+-- of the walk; the root comes after them, and rule 9's second part.
+unfoldable pub first_broken : ℕ → List (List Fault) → Verdict
 first_broken n [] = clean
-first_broken n (ks ∷ rest) = elim (lowest ks) [ none ↦ first_broken (suc n) rest | some k ↦ record { rule = n; record_number = k } ]
+first_broken n (fs ∷ rest) = elim fs [ [] ↦ first_broken (suc n) rest | f ∷ more ↦ record { rule = n; record_number = f.record_number; class = f.class } ]
 
 module _ (nlib : ℕ) (group : ℕ → Group) where
   unfoldable pub verdict_of : ℕ → Verdict
-  verdict_of c = first_broken 1 (map (map (place_in c)) (rules nlib group c))
+  verdict_of c = first_broken 1 (rules nlib group c)
 
 -- ---- "C stands on D if D is C, or a chain of namings (any record) leads from C to D"; here: c depends on d
 unfoldable pub dependencies : (ℕ → Group) → ℕ → List ℕ

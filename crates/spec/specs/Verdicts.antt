@@ -38,19 +38,19 @@ pub record VerdictRow : Type 1 where
   pub at : Row → ℕ → Verdict
   pub rewritten : (ℕ → Bool) → (ℕ → Verdict) → Row → Row
 
--- ---- the flat row: "rule then place", `verdict_bytes` bytes a user class; bytes after the last whole verdict belong to none
+-- ---- the flat row: rule, place, class, `verdict_bytes` bytes a user class; bytes after the last whole verdict belong to none
 
 abbrev pub verdict_bytes : ℕ
-verdict_bytes = 2
+verdict_bytes = 3
 
 unfoldable pub flat_lines : List ℕ → ℕ
 flat_lines row = length row / verdict_bytes
 
 unfoldable pub flat_at : List ℕ → ℕ → Verdict
-flat_at row i = record { rule = get_or row (verdict_bytes * i) 0; record_number = get_or row (verdict_bytes * i + 1) 0 }
+flat_at row i = record { rule = get_or row (verdict_bytes * i) 0; record_number = get_or row (verdict_bytes * i + 1) 0; class = get_or row (verdict_bytes * i + 2) 0 }
 
 unfoldable pub bytes_of : Verdict → List ℕ
-bytes_of v = v.rule ∷ v.record_number ∷ []
+bytes_of v = v.rule ∷ v.record_number ∷ v.class ∷ []
 
 -- a list whose element at place j is `f j` of what stood there, counted from i
 unfoldable pub map_from : (ℕ → ℕ → ℕ) → ℕ → List ℕ → List ℕ

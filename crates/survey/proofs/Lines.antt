@@ -1,7 +1,7 @@
--- The set of one class, from the sets that the code reads in what its CLASS record says and in the rows; and a row of such sets.
+-- What the slots of a class and of its superclasses break; and the set of one class, from the sets that the code reads in what its CLASS record says and in the rows.
 -- Assumes nothing.
-use mathlib.Core.Path.{◌≡◌, refl, sym, ap, ◌∙◌, subst}
-use mathlib.Core.Bool.{Bool, true, false, not, ◌&&◌, ◌||◌}
+use mathlib.Core.Path.{◌≡◌, refl, sym, ap, ap₂, ◌∙◌, subst}
+use mathlib.Core.Bool.{Bool, true, false, not, ◌&&◌, ◌||◌, or_assoc, or-false}
 use mathlib.Core.List.{List}
 use mathlib.Core.Option.{none}
 use Prim.Native.Nat.{ℕ, ◌≤◌, ◌<◌}
@@ -12,9 +12,12 @@ use Rattle.std.specs.Prelude.{None, Some}
 use Rattle.spec.specs.Lists.{any}
 use Rattle.spec.specs.Record.{bit, superclass}
 use Rattle.spec.specs.Sheet.{Group, class_record, is_interface}
+use Rattle.spec.specs.Classes.{lineage, root}
 use Rattle.spec.specs.Refusals.{form_refusal}
 use Rattle.laws.proofs.Bools.{false_t, t_false}
-use Rattle.theory.proofs.Form.{Super, sound_super}
+use Rattle.theory.proofs.Falls.{Falls}
+use Rattle.theory.proofs.Lines.{lineage_library, root_library}
+use Rattle.theory.proofs.Form.{Super, sound_super, lineage_up, root_up}
 use Rattle.records.specs.declared.record.Head.{Head}
 use Rattle.records.specs.Kinds.{head_of}
 use Rattle.records.proofs.Optional.{some_is, none_is}
@@ -24,16 +27,35 @@ use Rattle.sheets.proofs.Indexes.{indexed}
 use Rattle.overlay.specs.Types.{Known}
 use Rattle.overlay.proofs.Recursion.{formed_falls}
 use Rattle.captured.specs.Captured.{Shown}
-use Rattle.slots.specs.Slots.{fixed_breaks, field_breaks, slots_break, Passes, FieldsSet, HeadSet}
+use Rattle.slots.specs.declared.Late.{Late}
+use Rattle.slots.specs.Slots.{root_breaks, slots_break, captured_by, Passes, FieldsSet, HeadSet}
 use Rattle.slots.proofs.Sets.{passes_as, passes_both}
-use Rattle.slots.proofs.Heads.{fixed_is}
-use Rattle.breaks.specs.Breaking.{line_breaks}
-use Rattle.breaks.proofs.Lines.{line_library, line_up}
-use Rattle.survey.specs.Survey.{ClassSet, Passing}
+use Rattle.slots.proofs.Heads.{own_are, encloser_is, captured_is}
+use Rattle.survey.specs.Survey.{line_breaks, ClassSet, Passing}
 
-neither : (a b : Bool) → (not a && not b) ≡ not (a || b)
-neither true b = refl
-neither false b = refl
+-- the slots of a class and of its superclasses: at the root, and one step up
+module _ (nlib : ℕ) (g : ℕ → Group) (f : Falls g) (rule : Late) {t : ℕ} where
+  line_library : t < nlib → root_breaks g rule t ≡ line_breaks nlib g rule t
+  unfolding line_breaks lineage root any
+  line_library h =
+      sym (or-false (root_breaks g rule t))
+      ∙ ap₂ (λ (p q : List ℕ). any (slots_break g rule) p || any (root_breaks g rule) q) (sym (lineage_library nlib g f t t h)) (sym (root_library nlib g f t t h))
+
+  line_up : nlib ≤ t → Super g t → (slots_break g rule t || line_breaks nlib g rule (superclass (class_record (g t)))) ≡ line_breaks nlib g rule t
+  unfolding line_breaks any
+  line_up h u =
+      let up : ℕ = superclass (class_record (g t)) in
+      sym (or_assoc (slots_break g rule t) (any (slots_break g rule) (lineage nlib g up)) (any (root_breaks g rule) (root nlib g up)))
+      ∙ ap₂ (λ (p q : List ℕ). any (slots_break g rule) p || any (root_breaks g rule) q) (sym (lineage_up nlib g f t h u)) (sym (root_up nlib g f t h u))
+
+-- what two sets share: the rules that neither of two tests finds broken
+neither : (P Q : Late → Bool) {a b : ℕ} → Passes (λ rule. not (P rule)) a → Passes (λ rule. not (Q rule)) b
+    → {r : ℕ} → ((k : ℕ) → bit k r ≡ (bit k a && bit k b)) → Passes (λ rule. not (P rule || Q rule)) r
+neither P Q p q e = passes_as (passes_both p q e) (λ rule. go (P rule) (Q rule))
+  where
+    go : (a b : Bool) → (not a && not b) ≡ not (a || b)
+    go true b = refl
+    go false b = refl
 
 -- a user class that is no interface, and what its CLASS record says
 pub record Concrete (p : Pair) (t : ℕ) (head : Head) : Type 0 where
@@ -62,7 +84,7 @@ module _ (p : Pair) where
   module _ (ok : form_refusal p.library p.user ≡ none) where
     -- ---- a library class
 
-    pub class_library : {t : ℕ} → t < nlib → {markers lanes : List ℕ} → Known g markers → {head : Head} {r : ℕ} → HeadSet markers lanes head nlib t r → ClassSet nlib g t r
+    pub class_library : {t : ℕ} → t < nlib → {markers : List ℕ} → Known g markers → {head : Head} {r : ℕ} → HeadSet markers head nlib t r → ClassSet nlib g t r
     class_library h k w =
         record { class = λ _. passes_as ((w.root h).is g k) (λ rule. ap not (line_library nlib g (formed_falls p ok) rule h)); interface = λ u. absurd (omega arith) }
 
@@ -82,24 +104,21 @@ module _ (p : Pair) where
       pub above_low : {s : ℕ} → head.superclass ≡ Some s → s < t
       above_low q = omega (arith, its_super.lower, above_is q)
 
-      module _ {markers lanes : List ℕ} (known : Known g markers) (shown : Shown g (count p) lanes) {first fields : ℕ} (h : HeadSet markers lanes head nlib t first)
-          {rs : Group} (are : rs ≡ g t) (f : FieldsSet markers rs fields) (own : ℕ) (joined : (k : ℕ) → bit k own ≡ (bit k first && bit k fields)) where
+      module _ {markers lanes : List ℕ} (known : Known g markers) (shown : Shown g (count p) lanes) {first : ℕ} (h : HeadSet markers head nlib t first)
+          {variables : ℕ} (v : Passes (captured_by lanes t) variables) (fixed : ℕ) (fixed_both : (k : ℕ) → bit k fixed ≡ (bit k first && bit k variables))
+          {fields : ℕ} (f : FieldsSet markers (g t) fields) (own : ℕ) (own_both : (k : ℕ) → bit k own ≡ (bit k fixed && bit k fields)) where
         own_passes : Passes (λ rule. not (slots_break g rule t)) own
-        unfolding slots_break
         own_passes =
-            passes_as (passes_both (passes_as (h.own c.user_class) (fixed_is p c.there c.says known shown)) (f.is g known) joined)
-            (λ rule.
-            ap (λ (rs : Group). not (fixed_breaks g rule t) && not (any (field_breaks g rule 0 0) rs)) are
-            ∙ neither (fixed_breaks g rule t) (any (field_breaks g rule 0 0) (g t)))
+            let encloser = passes_as (h.own c.user_class) (encloser_is p c.there c.says known) in
+            let captured = passes_as v (captured_is p c.there c.passed ok shown) in
+            passes_as (neither _ _ (neither _ _ encloser captured fixed_both) (f.is g known) own_both) (λ rule. ap not (own_are g rule t))
 
         pub class_user : {s : ℕ} → head.superclass ≡ Some s → {row : List ℕ} → Passing nlib t g row → {r : ℕ} → ((k : ℕ) → bit k r ≡ (bit k own && bit k (get_or row s 0))) → ClassSet nlib g t r
         class_user {s} q {row} w both =
-            let above : Passes (λ rule. not (line_breaks nlib g rule s)) (get_or row s 0) = (w.is s (above_low q)).class
-            (t_false _ (subst (λ (i : ℕ). T (not (is_interface (g i)))) (above_is q) its_super.concrete)) in
+            let above = (w.is s (above_low q)).class (t_false _ (subst (λ (i : ℕ). T (not (is_interface (g i)))) (above_is q) its_super.concrete)) in
             record {
               class = λ _.
-                  passes_as (passes_both own_passes above both)
-                  (λ rule. neither (slots_break g rule t) (line_breaks nlib g rule s)
-                  ∙ ap not (ap (λ (i : ℕ). slots_break g rule t || line_breaks nlib g rule i) (sym (above_is q)) ∙ line_up nlib g (formed_falls p ok) rule c.user_class its_super));
+                  passes_as (neither _ _ own_passes above both)
+                  (λ rule. ap not (ap (λ (i : ℕ). slots_break g rule t || line_breaks nlib g rule i) (sym (above_is q)) ∙ line_up nlib g (formed_falls p ok) rule c.user_class its_super));
               interface = λ _ i. absurd (subst T (sym i ∙ c.concrete) tt);
             }

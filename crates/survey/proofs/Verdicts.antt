@@ -2,51 +2,40 @@
 -- Assumes nothing.
 use mathlib.Core.Path.{◌≡◌, refl, sym, ap, ap₂, ◌∙◌}
 use mathlib.Core.Bool.{Bool, true, false, not, ◌&&◌, ◌||◌, and-true, or-false}
-use mathlib.Core.List.{List, [], ◌∷◌, ◌++◌, map}
-use mathlib.Core.Option.{Option, none, some as just}
-use Prim.Native.Nat.{ℕ, suc, min}
+use mathlib.Core.List.{List, [], ◌∷◌, ◌++◌}
+use Prim.Native.Nat.{ℕ, suc}
 use native.Mathlib.Omega.{arith}
-use lib.Dec.{eqb, eqb→eq}
+use lib.Dec.{eqb→eq}
 use borrow.Author.Tests.{ne_eqb}
-use Rattle.spec.specs.Lists.{any, keep, gather, numbered, only_if, lowest}
+use Rattle.spec.specs.Lists.{any, keep, gather, numbered, only_if}
 use Rattle.spec.specs.Record.{bit, is_kind, REFERS, flags, target, index, references}
-use Rattle.spec.specs.Sheet.{Group, class_record, is_instance_field, is_interface}
+use Rattle.spec.specs.Sheet.{Group, class_record, is_interface}
 use Rattle.spec.specs.Markers.{Immutable, Powerless, Selfless, DeepSelfless}
-use Rattle.spec.specs.Classes.{Slot, field_slot, encloser_slots, field_slots, captured_slots, own_slots, superclasses, overlay, has_marker, lineage, root, slots}
+use Rattle.spec.specs.Classes.{own_slots, superclasses, overlay, has_marker, lineage, root, slots}
 use Rattle.spec.specs.Rules.{Fault, Verdict, clean, static_breaks, slot_fault, fault_if, faults_at, member_allowed, judged_for, root_fits, base_fits, base_faults, forbidden, slot_faults, root_faults}
-use Rattle.spec.specs.Rules.{rule1, rule2, rule3, rule4, rule5, rule6, rule7, rule8, rule9, rule10, rules, place_in, first_broken, verdict_of}
+use Rattle.spec.specs.Rules.{rule1, rule2, rule3, rule4, rule5, rule6, rule7, rule8, rule9, rule10, rules, first_broken, verdict_of}
 use Rattle.laws.proofs.Bools.{true_t, and_l, and_r}
-use Rattle.theory.proofs.Somewhere.{any_append, any_map, any_gather, any_keep, any_numbered, any_same, any_either, any_never, some, some_append, some_map, some_only, some_keep, some_gather}
+use Rattle.theory.proofs.Somewhere.{any_gather, any_numbered, any_same, any_either, any_never, some, some_append, some_map, some_only, some_keep, some_gather}
 use Rattle.slots.specs.declared.Late.{Late}
 use Rattle.slots.specs.declared.Late.TheVariants as late
-use Rattle.slots.specs.Slots.{slot_fits, fixed_breaks, root_breaks, base_breaks, field_breaks, slots_break}
-use Rattle.slots.proofs.Sets.{late_cases}
-use Rattle.breaks.specs.Breaking.{line_breaks}
-use Rattle.survey.specs.Survey.{is_clean, head_by, head_fails, any_late, record_breaks, late_breaks, class_breaks}
+use Rattle.slots.specs.Slots.{slot_fits, root_breaks, base_breaks, slots_break}
+use Rattle.survey.specs.Survey.{is_clean, head_by, head_fails, any_late, record_breaks, line_breaks, late_breaks, class_breaks}
 
 pub clean_both : (v : Verdict) → is_clean v ≡ true → v ≡ clean
 unfolding is_clean
 clean_both v e =
     let t = true_t e in
-    ap₂ (λ (r k : ℕ). record { rule = r; record_number = k }) (eqb→eq v.rule 0 (and_l (eqb v.rule 0) (eqb v.record_number 0) t))
-    (eqb→eq v.record_number 0 (and_r (eqb v.rule 0) (eqb v.record_number 0) t))
+    let rule : v.rule ≡ 0 = search (eqb→eq, and_l, t) in
+    let record_number : v.record_number ≡ 0 = search (eqb→eq, and_l, and_r, t) in
+    let class : v.class ≡ 0 = search (eqb→eq, and_l, and_r, t) in
+    λ i. record { rule = rule i; record_number = record_number i; class = class i }
 
--- ---- a verdict is clean if no rule has a fault
-
-rule_faulted : (n k : ℕ) → is_clean (record { rule = suc n; record_number = k }) ≡ false
-unfolding is_clean
-rule_faulted n k = rw (ne_eqb (suc n) 0 (λ e. omega arith))
-
-pub first_clean : (n : ℕ) (pss : List (List ℕ)) → is_clean (first_broken (suc n) pss) ≡ not (any some pss)
-unfolding first_broken lowest any some is_clean
+-- a verdict is clean if no rule has a fault
+pub first_clean : (n : ℕ) (fss : List (List Fault)) → is_clean (first_broken (suc n) fss) ≡ not (any some fss)
+unfolding first_broken any some is_clean
 first_clean n [] = refl
 first_clean n ([] ∷ rest) = first_clean (suc n) rest
-first_clean n ((k ∷ ks) ∷ rest) = go (lowest ks)
-  where
-    go : (o : Option ℕ) → is_clean (elim (elim o as (λ (x : Option ℕ). Option ℕ) [ none ↦ just k | just m ↦ just (min k m) ]) as (λ (x : Option ℕ). Verdict)
-        [ none ↦ first_broken (suc (suc n)) rest | just j ↦ record { rule = suc n; record_number = j } ]) ≡ false
-    go none = rule_faulted n k
-    go (just m) = rule_faulted n (min k m)
+first_clean n ((f ∷ fs) ∷ rest) = rw (ne_eqb (suc n) 0 (λ e. omega arith))
 
 -- ---- a rule has a fault if something breaks it
 
@@ -69,44 +58,11 @@ module _ (g : ℕ → Group) (c : ℕ) where
 
 module _ (nlib : ℕ) (g : ℕ → Group) (c : ℕ) where
   module _ (rule : Late) where
-    bad : Slot → Bool
-    bad s = not (slot_fits g rule s)
-
-    -- a field is asked the same wherever it stands
-    field_same : (t : ℕ) (n : ℕ × List ℕ) → slot_fits g rule (field_slot t n) ≡ slot_fits g rule (field_slot 0 (0, n.1))
-    unfolding field_slot
-    field_same t n = late_cases (λ l. slot_fits g l (field_slot t n) ≡ slot_fits g l (field_slot 0 (0, n.1))) refl refl refl refl rule
-
-    fields_are : (t : ℕ) → any bad (field_slots g t) ≡ any (field_breaks g rule 0 0) (g t)
-    unfolding field_slots field_breaks bad
-    fields_are t =
-        let ns : List (ℕ × List ℕ) = numbered 0 (g t) in
-        any_map bad (field_slot t) (keep (λ (n : ℕ × List ℕ). is_instance_field n.1) ns)
-        ∙ any_keep (λ (n : ℕ × List ℕ). bad (field_slot t n)) (λ n. is_instance_field n.1) ns
-        ∙ any_same (λ (n : ℕ × List ℕ). is_instance_field n.1 && bad (field_slot t n)) (λ n. field_breaks g rule 0 0 n.1)
-        (λ n. ap (λ (b : Bool). is_instance_field n.1 && not b) (field_same t n)) ns
-        ∙ any_numbered (field_breaks g rule 0 0) 0 (g t)
-
-    own_are : (t : ℕ) → any bad (own_slots g t) ≡ slots_break g rule t
-    unfolding own_slots slots_break fixed_breaks bad
-    own_are t =
-        any_append bad (encloser_slots g t) (field_slots g t ++ captured_slots g t)
-        ∙ ap (λ (b : Bool). any bad (encloser_slots g t) || b) (any_append bad (field_slots g t) (captured_slots g t))
-        ∙ swap (any bad (encloser_slots g t)) (any bad (field_slots g t)) (any bad (captured_slots g t))
-        ∙ ap₂ (λ (a b : Bool). a || b) (sym (any_append bad (encloser_slots g t) (captured_slots g t))) (fields_are t)
-      where
-        swap : (x y z : Bool) → (x || (y || z)) ≡ ((x || z) || y)
-        swap true y z = refl
-        swap false true true = refl
-        swap false true false = refl
-        swap false false true = refl
-        swap false false false = refl
-
     some_slots : some (slot_faults nlib g (slot_fits g rule) c) ≡ any (slots_break g rule) (lineage nlib g c)
-    unfolding slot_faults slots bad
+    unfolding slot_faults slots slots_break
     some_slots =
-        some_map slot_fault (keep bad (slots nlib g c)) ∙ some_keep bad (slots nlib g c)
-        ∙ any_gather bad (own_slots g) (lineage nlib g c) ∙ any_same (λ t. any bad (own_slots g t)) (slots_break g rule) own_are (lineage nlib g c)
+        some_map slot_fault (keep (λ s. not (slot_fits g rule s)) (slots nlib g c)) ∙ some_keep (λ s. not (slot_fits g rule s)) (slots nlib g c)
+        ∙ any_gather (λ s. not (slot_fits g rule s)) (own_slots g) (lineage nlib g c)
 
     -- rules 7, 8 and 10 ask the root
     some_late : (k : ℕ) (extra : List Fault) → some extra ≡ any (root_breaks g rule) (root nlib g c)
@@ -201,6 +157,4 @@ module _ (nlib : ℕ) (g : ℕ → Group) (c : ℕ) where
 
   pub clean_is : is_clean (verdict_of nlib g c) ≡ not (class_breaks nlib g c)
   unfolding verdict_of
-  clean_is =
-      first_clean 0 (map (map (place_in c)) (rules nlib g c))
-      ∙ ap not (any_map some (map (place_in c)) (rules nlib g c) ∙ any_same (λ fs. some (map (place_in c) fs)) some (some_map (place_in c)) (rules nlib g c) ∙ sym breaks_is)
+  clean_is = first_clean 0 (rules nlib g c) ∙ ap not (sym breaks_is)

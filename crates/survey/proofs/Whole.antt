@@ -19,8 +19,7 @@ use Rattle.slots.specs.declared.Late.TheVariants.{Immutable, Powerless, Selfless
 use Rattle.slots.specs.Slots.{rule_marker, base_by}
 use Rattle.slots.proofs.Sets.{twice}
 use Rattle.slots.proofs.Base.{base_is}
-use Rattle.breaks.specs.Breaking.{line_breaks}
-use Rattle.survey.specs.Survey.{is_clean, head_by, head_fails, any_late, record_breaks, late_breaks, class_breaks, ClassSet}
+use Rattle.survey.specs.Survey.{is_clean, head_by, head_fails, any_late, record_breaks, line_breaks, late_breaks, class_breaks, ClassSet}
 use Rattle.survey.proofs.Verdicts.{clean_is}
 
 late_same : (m : ℕ) (p q : Late → Bool) → ((rule : Late) → p rule ≡ q rule) → any_late m p ≡ any_late m q

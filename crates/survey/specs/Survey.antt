@@ -5,16 +5,15 @@ use Rattle.spec.specs.Lists.{any}
 use Rattle.spec.specs.Record.{bit, is_kind, REFERS, flags, own_markers, target, index, references}
 use Rattle.spec.specs.Sheet.{Group, class_record, is_interface}
 use Rattle.spec.specs.Markers as marker
-use Rattle.spec.specs.Classes.{overlay}
+use Rattle.spec.specs.Classes.{overlay, lineage, root}
 use Rattle.spec.specs.Rules.{Verdict, static_breaks, member_allowed, forbidden}
 use Rattle.slots.specs.declared.Late.{Late}
 use Rattle.slots.specs.declared.Late.TheVariants.{Immutable, Powerless, Selfless, DeepSelfless}
-use Rattle.slots.specs.Slots.{rule_marker, base_breaks, Passes}
-use Rattle.breaks.specs.Breaking.{line_breaks}
+use Rattle.slots.specs.Slots.{rule_marker, root_breaks, base_breaks, slots_break, Passes}
 
--- "clean is 0 and 0"
+-- 02, C-16: "clean lines hold three zeros"
 unfoldable pub is_clean : Verdict → Bool
-is_clean v = eqb v.rule 0 && eqb v.record_number 0
+is_clean v = eqb v.rule 0 && eqb v.record_number 0 && eqb v.class 0
 
 -- ---- what a class breaks
 
@@ -38,8 +37,12 @@ module _ (nlib : ℕ) (g : ℕ → Group) where
       static_breaks g r
       || ((is_kind REFERS r && not (member_allowed g (target r) (index r))) || any (forbidden nlib g) (references r))
 
+  -- the slots of c and its superclasses, or its root
+  unfoldable pub line_breaks : Late → ℕ → Bool
+  line_breaks rule c = any (slots_break g rule) (lineage nlib g c) || any (root_breaks g rule) (root nlib g c)
+
   unfoldable pub late_breaks : ℕ → Bool
-  late_breaks c = (bit marker.Selfless (overlay g c) && base_breaks g c) || any_late (overlay g c) (λ rule. line_breaks nlib g rule c)
+  late_breaks c = (bit marker.Selfless (overlay g c) && base_breaks g c) || any_late (overlay g c) (λ rule. line_breaks rule c)
 
   unfoldable pub class_breaks : ℕ → Bool
   class_breaks c = any record_breaks (g c) || (head_fails (class_record (g c)) (overlay g c) || (not (is_interface (g c)) && late_breaks c))

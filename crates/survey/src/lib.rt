@@ -17,7 +17,7 @@ use markers::{SELFLESS, clash, common, has};
 use records::CLASS_LIMIT;
 use records::group::Group;
 use records::record::{Head, Record};
-use slots::{Late, base_breaks, fields_set, head_set};
+use slots::{Late, base_breaks, captured_set, fields_set, head_set};
 
 // The rules that ask slots.
 const LATE: [Late; 4] = [
@@ -46,7 +46,7 @@ fn class_set(judging: &Judging, sets: &[u8], t: usize) -> u8
     let nlib = judging.formed.sheets.library_count();
     let group = judging.formed.sheets.group(t);
     let head = group.head();
-    let first = head_set(&head, &judging.markers, judging.lanes, nlib, t);
+    let first = head_set(&head, &judging.markers, nlib, t);
     if t < nlib {
         return first;
     }
@@ -56,7 +56,8 @@ fn class_set(judging: &Judging, sets: &[u8], t: usize) -> u8
     let Some(above) = head.superclass else {
         unreachable!()
     };
-    let own = common(first, fields_set(group.records(), &judging.markers));
+    let fixed = common(first, captured_set(judging.lanes, t));
+    let own = common(fixed, fields_set(group.records(), &judging.markers));
     common(own, sets[above])
 }
 

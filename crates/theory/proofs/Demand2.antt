@@ -1,33 +1,36 @@
--- Demand 2: the verdict of a user class is clean exactly if it breaks no rule at any record, else the lowest broken rule and the lowest record that breaks it.
+-- Demand 2: the verdict of a user class is clean exactly if it breaks no rule anywhere, else the lowest broken rule and, of its faults, the first in the walk. No other verdict is right.
 -- Assumes nothing.
-use mathlib.Core.Path.{◌≡◌, refl, sym, subst}
+use mathlib.Core.Path.{◌≡◌, sym, subst}
 use mathlib.Core.Logic.{◌⊎◌, inl, inr, ◌≢◌, ◌↔◌}
 use mathlib.Core.Bool.{Bool, not, ◌&&◌, ◌||◌}
-use mathlib.Core.List.{List, [], ◌++◌, map, Memᴰ}
-use Prim.Native.Nat.{ℕ, suc, ◌≤◌, ◌<◌}
+use mathlib.Core.List.{List, [], ◌∷◌, ◌++◌}
+use Prim.Native.Nat.{ℕ, ◌+◌, ◌≤◌, ◌<◌}
+use native.Mathlib.Omega.{arith}
 use lib.Dec.{T, T_not, not_T, eqb, ltb, eqb→eq, ltb→lt, lt→ltb, lit<}
-use lib.ListN.{get_or, take}
-use Rattle.spec.specs.Lists.{any, gather, only_if}
-use Rattle.spec.specs.Record.{bit, is_kind, FIELD, REFERS, flags, own_markers, target, index, Ty, field_ty, is_final, is_transient, is_static, references}
-use Rattle.spec.specs.Sheet.{Group, class_count, group, class_record, is_interface, is_allowed, is_static_field}
+use lib.ListN.{length, take}
+use Rattle.spec.specs.Lists.{any, only_if}
+use Rattle.spec.specs.Record.{bit, is_kind, CLASS, FIELD, REFERS, flags, own_markers, target, index, Ty, field_ty, is_final, is_static, references}
+use Rattle.spec.specs.Sheet.{Group, class_count, group, class_record, of_kind, is_interface, is_allowed, is_static_field}
 use Rattle.spec.specs.Markers.{Immutable, Powerless, Selfless, Equatable, Token, Throwable, Enum, DeepSelfless, clash}
-use Rattle.spec.specs.Classes.{Slot, superclasses, overlay, has_marker, satisfies, root}
-use Rattle.spec.specs.Rules.{Fault, fault_if, static_breaks, member_allowed, judged_for, root_fits, base_fits, base_faults, forbidden, slot_faults, root_faults, rule1}
-use Rattle.spec.specs.Rules.{rule2, rule3, rule4, rule5, rule6, rule7, rule8, rule9, rule10, rules, place_in, verdict_of}
-use Rattle.spec.specs.Relations.{At, Marked}
-use Rattle.spec.specs.Breaks.{Not, Flag, Allowed, Satisfies, SlotShape, field, fixed, type_of, Final, Transient, HasSlot, Lacks, slot, root as root_lacks, Varies, Drops}
+use Rattle.spec.specs.Classes.{superclasses, overlay, has_marker, satisfies, root, slots}
+use Rattle.spec.specs.Rules.{Fault, Verdict, static_breaks, member_allowed, judged_for, root_fits, base_fits, base_faults, forbidden, slot_faults, root_faults, rule1}
+use Rattle.spec.specs.Rules.{rule2, rule3, rule4, rule5, rule6, rule7, rule8, rule9, rule10, rules, verdict_of}
+use Rattle.spec.specs.Relations.{Marked}
+use Rattle.spec.specs.Breaks.{Not, Flag, Allowed, Satisfies, SlotShape, type_of, Final, Transient, HasSlot, Lacks, slot, root as root_lacks, Varies, Drops}
 use Rattle.spec.specs.Breaks.{SelflessBase, marked, overrides, UnfitBase, unfit, Claims, Breaks, rule1 as breaks1, rule2 as breaks2, rule3 as breaks3, rule4 as breaks4}
 use Rattle.spec.specs.Breaks.{rule5 as breaks5, rule6 as breaks6, rule7 as breaks7, rule8 as breaks8, rule9 as breaks9, rule10 as breaks10}
 use Rattle.spec.specs.Verdicts.{verdict_at}
-use Rattle.theory.specs.Claims.{Relations, Right, Demand2}
-use Rattle.laws.proofs.Bools.{decide, t_and, and_l, and_r, or_cases, or_l, or_r, not_or_l, not_or_r, not_or, un_not, not_mono, not_and_r, eq→eqb}
+use Rattle.theory.specs.Claims.{Relations, Right, Demand2, OnlyOne}
+use Rattle.laws.proofs.Bools.{decide, t_and, and_l, and_r, or_cases, or_l, or_r, not_or_l, not_or_r, not_or, un_not, not_not, not_mono, not_and_r, eq→eqb}
 use Rattle.laws.proofs.Members.{any_mem, mem_any}
-use Rattle.theory.proofs.Groups.{superclass_is, first_own, first_record, flag_is}
-use Rattle.theory.proofs.Falls.{Falls}
-use Rattle.theory.proofs.Slots.{member_is, satisfies_is, Shows, slots_sound, slots_complete}
-use Rattle.theory.proofs.Lowest.{Told, right}
-use Rattle.theory.proofs.Form.{accepted_sound, sound_falls, relations_hold}
-use Rattle.theory.proofs.Faults.{Stands, stands_is, stands_append, stands_only, stands_if, stands_gather, stands_at, Failing, failing_is}
+use Rattle.laws.proofs.Sorted.{Lone}
+use Rattle.theory.proofs.Groups.{superclass_is, superclasses_lone, first_own, first_record, flag_is}
+use Rattle.theory.proofs.Lines.{root_lone}
+use Rattle.theory.proofs.Listed.{Listed}
+use Rattle.theory.proofs.Slots.{member_is, satisfies_is, final_of, transient_of, slot_of, final_is, transient_is, Shows, slots_listed}
+use Rattle.theory.proofs.Faults.{Finds, finds_same, Spot, spot, finds_at, Whole, whole, finds_if, Each, each, Slotted, slotted, finds_judged}
+use Rattle.theory.proofs.First.{Told, right, one_at, right_one}
+use Rattle.theory.proofs.Form.{classes_lone, relations_hold}
 
 -- ---- tests and their opposites
 
@@ -48,12 +51,24 @@ either {P} {Q} a b p q = ((λ t. there (or_cases a b t)), back)
     back (inl x) = or_l a b (p.1 x)
     back (inr y) = or_r a b (q.1 y)
 
+-- one of two tests fails
+fails_both : {P Q : Type 0} (a b : Bool) → T (not a) ↔ P → T (not b) ↔ Q → T (not (a && b)) ↔ (P ⊎ Q)
+fails_both {P} {Q} a b p q = ((λ t. there t (decide a)), back)
+  where
+    there : T (not (a && b)) → T a ⊎ T (not a) → P ⊎ Q
+    there t (inl u) = inr (q.0 (not_and_r a b t u))
+    there t (inr u) = inl (p.0 u)
+
+    back : P ⊎ Q → T (not (a && b))
+    back (inl x) = not_mono (a && b) a (and_l a b) (p.1 x)
+    back (inr y) = not_mono (a && b) b (and_r a b) (q.1 y)
+
 same : {P : Type 0} → P ↔ P
 same = ((λ x. x), (λ x. x))
 
 -- ---- the rules of one class
 
-module _ (nlib : ℕ) (g : ℕ → Group) (f : Falls g) (rel : Relations nlib g) (c : ℕ) (user : nlib ≤ c) where
+module _ (nlib : ℕ) (g : ℕ → Group) (rel : Relations nlib g) (alone : (c : ℕ) → Lone (of_kind CLASS (g c))) (c : ℕ) (user : nlib ≤ c) where
   has : (m d : ℕ) → m < 8 → T (has_marker g m d) ↔ Marked g d m
   has m d h = rel.marked d m h
 
@@ -67,32 +82,37 @@ module _ (nlib : ℕ) (g : ℕ → Group) (f : Falls g) (rel : Relations nlib g)
   forbidden_is d =
       both (ltb d nlib) (not (bit 8 (flags (class_record (g d))))) (ltb→lt d nlib, lt→ltb d nlib) (not_fails (bit 8 (flags (class_record (g d)))) (flag_is 8 (g d)))
 
-  sound1 : (k : ℕ) → Stands c (rule1 nlib g c) k → Breaks nlib g c 1 k
-  unfolding rule1
-  sound1 k h =
-      let b = (stands_at g c (λ r. any (forbidden nlib g) (references r)) k).0 h in
-      let a = any_mem (forbidden nlib g) (references b.bytes) b.is in
-      let q = (forbidden_is a.0).0 a.2 in
-      breaks1 b.at a.1 q.0 q.1
+  names : List ℕ → Bool
+  names r = any (forbidden nlib g) (references r)
 
-  complete1 : {k d : ℕ} {r : List ℕ} → At (g c) k r → Memᴰ d (references r) → d < nlib → Not (Flag 8 (g d)) → Stands c (rule1 nlib g c) k
-  unfolding rule1
-  complete1 {k} {d} {r} a m l n =
-      (stands_at g c (λ r. any (forbidden nlib g) (references r)) k).1 (record { bytes = r; at = a; is = mem_any (forbidden nlib g) m ((forbidden_is d).1 (l, n)) })
+  finds1 : Finds (Breaks nlib g c 1) (rule1 nlib g c)
+  unfolding rule1 names
+  finds1 = finds_same (λ w d k. (there, back)) (finds_at g c names)
+    where
+      there : {w : List ℕ} {d k : ℕ} → Spot g c names w d k → Breaks nlib g c 1 w d k
+      there (spot {r} a t) =
+          let b = any_mem (forbidden nlib g) (references r) t in
+          let q = (forbidden_is b.0).0 b.2 in
+          breaks1 a b.1 q.0 q.1
+
+      back : {w : List ℕ} {d k : ℕ} → Breaks nlib g c 1 w d k → Spot g c names w d k
+      back (breaks1 {d} a m l n) = spot a (mem_any (forbidden nlib g) m ((forbidden_is d).1 (l, n)))
 
   refers_is : (r : List ℕ) → T (is_kind REFERS r && not (member_allowed g (target r) (index r))) ↔ (T (is_kind REFERS r) × Not (Allowed (g (target r)) (index r)))
   refers_is r = both (is_kind REFERS r) (not (member_allowed g (target r) (index r))) same (not_fails (member_allowed g (target r) (index r)) (member_is g (target r) (index r)))
 
-  sound2 : (k : ℕ) → Stands c (rule2 nlib g c) k → Breaks nlib g c 2 k
-  unfolding rule2
-  sound2 k h =
-      let b = (stands_at g c (λ r. is_kind REFERS r && not (member_allowed g (target r) (index r))) k).0 h in
-      let t = (refers_is b.bytes).0 b.is in
-      breaks2 b.at t.0 t.1
+  refers : List ℕ → Bool
+  refers r = is_kind REFERS r && not (member_allowed g (target r) (index r))
 
-  complete2 : {k : ℕ} {r : List ℕ} → At (g c) k r → T (is_kind REFERS r) → Not (Allowed (g (target r)) (index r)) → Stands c (rule2 nlib g c) k
-  unfolding rule2
-  complete2 {k} {r} a t n = (stands_at g c (λ r. is_kind REFERS r && not (member_allowed g (target r) (index r))) k).1 (record { bytes = r; at = a; is = (refers_is r).1 (t, n) })
+  finds2 : Finds (Breaks nlib g c 2) (rule2 nlib g c)
+  unfolding rule2 refers
+  finds2 = finds_same (λ w d k. (there, back)) (finds_at g c refers)
+    where
+      there : {w : List ℕ} {d k : ℕ} → Spot g c refers w d k → Breaks nlib g c 2 w d k
+      there (spot {r} a t) = let q = (refers_is r).0 t in breaks2 a q.0 q.1
+
+      back : {w : List ℕ} {d k : ℕ} → Breaks nlib g c 2 w d k → Spot g c refers w d k
+      back (breaks2 {r} a t n) = spot a ((refers_is r).1 (t, n))
 
   satisfied : (k : ℕ) (t : Ty) → k < 8 → T (satisfies g k t) ↔ Satisfies g k t
   satisfied = satisfies_is g rel.marked
@@ -103,18 +123,17 @@ module _ (nlib : ℕ) (g : ℕ → Group) (f : Falls g) (rel : Relations nlib g)
       both (is_kind FIELD r && is_static r) (not (is_final r && satisfies g Powerless (field_ty r))) (both (is_kind FIELD r) (is_static r) same same)
       (not_fails (is_final r && satisfies g Powerless (field_ty r)) (both (is_final r) (satisfies g Powerless (field_ty r)) same (satisfied Powerless (field_ty r) (lit< tt))))
 
-  sound5 : (k : ℕ) → Stands c (rule5 nlib g c) k → Breaks nlib g c 5 k
+  finds5 : Finds (Breaks nlib g c 5) (rule5 nlib g c)
   unfolding rule5
-  sound5 k h =
-      let b = (stands_at g c (static_breaks g) k).0 h in
-      let t = (static_is b.bytes).0 b.is in
-      breaks5 b.at t.0.0 t.0.1 t.1
+  finds5 = finds_same (λ w d k. (there, back)) (finds_at g c (static_breaks g))
+    where
+      there : {w : List ℕ} {d k : ℕ} → Spot g c (static_breaks g) w d k → Breaks nlib g c 5 w d k
+      there (spot {r} a t) = let q = (static_is r).0 t in breaks5 a q.0.0 q.0.1 q.1
 
-  complete5 : {k : ℕ} {r : List ℕ} → At (g c) k r → T (is_kind FIELD r) → T (is_static r) → Not (T (is_final r) × Satisfies g Powerless (field_ty r)) → Stands c (rule5 nlib g c) k
-  unfolding rule5
-  complete5 {k} {r} a t u n = (stands_at g c (static_breaks g) k).1 (record { bytes = r; at = a; is = (static_is r).1 ((t, u), n) })
+      back : {w : List ℕ} {d k : ℕ} → Breaks nlib g c 5 w d k → Spot g c (static_breaks g) w d k
+      back (breaks5 {r} a t u n) = spot a ((static_is r).1 ((t, u), n))
 
-  -- ---- rules 3, 4 and 6: the class as a whole, at record 0
+  -- ---- rules 3, 4 and 6: the class as a whole
 
   -- three tests of one number
   three : {P Q R : Type 0} (a b d : Bool) → T a ↔ P → T b ↔ Q → T d ↔ R → T (a || b || d) ↔ (P ⊎ (Q ⊎ R))
@@ -133,25 +152,28 @@ module _ (nlib : ℕ) (g : ℕ → Group) (f : Falls g) (rel : Relations nlib g)
   Kinds : ℕ → Type 0
   Kinds m = T (bit Token m) ⊎ (T (bit Throwable m) ⊎ T (bit Enum m))
 
-  own_kinds : Kinds (own_markers (class_record (g c))) → Breaks nlib g c 3 0
+  own_kinds : Kinds (own_markers (class_record (g c))) → Breaks nlib g c 3 (0 ∷ []) c 0
   unfolding Kinds
   own_kinds (inl t) = let r = first_own (g c) Token t in breaks3 r.1 (inl r.2)
   own_kinds (inr (inl t)) = let r = first_own (g c) Throwable t in breaks3 r.1 (inr (inl r.2))
   own_kinds (inr (inr t)) = let r = first_own (g c) Enum t in breaks3 r.1 (inr (inr r.2))
 
-  sound3 : (k : ℕ) → Stands c (rule3 nlib g c) k → Breaks nlib g c 3 k
-  unfolding rule3 Kinds
-  sound3 k h =
-      let m : ℕ = own_markers (class_record (g c)) in
-      let q = (stands_if c c (bit Token m || bit Throwable m || bit Enum m) k).0 h in
-      subst (Breaks nlib g c 3) (sym q.1) (own_kinds ((three (bit Token m) (bit Throwable m) (bit Enum m) same same same).0 q.0))
+  kinds : ℕ → Bool
+  kinds m = bit Token m || bit Throwable m || bit Enum m
 
-  complete3 : {r : List ℕ} → At (g c) 0 r → Kinds (own_markers r) → Stands c (rule3 nlib g c) 0
-  unfolding rule3 Kinds
-  complete3 a t =
-      let m : ℕ = own_markers (class_record (g c)) in
-      (stands_if c c (bit Token m || bit Throwable m || bit Enum m) 0).1
-      ((three (bit Token m) (bit Throwable m) (bit Enum m) same same same).1 (subst (λ (r : List ℕ). Kinds (own_markers r)) (sym (first_record a)) t), refl)
+  kinds_are : (m : ℕ) → T (kinds m) ↔ Kinds m
+  unfolding kinds Kinds
+  kinds_are m = three (bit Token m) (bit Throwable m) (bit Enum m) same same same
+
+  finds3 : Finds (Breaks nlib g c 3) (rule3 nlib g c)
+  unfolding rule3 kinds Kinds
+  finds3 = finds_same (λ w d k. (there, back)) (finds_if (kinds (own_markers (class_record (g c)))) c)
+    where
+      there : {w : List ℕ} {d k : ℕ} → Whole (kinds (own_markers (class_record (g c)))) c w d k → Breaks nlib g c 3 w d k
+      there (whole t) = own_kinds ((kinds_are (own_markers (class_record (g c)))).0 t)
+
+      back : {w : List ℕ} {d k : ℕ} → Breaks nlib g c 3 w d k → Whole (kinds (own_markers (class_record (g c)))) c w d k
+      back (breaks3 a t) = whole ((kinds_are (own_markers (class_record (g c)))).1 (subst (λ (r : List ℕ). Kinds (own_markers r)) (sym (first_record a)) t))
 
   clash_is : T (clash (overlay g c)) ↔ ((Marked g c Powerless × Marked g c Token) ⊎ (Marked g c Selfless × Marked g c Equatable))
   unfolding clash has_marker
@@ -161,19 +183,32 @@ module _ (nlib : ℕ) (g : ℕ → Group) (f : Falls g) (rel : Relations nlib g)
       (both (bit Powerless m) (bit Token m) (has Powerless c (lit< tt)) (has Token c (lit< tt)))
       (both (bit Selfless m) (bit Equatable m) (has Selfless c (lit< tt)) (has Equatable c (lit< tt)))
 
-  sound4 : (k : ℕ) → Stands c (rule4 nlib g c) k → Breaks nlib g c 4 k
+  finds4 : Finds (Breaks nlib g c 4) (rule4 nlib g c)
   unfolding rule4
-  sound4 k h = let q = (stands_if c c (clash (overlay g c)) k).0 h in subst (Breaks nlib g c 4) (sym q.1) (breaks4 (clash_is.0 q.0))
+  finds4 = finds_same (λ w d k. (there, back)) (finds_if (clash (overlay g c)) c)
+    where
+      there : {w : List ℕ} {d k : ℕ} → Whole (clash (overlay g c)) c w d k → Breaks nlib g c 4 w d k
+      there (whole t) = breaks4 (clash_is.0 t)
 
-  flags_are : T (bit 5 (flags (class_record (g c))) || bit 6 (flags (class_record (g c))) || bit 7 (flags (class_record (g c)))) ↔ (Flag 5 (g c) ⊎ (Flag 6 (g c) ⊎ Flag 7 (g c)))
+      back : {w : List ℕ} {d k : ℕ} → Breaks nlib g c 4 w d k → Whole (clash (overlay g c)) c w d k
+      back (breaks4 h) = whole (clash_is.1 h)
+
+  flagged : Bool
+  flagged = bit 5 (flags (class_record (g c))) || bit 6 (flags (class_record (g c))) || bit 7 (flags (class_record (g c)))
+
+  flags_are : T flagged ↔ (Flag 5 (g c) ⊎ (Flag 6 (g c) ⊎ Flag 7 (g c)))
+  unfolding flagged
   flags_are = three (bit 5 (flags (class_record (g c)))) (bit 6 (flags (class_record (g c)))) (bit 7 (flags (class_record (g c)))) (own_flag 5) (own_flag 6) (own_flag 7)
 
-  sound6 : (k : ℕ) → Stands c (rule6 nlib g c) k → Breaks nlib g c 6 k
-  unfolding rule6
-  sound6 k h =
-      let m : ℕ = flags (class_record (g c)) in
-      let q = (stands_if c c (bit 5 m || bit 6 m || bit 7 m) k).0 h in
-      subst (Breaks nlib g c 6) (sym q.1) (breaks6 (flags_are.0 q.0))
+  finds6 : Finds (Breaks nlib g c 6) (rule6 nlib g c)
+  unfolding rule6 flagged
+  finds6 = finds_same (λ w d k. (there, back)) (finds_if flagged c)
+    where
+      there : {w : List ℕ} {d k : ℕ} → Whole flagged c w d k → Breaks nlib g c 6 w d k
+      there (whole t) = breaks6 (flags_are.0 t)
+
+      back : {w : List ℕ} {d k : ℕ} → Breaks nlib g c 6 w d k → Whole flagged c w d k
+      back (breaks6 h) = whole (flags_are.1 h)
 
   -- ---- rules 7 to 10: slots, root and base
 
@@ -183,26 +218,11 @@ module _ (nlib : ℕ) (g : ℕ → Group) (f : Falls g) (rel : Relations nlib g)
       let b = both (not (bit 0 (flags (class_record (g c))))) (has_marker g m c) (not_fails (bit 0 (flags (class_record (g c)))) (own_flag 0)) (has m c h) in
       ((λ t. let q = b.0 t in record { class = q.0; marked = q.1 }), (λ k. b.1 (k.class, k.marked)))
 
-  abbrev Fails : (Slot → Bool) → ℕ → Type 0
-  Fails ok k = Failing nlib g c ok k
+  listed : Listed (Shows (HasSlot nlib g c)) (slots nlib g c)
+  listed = slots_listed g rel.captured alone nlib rel.lineage c user
 
-  fails_is : (ok : Slot → Bool) (k : ℕ) → Stands c (slot_faults nlib g ok c) k ↔ Fails ok k
-  fails_is = failing_is nlib g c
-
-  -- what a failing slot shows, where the test is one of its shape
-  shape_is : (ok : Slot → Bool) (Ok : SlotShape → Type 0) → ((s : Slot) (x : SlotShape) → Shows s x → T (ok s) ↔ Ok x) → (k : ℕ)
-      → Fails ok k ↔ ((x : SlotShape) × HasSlot nlib g c k x × Not (Ok x))
-  shape_is ok Ok e k = (
-    (λ h.
-        let s = slots_sound nlib g f rel.captured rel.lineage c user h.slot h.member in
-        (s.shape, subst (λ (n : ℕ). HasSlot nlib g c n s.shape) h.place s.is, (not_fails (ok h.slot) (e h.slot s.shape s.shows)).0 h.fails)),
-    (λ h.
-        let s = slots_complete nlib g f rel.captured rel.lineage c k h.0 user h.1 in
-        record { slot = s.slot; member = s.member; fails = (not_fails (ok s.slot) (e s.slot h.0 s.shows)).1 h.2; place = s.place }),
-  )
-
-  slot_type : (m : ℕ) → m < 8 → (s : Slot) (x : SlotShape) → Shows s x → T (satisfies g m s.type) ↔ Satisfies g m (type_of x)
-  slot_type m h s x w = subst (λ (t : Ty). T (satisfies g m s.type) ↔ Satisfies g m t) w.type (satisfied m s.type h)
+  abbrev Slots : (SlotShape → Type 0) → List ℕ → ℕ → ℕ → Type 0
+  Slots Bad = Slotted nlib g c listed Bad
 
   root_fits_lem : (m d : ℕ) → m < 8 → T (not (root_fits g m d)) ↔ ((d ≢ 0) × Not (Marked g d m))
   unfolding root_fits
@@ -211,71 +231,88 @@ module _ (nlib : ℕ) (g : ℕ → Group) (f : Falls g) (rel : Relations nlib g)
     (λ q. not_or (eqb d 0) (has_marker g m d) (not_T (eqb d 0) (λ t. q.0 (eqb→eq d 0 t))) ((not_fails (has_marker g m d) (has m d h)).1 q.1)),
   )
 
-  -- slots' types and the root, for one marker: rules 7, 8 and 10
-  lacks_sound : (m : ℕ) → m < 8 → (k : ℕ) → Fails (λ s. satisfies g m s.type) k ⊎ Stands c (root_faults nlib g m c) k → Lacks nlib g m c k
-  unfolding root_faults
-  lacks_sound m h k (inl b) = let q = (shape_is (λ s. satisfies g m s.type) (λ x. Satisfies g m (type_of x)) (slot_type m h) k).0 b in slot q.1 q.2
-  lacks_sound m h k (inr b) =
-      let q = (stands_gather c (λ d. d) (λ d. not (root_fits g m d)) (root nlib g c) k).0 b in
-      let w = (root_fits_lem m q.0 h).0 q.2 in
-      subst (Lacks nlib g m c) (sym q.3) (root_lacks ((rel.root c q.0 user).0 q.1) w.0 w.1)
+  -- the types of slots and then the root, for one marker: rules 7, 8 and 10
+  abbrev Unlike : ℕ → SlotShape → Type 0
+  Unlike m x = Not (Satisfies g m (type_of x))
 
-  lacks_complete : (m : ℕ) → m < 8 → {k : ℕ} → Lacks nlib g m c k → Fails (λ s. satisfies g m s.type) k ⊎ Stands c (root_faults nlib g m c) k
-  unfolding root_faults
-  lacks_complete m h {k} (slot {s = x} p n) = inl ((shape_is (λ s. satisfies g m s.type) (λ x. Satisfies g m (type_of x)) (slot_type m h) k).1 (x, p, n))
-  lacks_complete m h (root_lacks {d} p z n) =
-      inr ((stands_gather c (λ d. d) (λ d. not (root_fits g m d)) (root nlib g c) 0).1 (d, (rel.root c d user).1 p, (root_fits_lem m d h).1 (z, n), refl))
+  unlike_is : (m : ℕ) → m < 8 → (d k : ℕ) (x : SlotShape) → T (not (satisfies g m (slot_of d k x).type)) ↔ Unlike m x
+  unlike_is m h d k x = not_fails (satisfies g m (type_of x)) (satisfied m (type_of x) h)
+
+  abbrev Rooted : ℕ → List ℕ → ℕ → ℕ → Type 0
+  Rooted m = Each (root nlib g c) (λ d. not (root_fits g m d)) (λ d. d) (1 ∷ [])
+
+  rooted_lacks : (m : ℕ) → m < 8 → {w : List ℕ} {d k : ℕ} → Rooted m w d k → Lacks nlib g m c w d k
+  rooted_lacks m h (each {d} n t) = let q = (root_fits_lem m d h).0 t in root_lacks ((rel.root c d user).0 n) q.0 q.1
+
+  lacking : (m : ℕ) → m < 8 → {w : List ℕ} {d k : ℕ} → Lacks nlib g m c w d k → Slots (Unlike m) w d k ⊎ Rooted m w d k
+  lacking m h (slot s n) = inl (slotted s n)
+  lacking m h (root_lacks {d} p z n) = inr (each ((rel.root c d user).1 p) ((root_fits_lem m d h).1 (z, n)))
 
   -- rules 8 and 10
   marker_rule : ℕ → List Fault
   marker_rule m = only_if (judged_for g m c) (slot_faults nlib g (λ s. satisfies g m s.type) c ++ root_faults nlib g m c)
 
-  marker_is : (m : ℕ) → m < 8 → (k : ℕ) → Stands c (marker_rule m) k ↔ (Claims nlib g m c × Lacks nlib g m c k)
-  unfolding marker_rule
-  marker_is m h k =
-      let S : Type 0 = Stands c (slot_faults nlib g (λ s. satisfies g m s.type) c) k in
-      let o = stands_only c (judged_for g m c) (slot_faults nlib g (λ s. satisfies g m s.type) c ++ root_faults nlib g m c) k in
-      let a = stands_append c (slot_faults nlib g (λ s. satisfies g m s.type) c) (root_faults nlib g m c) k in (
-        (λ s. let q = o.0 s in ((claims_is m h).0 q.0, lacks_sound m h k (there (a.0 q.1)))),
-        (λ p. o.1 ((claims_is m h).1 p.0, a.1 (back (lacks_complete m h p.1)))),
-      )
+  finds_marker : (m : ℕ) → m < 8 → Finds (λ w d k. Claims nlib g m c × Lacks nlib g m c w d k) (marker_rule m)
+  unfolding marker_rule root_faults
+  finds_marker m h =
+      finds_same (λ w d k. ((λ p. ((claims_is m h).0 p.0, there p.1)), (λ p. ((claims_is m h).1 p.0, lacking m h p.1))))
+      (finds_judged nlib g c listed (judged_for g m c) (λ s. satisfies g m s.type) (Unlike m) (unlike_is m h) (λ d. not (root_fits g m d)) (λ d. d) 0 (root_lone nlib g alone c))
     where
-      there : Stands c (slot_faults nlib g (λ s. satisfies g m s.type) c) k ⊎ Stands c (root_faults nlib g m c) k
-          → Fails (λ s. satisfies g m s.type) k ⊎ Stands c (root_faults nlib g m c) k
-      there (inl x) = inl ((fails_is (λ s. satisfies g m s.type) k).0 x)
-      there (inr y) = inr y
+      there : {w : List ℕ} {d k : ℕ} → Slots (Unlike m) w d k ⊎ Rooted m w d k → Lacks nlib g m c w d k
+      there (inl (slotted s n)) = slot s n
+      there (inr q) = rooted_lacks m h q
 
-      back : Fails (λ s. satisfies g m s.type) k ⊎ Stands c (root_faults nlib g m c) k
-          → Stands c (slot_faults nlib g (λ s. satisfies g m s.type) c) k ⊎ Stands c (root_faults nlib g m c) k
-      back (inl x) = inl ((fails_is (λ s. satisfies g m s.type) k).1 x)
-      back (inr y) = inr y
-
-  -- two tests of a slot: it fails one of them
-  fails_both : (p q : Slot → Bool) (k : ℕ) → Fails (λ s. p s && q s) k ↔ (Fails p k ⊎ Fails q k)
-  fails_both p q k = ((λ h. there h (decide (p h.slot))), back)
+  finds8 : Finds (Breaks nlib g c 8) (rule8 nlib g c)
+  unfolding rule8 marker_rule
+  finds8 = finds_same (λ w d k. ((λ p. breaks8 p.0 p.1), back)) (finds_marker Powerless (lit< tt))
     where
-      there : (h : Fails (λ s. p s && q s) k) → T (p h.slot) ⊎ T (not (p h.slot)) → Fails p k ⊎ Fails q k
-      there h (inl t) = inr (record { slot = h.slot; member = h.member; fails = not_and_r (p h.slot) (q h.slot) h.fails t; place = h.place })
-      there h (inr t) = inl (record { slot = h.slot; member = h.member; fails = t; place = h.place })
+      back : {w : List ℕ} {d k : ℕ} → Breaks nlib g c 8 w d k → Claims nlib g Powerless c × Lacks nlib g Powerless c w d k
+      back (breaks8 q h) = (q, h)
 
-      back : Fails p k ⊎ Fails q k → Fails (λ s. p s && q s) k
-      back (inl h) = record { slot = h.slot; member = h.member; fails = not_mono (p h.slot && q h.slot) (p h.slot) (and_l (p h.slot) (q h.slot)) h.fails; place = h.place }
-      back (inr h) = record { slot = h.slot; member = h.member; fails = not_mono (p h.slot && q h.slot) (q h.slot) (and_r (p h.slot) (q h.slot)) h.fails; place = h.place }
+  finds10 : Finds (Breaks nlib g c 10) (rule10 nlib g c)
+  unfolding rule10 marker_rule
+  finds10 = finds_same (λ w d k. ((λ p. breaks10 p.0 p.1), back)) (finds_marker DeepSelfless (lit< tt))
+    where
+      back : {w : List ℕ} {d k : ℕ} → Breaks nlib g c 10 w d k → Claims nlib g DeepSelfless c × Lacks nlib g DeepSelfless c w d k
+      back (breaks10 q h) = (q, h)
 
-  varies_is : (k : ℕ) → Fails (λ s. s.final) k ↔ Varies nlib g c k
-  varies_is k =
-      let e = shape_is (λ s. s.final) Final (λ s x w. w.final) k in
-      ((λ h. let q = e.0 h in record { slot = q.0; has = q.1; free = q.2 }), (λ h. e.1 (h.slot, h.has, h.free)))
+  -- rule 7: final too
+  Mutable : SlotShape → Type 0
+  Mutable x = Not (Final x) ⊎ Unlike Immutable x
 
-  -- being transient is decided
-  settled : (x : SlotShape) → Not (Not (Transient x)) → Transient x
-  settled (field r) h = un_not (is_transient r) (not_T (not (is_transient r)) (λ t. h (T_not (is_transient r) t)))
-  settled (fixed t) h = absurd (h (λ z. z))
+  mutable_is : (d k : ℕ) (x : SlotShape) → T (not ((slot_of d k x).final && satisfies g Immutable (slot_of d k x).type)) ↔ Mutable x
+  unfolding Mutable
+  mutable_is d k x = fails_both (final_of x) (satisfies g Immutable (type_of x)) (not_fails (final_of x) (final_is x)) (unlike_is Immutable (lit< tt) d k x)
 
-  drops_is : (k : ℕ) → Fails (λ s. not s.transient) k ↔ Drops nlib g c k
-  drops_is k =
-      let e = shape_is (λ s. not s.transient) (λ x. Not (Transient x)) (λ s x w. not_fails s.transient w.transient) k in
-      ((λ h. let q = e.0 h in record { slot = q.0; has = q.1; transient = settled q.0 q.2 }), (λ h. e.1 (h.slot, h.has, λ n. n h.transient)))
+  finds7 : Finds (Breaks nlib g c 7) (rule7 nlib g c)
+  unfolding rule7 root_faults Mutable
+  finds7 =
+      finds_same (λ w d k. ((λ p. breaks7 ((claims_is Immutable (lit< tt)).0 p.0) (there p.1)), back))
+      (finds_judged nlib g c listed (judged_for g Immutable c) (λ s. s.final && satisfies g Immutable s.type) Mutable mutable_is
+      (λ d. not (root_fits g Immutable d)) (λ d. d) 0 (root_lone nlib g alone c))
+    where
+      there : {w : List ℕ} {d k : ℕ} → Slots Mutable w d k ⊎ Rooted Immutable w d k → Varies nlib g c w d k ⊎ Lacks nlib g Immutable c w d k
+      there (inl (slotted s (inl n))) = inl (slot s n)
+      there (inl (slotted s (inr n))) = inr (slot s n)
+      there (inr q) = inr (rooted_lacks Immutable (lit< tt) q)
+
+      joined : {w : List ℕ} {d k : ℕ} → Slots (Unlike Immutable) w d k ⊎ Rooted Immutable w d k → Slots Mutable w d k ⊎ Rooted Immutable w d k
+      joined (inl (slotted s n)) = inl (slotted s (inr n))
+      joined (inr q) = inr q
+
+      back : {w : List ℕ} {d k : ℕ} → Breaks nlib g c 7 w d k → T (judged_for g Immutable c) × (Slots Mutable w d k ⊎ Rooted Immutable w d k)
+      back (breaks7 q (inl (slot s n))) = ((claims_is Immutable (lit< tt)).1 q, inl (slotted s (inl n)))
+      back (breaks7 q (inr h)) = ((claims_is Immutable (lit< tt)).1 q, joined (lacking Immutable (lit< tt) h))
+
+  -- rule 9: final and not transient, and then the superclass
+  Shifting : SlotShape → Type 0
+  Shifting x = Not (Final x) ⊎ Transient x
+
+  shifting_is : (d k : ℕ) (x : SlotShape) → T (not ((slot_of d k x).final && not (slot_of d k x).transient)) ↔ Shifting x
+  unfolding Shifting
+  shifting_is d k x =
+      fails_both (final_of x) (not (transient_of x)) (not_fails (final_of x) (final_is x))
+      ((λ t. (transient_is x).0 (un_not (transient_of x) t)), (λ h. not_not (transient_of x) ((transient_is x).1 h)))
 
   base_fits_lem : (s : ℕ) → T (base_fits g (flags (class_record (g c))) s) ↔ SelflessBase nlib g c s
   unfolding base_fits
@@ -301,169 +338,59 @@ module _ (nlib : ℕ) (g : ℕ → Group) (f : Falls g) (rel : Relations nlib g)
       back (marked h) = inl h
       back (overrides z a b n) = inr (((z, a), b), n)
 
-  base_is : (k : ℕ) → Stands c (base_faults g c) k ↔ UnfitBase nlib g c k
-  unfolding base_faults
-  base_is k = (there, back)
+  unfit_is : (s : ℕ) → T (not (base_fits g (flags (class_record (g c))) s)) ↔ Not (SelflessBase nlib g c s)
+  unfit_is s = not_fails (base_fits g (flags (class_record (g c))) s) (base_fits_lem s)
+
+  abbrev Based : List ℕ → ℕ → ℕ → Type 0
+  Based = Each (superclasses (g c)) (λ s. not (base_fits g (flags (class_record (g c))) s)) (λ s. c) (2 ∷ [])
+
+  finds9 : Finds (Breaks nlib g c 9) (rule9 nlib g c)
+  unfolding rule9 base_faults Shifting
+  finds9 =
+      finds_same (λ w d k. ((λ p. breaks9 ((claims_is Selfless (lit< tt)).0 p.0) (there p.1)), back))
+      (finds_judged nlib g c listed (judged_for g Selfless c) (λ s. s.final && not s.transient) Shifting shifting_is
+      (λ s. not (base_fits g (flags (class_record (g c))) s)) (λ s. c) 1 (superclasses_lone (g c) (alone c)))
     where
-      m : ℕ
-      m = flags (class_record (g c))
+      there : {w : List ℕ} {d k : ℕ} → Slots Shifting w d k ⊎ Based w d k → (Varies nlib g c w d k ⊎ Drops nlib g c w d k) ⊎ UnfitBase nlib g c w d k
+      there (inl (slotted s (inl n))) = inl (inl (slot s n))
+      there (inl (slotted s (inr n))) = inl (inr (slot s n))
+      there (inr (each {d = s} m t)) = inr (unfit ((superclass_is (g c) s).0 m) ((unfit_is s).0 t))
 
-      there : Stands c (gather (λ s. fault_if (not (base_fits g m s)) c) (superclasses (g c))) k → UnfitBase nlib g c k
-      there h =
-          let q = (stands_gather c (λ s. c) (λ s. not (base_fits g m s)) (superclasses (g c)) k).0 h in
-          subst (UnfitBase nlib g c) (sym q.3) (unfit ((superclass_is (g c) q.0).0 q.1) ((not_fails (base_fits g m q.0) (base_fits_lem q.0)).0 q.2))
-
-      back : {j : ℕ} → UnfitBase nlib g c j → Stands c (gather (λ s. fault_if (not (base_fits g m s)) c) (superclasses (g c))) j
-      back (unfit {s} h n) =
-          (stands_gather c (λ s. c) (λ s. not (base_fits g m s)) (superclasses (g c)) 0).1 (s, (superclass_is (g c) s).1 h, (not_fails (base_fits g m s) (base_fits_lem s)).1 n, refl)
-
-  -- 7
-
-  immutable_is : (k : ℕ) → Stands c (rule7 nlib g c) k ↔ (Claims nlib g Immutable c × (Varies nlib g c k ⊎ Lacks nlib g Immutable c k))
-  unfolding rule7
-  immutable_is k = (
-    (λ s. let q = o.0 s in ((claims_is Immutable (lit< tt)).0 q.0, there (a.0 q.1))),
-    (λ p. o.1 ((claims_is Immutable (lit< tt)).1 p.0, a.1 (back p.1))),
-  )
-    where
-      typed : Slot → Bool
-      typed s = satisfies g Immutable s.type
-
-      fs : List Fault
-      fs = slot_faults nlib g (λ s. s.final && typed s) c
-
-      rs : List Fault
-      rs = root_faults nlib g Immutable c
-
-      o : Stands c (only_if (judged_for g Immutable c) (fs ++ rs)) k ↔ (T (judged_for g Immutable c) × Stands c (fs ++ rs) k)
-      o = stands_only c (judged_for g Immutable c) (fs ++ rs) k
-
-      a : Stands c (fs ++ rs) k ↔ (Stands c fs k ⊎ Stands c rs k)
-      a = stands_append c fs rs k
-
-      parts : Stands c fs k ↔ (Fails (λ s. s.final) k ⊎ Fails typed k)
-      parts =
-          let x = fails_is (λ s. s.final && typed s) k in
-          let y = fails_both (λ s. s.final) typed k in
-          ((λ h. y.0 (x.0 h)), (λ h. x.1 (y.1 h)))
-
-      split : Fails (λ s. s.final) k ⊎ Fails typed k → Varies nlib g c k ⊎ Lacks nlib g Immutable c k
-      split (inl h) = inl ((varies_is k).0 h)
-      split (inr h) = inr (lacks_sound Immutable (lit< tt) k (inl h))
-
-      there : Stands c fs k ⊎ Stands c rs k → Varies nlib g c k ⊎ Lacks nlib g Immutable c k
-      there (inl h) = split (parts.0 h)
-      there (inr h) = inr (lacks_sound Immutable (lit< tt) k (inr h))
-
-      joined : Fails typed k ⊎ Stands c rs k → Stands c fs k ⊎ Stands c rs k
-      joined (inl h) = inl (parts.1 (inr h))
-      joined (inr h) = inr h
-
-      back : Varies nlib g c k ⊎ Lacks nlib g Immutable c k → Stands c fs k ⊎ Stands c rs k
-      back (inl h) = inl (parts.1 (inl ((varies_is k).1 h)))
-      back (inr h) = joined (lacks_complete Immutable (lit< tt) h)
-
-  -- 9
-
-  selfless_is : (k : ℕ) → Stands c (rule9 nlib g c) k ↔ (Claims nlib g Selfless c × ((Varies nlib g c k ⊎ Drops nlib g c k) ⊎ UnfitBase nlib g c k))
-  unfolding rule9
-  selfless_is k = (
-    (λ s. let q = o.0 s in ((claims_is Selfless (lit< tt)).0 q.0, there (a.0 q.1))),
-    (λ p. o.1 ((claims_is Selfless (lit< tt)).1 p.0, a.1 (back p.1))),
-  )
-    where
-      fs : List Fault
-      fs = slot_faults nlib g (λ s. s.final && not s.transient) c
-
-      bs : List Fault
-      bs = base_faults g c
-
-      o : Stands c (only_if (judged_for g Selfless c) (fs ++ bs)) k ↔ (T (judged_for g Selfless c) × Stands c (fs ++ bs) k)
-      o = stands_only c (judged_for g Selfless c) (fs ++ bs) k
-
-      a : Stands c (fs ++ bs) k ↔ (Stands c fs k ⊎ Stands c bs k)
-      a = stands_append c fs bs k
-
-      x : Stands c fs k ↔ Fails (λ s. s.final && not s.transient) k
-      x = fails_is (λ s. s.final && not s.transient) k
-
-      y : Fails (λ s. s.final && not s.transient) k ↔ (Fails (λ s. s.final) k ⊎ Fails (λ s. not s.transient) k)
-      y = fails_both (λ s. s.final) (λ s. not s.transient) k
-
-      split : Fails (λ s. s.final) k ⊎ Fails (λ s. not s.transient) k → Varies nlib g c k ⊎ Drops nlib g c k
-      split (inl h) = inl ((varies_is k).0 h)
-      split (inr h) = inr ((drops_is k).0 h)
-
-      joined : Varies nlib g c k ⊎ Drops nlib g c k → Fails (λ s. s.final) k ⊎ Fails (λ s. not s.transient) k
-      joined (inl h) = inl ((varies_is k).1 h)
-      joined (inr h) = inr ((drops_is k).1 h)
-
-      there : Stands c fs k ⊎ Stands c bs k → (Varies nlib g c k ⊎ Drops nlib g c k) ⊎ UnfitBase nlib g c k
-      there (inl h) = inl (split (y.0 (x.0 h)))
-      there (inr h) = inr ((base_is k).0 h)
-
-      back : (Varies nlib g c k ⊎ Drops nlib g c k) ⊎ UnfitBase nlib g c k → Stands c fs k ⊎ Stands c bs k
-      back (inl h) = inl (x.1 (y.1 (joined h)))
-      back (inr h) = inr ((base_is k).1 h)
+      back : {w : List ℕ} {d k : ℕ} → Breaks nlib g c 9 w d k → T (judged_for g Selfless c) × (Slots Shifting w d k ⊎ Based w d k)
+      back (breaks9 q (inl (inl (slot s n)))) = ((claims_is Selfless (lit< tt)).1 q, inl (slotted s (inl n)))
+      back (breaks9 q (inl (inr (slot s n)))) = ((claims_is Selfless (lit< tt)).1 q, inl (slotted s (inr n)))
+      back (breaks9 q (inr (unfit {s} h n))) = ((claims_is Selfless (lit< tt)).1 q, inr (each ((superclass_is (g c) s).1 h) ((unfit_is s).1 n)))
 
   -- ---- the verdict
 
-  places : List (List ℕ)
-  places = map (map (place_in c)) (rules nlib g c)
+  told : Told (Breaks nlib g c) 1 (rules nlib g c)
+  unfolding rules
+  told = (finds1, (finds2, (finds3, (finds4, (finds5, (finds6, (finds7, (finds8, (finds9, (finds10, tt))))))))))
 
-  told : Told (Breaks nlib g c) 1 places
-  unfolding places rules rule8 rule10 marker_rule
-  told = (
-    (λ k m. sound1 k ((stands_is c (rule1 nlib g c) k).0 m)),
-    (
-      (λ k m. sound2 k ((stands_is c (rule2 nlib g c) k).0 m)),
-      (
-        (λ k m. sound3 k ((stands_is c (rule3 nlib g c) k).0 m)),
-        (
-          (λ k m. sound4 k ((stands_is c (rule4 nlib g c) k).0 m)),
-          (
-            (λ k m. sound5 k ((stands_is c (rule5 nlib g c) k).0 m)),
-            (
-              (λ k m. sound6 k ((stands_is c (rule6 nlib g c) k).0 m)),
-              (
-                (λ k m. let q = (immutable_is k).0 ((stands_is c (rule7 nlib g c) k).0 m) in breaks7 q.0 q.1),
-                (
-                  (λ k m. let q = (marker_is Powerless (lit< tt) k).0 ((stands_is c (marker_rule Powerless) k).0 m) in breaks8 q.0 q.1),
-                  (
-                    (λ k m. let q = (selfless_is k).0 ((stands_is c (rule9 nlib g c) k).0 m) in breaks9 q.0 q.1),
-                    (
-                      (λ k m. let q = (marker_is DeepSelfless (lit< tt) k).0 ((stands_is c (marker_rule DeepSelfless) k).0 m) in breaks10 q.0 q.1),
-                      tt,
-                    ),
-                  ),
-                ),
-              ),
-            ),
-          ),
-        ),
-      ),
-    ),
-  )
-
-  complete : (r k : ℕ) → Breaks nlib g c r k → (i : ℕ) × (r ≡ suc i) × Memᴰ k (get_or places i [])
-  unfolding places rules rule4 rule6 rule8 rule10 marker_rule Kinds
-  complete r k (breaks1 a m l n) = (0, refl, (stands_is c (rule1 nlib g c) k).1 (complete1 a m l n))
-  complete r k (breaks2 a t n) = (1, refl, (stands_is c (rule2 nlib g c) k).1 (complete2 a t n))
-  complete r k (breaks3 a t) = (2, refl, (stands_is c (rule3 nlib g c) 0).1 (complete3 a t))
-  complete r k (breaks4 h) = (3, refl, (stands_is c (rule4 nlib g c) 0).1 ((stands_if c c (clash (overlay g c)) 0).1 (clash_is.1 h, refl)))
-  complete r k (breaks5 a t u n) = (4, refl, (stands_is c (rule5 nlib g c) k).1 (complete5 a t u n))
-  complete r k (breaks6 h) = (5, refl, (stands_is c (rule6 nlib g c) 0).1 ((stands_if c c _ 0).1 (flags_are.1 h, refl)))
-  complete r k (breaks7 h b) = (6, refl, (stands_is c (rule7 nlib g c) k).1 ((immutable_is k).1 (h, b)))
-  complete r k (breaks8 h b) = (7, refl, (stands_is c (marker_rule Powerless) k).1 ((marker_is Powerless (lit< tt) k).1 (h, b)))
-  complete r k (breaks9 h b) = (8, refl, (stands_is c (rule9 nlib g c) k).1 ((selfless_is k).1 (h, b)))
-  complete r k (breaks10 h b) = (9, refl, (stands_is c (marker_rule DeepSelfless) k).1 ((marker_is DeepSelfless (lit< tt) k).1 (h, b)))
+  within : (r : ℕ) (w : List ℕ) (d k : ℕ) → Breaks nlib g c r w d k → (1 ≤ r) × (r < 1 + length (rules nlib g c))
+  unfolding rules
+  within r w d k (breaks1 a m l n) = (omega arith, omega arith)
+  within r w d k (breaks2 a t n) = (omega arith, omega arith)
+  within r w d k (breaks3 a t) = (omega arith, omega arith)
+  within r w d k (breaks4 h) = (omega arith, omega arith)
+  within r w d k (breaks5 a t u n) = (omega arith, omega arith)
+  within r w d k (breaks6 h) = (omega arith, omega arith)
+  within r w d k (breaks7 q h) = (omega arith, omega arith)
+  within r w d k (breaks8 q h) = (omega arith, omega arith)
+  within r w d k (breaks9 q h) = (omega arith, omega arith)
+  within r w d k (breaks10 q h) = (omega arith, omega arith)
 
   pub verdict_right : Right (Breaks nlib g c) (verdict_of nlib g c)
-  unfolding verdict_of places
-  verdict_right = right (Breaks nlib g c) places told complete
+  unfolding verdict_of
+  verdict_right = right (Breaks nlib g c) (rules nlib g c) told within
+
+  pub right_alone : (v : Verdict) → Right (Breaks nlib g c) v → v ≡ verdict_of nlib g c
+  right_alone v a = right_one (Breaks nlib g c) (one_at (Breaks nlib g c) (rules nlib g c) told within) v (verdict_of nlib g c) a verdict_right
 
 pub demand2 : Demand2
 unfolding verdict_at
-demand2 library user used a c hl hc =
-    verdict_right (class_count library) (group library (take used user)) (sound_falls library (take used user) (accepted_sound library user used a.unrefused))
-    (relations_hold library user used a) c hl
+demand2 library user used a c hl hc = verdict_right (class_count library) (group library (take used user)) (relations_hold library user used a) (classes_lone library (take used user)) c hl
+
+pub only_one : OnlyOne
+unfolding verdict_at
+only_one library user used a c hl hc = right_alone (class_count library) (group library (take used user)) (relations_hold library user used a) (classes_lone library (take used user)) c hl

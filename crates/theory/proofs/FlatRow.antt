@@ -127,7 +127,7 @@ module _ (changed : ℕ → Bool) (v : ℕ → Verdict) (row : List ℕ) (i : �
 
     pub at_new : flat_at (flat_rewritten changed v row) i ≡ v i
     unfolding flat_at bytes_of
-    at_new k = record { rule = (rw add-zero at (line_new 0 width_some)) k; record_number = line_new 1 (omega arith) k }
+    at_new k = record { rule = (rw add-zero at (line_new 0 width_some)) k; record_number = line_new 1 (omega arith) k; class = line_new 2 (omega arith) k }
 
   module _ (t : T (not (changed i))) where
     pub read_kept : (j : ℕ) → j / verdict_bytes ≡ i → get_or (flat_rewritten changed v row) j 0 ≡ get_or row j 0
@@ -141,7 +141,7 @@ module _ (changed : ℕ → Bool) (v : ℕ → Verdict) (row : List ℕ) (i : �
 
     pub at_kept : flat_at (flat_rewritten changed v row) i ≡ flat_at row i
     unfolding flat_at
-    at_kept k = record { rule = (rw add-zero at (line_kept 0 width_some)) k; record_number = line_kept 1 (omega arith) k }
+    at_kept k = record { rule = (rw add-zero at (line_kept 0 width_some)) k; record_number = line_kept 1 (omega arith) k; class = line_kept 2 (omega arith) k }
 
 -- ---- the whole row
 

@@ -23,6 +23,7 @@ use Rattle.spec.specs.Refusals.{Accepted, one_class, superclass_fits, present_re
 use Rattle.theory.specs.Claims.{Relations, RelationsHold, One, Form, FormHolds}
 use Rattle.laws.proofs.Bools.{decide, t_and, and_l, and_r, not_or_l, not_or_r, not_or, eq→eqb, t_true, t_false}
 use Rattle.laws.proofs.All.{All, all_append, all_take, all_drop, all_get, all_at, at_member, keep_yes, keep_no}
+use Rattle.laws.proofs.Sorted.{Lone, empty, single}
 use Rattle.theory.proofs.Cut.{in_groups, split_parts}
 use Rattle.theory.proofs.Answers.{first_none}
 use Rattle.theory.proofs.Accept.{RecordFits, Sound, sound}
@@ -31,6 +32,7 @@ use Rattle.theory.proofs.Falls.{Falls, falls}
 use Rattle.theory.proofs.Overlay.{marked_sound, marked_complete}
 use Rattle.theory.proofs.Lines.{inside_sound, inside_complete, lineage_is, root_is, walk_enough, lineage_library, lineage_more, root_library, root_more}
 use Rattle.theory.proofs.Capture.{chain_is, captured_is, depends_is}
+use Rattle.theory.proofs.CapturedOrder.{captured_order}
 
 pub accepted_sound : (library user : List ℕ) (used : ℕ) → present_refusal library user used ≡ none → Sound library (take used user)
 unfolding present_refusal
@@ -97,6 +99,16 @@ group_one_class library user c h =
     all_at (λ h. T (one_class h)) [] (groups_of library ++ groups_of user)
     (all_append (λ h. T (one_class h)) (groups_of library) (groups_of user) (split_parts (records_of library)).one (split_parts (records_of user)).one)
     c (omega (arith, length-append (groups_of library) (groups_of user)))
+
+-- at most one CLASS record, also past the last class
+pub classes_lone : (library user : List ℕ) (c : ℕ) → Lone (of_kind CLASS (group library user c))
+classes_lone library user c = go (decide (ltb c (total library user)))
+  where
+    go : T (ltb c (total library user)) ⊎ T (not (ltb c (total library user))) → Lone (of_kind CLASS (group library user c))
+    go (inl t) =
+        let one = one_record (group library user c) (group_one_class library user c (ltb→lt c (total library user) t)) in
+        subst Lone (sym one) single
+    go (inr t) = subst (λ (g : Group). Lone (of_kind CLASS g)) (sym (group_past library user c (nltb→le c (total library user) t))) (unfold of_kind keep in empty)
 
 unless_one : (x : ℕ) → x < 256 → unless_none x ≡ x ∷ []
 unfolding unless_none
@@ -294,9 +306,10 @@ module _ (library user : List ℕ) (s : Sound library user) where
       chain = chain_is (group library user) sound_falls sound_bound sound_variables;
       marked = λ c k h. (marked_sound (group library user) sound_falls low c k h, marked_complete (group library user) sound_falls low c k);
       inside = λ d l. (inside_sound (group library user) sound_falls d l, inside_complete (group library user) sound_falls);
-      lineage = lineage_is (class_count library) (group library user) sound_falls;
+      lineage = lineage_is (class_count library) (group library user) sound_falls (classes_lone library user);
       root = root_is (class_count library) (group library user) sound_falls;
       captured = captured_is (group library user) sound_falls sound_bound sound_variables;
+      captured_order = captured_order (group library user);
     }
 
 -- the test that an operation makes, and the relation

@@ -17,6 +17,7 @@ use Rattle.laws.proofs.Bools.{eq→eqb}
 use Rattle.theory.proofs.Closure.{bit_zero}
 use Rattle.theory.proofs.References.{references_builds}
 use Rattle.laws.proofs.Members.{gather_mem, mem_gather, keep_mem, mem_keep}
+use Rattle.laws.proofs.Sorted.{Lone, empty, single, lone_gather}
 
 -- ---- one group
 
@@ -64,6 +65,23 @@ encloser_is g e = (
   (λ m. let q = said_class encloser g e m in record { said = q.0; some = q.1 }),
   (λ h. class_said encloser g e h.said h.some),
 )
+
+-- a group of one CLASS record has at most one superclass and one encloser
+unless_lone : (x : ℕ) → Lone (unless_none x)
+unfolding unless_none
+unless_lone x = go (eqb x none16)
+  where
+    go : (b : Bool) → Lone (elim b as (λ (c : Bool). List ℕ) [ true ↦ [] | false ↦ x ∷ [] ])
+    go true = empty
+    go false = single
+
+pub superclasses_lone : (g : Group) → Lone (of_kind CLASS g) → Lone (superclasses g)
+unfolding superclasses
+superclasses_lone g l = lone_gather (λ r. unless_none (superclass r)) (λ r. unless_lone (superclass r)) l
+
+pub enclosing_lone : (g : Group) → Lone (of_kind CLASS g) → Lone (enclosing g)
+unfolding enclosing
+enclosing_lone g l = lone_gather (λ r. unless_none (encloser r)) (λ r. unless_lone (encloser r)) l
 
 pub target_is : (k : ℕ) (g : Group) (t : ℕ) → Memᴰ t (targets k g) ↔ Says k target g t
 unfolding targets of_kind

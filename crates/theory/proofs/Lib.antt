@@ -11,12 +11,14 @@ pub mod Falls
 pub mod Overlay
 pub mod Lines
 pub mod Capture
+pub mod CapturedOrder
+pub mod Listed
 pub mod Form
 pub mod Few
 pub mod Alike
 pub mod Slots
 pub mod Local
-pub mod Lowest
+pub mod First
 pub mod Demand2
 pub mod Statics
 pub mod Faults

@@ -1,4 +1,4 @@
--- Enclosers, superclasses and root: each computed list holds what its relation says.
+-- Enclosers, superclasses and root: each computed list holds what its relation says, and that of superclasses in its order.
 -- Assumes nothing.
 use mathlib.Core.Path.{◌≡◌, refl, sym, ap, ◌∙◌, subst}
 use mathlib.Core.Logic.{◌⊎◌, inl, inr, ◌↔◌}
@@ -10,13 +10,15 @@ use native.Mathlib.Nat.{le_refl, not-suc-le-zero}
 use native.Mathlib.Omega.{arith}
 use lib.Dec.{T, ltb, ltb→lt, nltb→le, lt→ltb}
 use Rattle.spec.specs.Lists.{gather}
-use Rattle.spec.specs.Sheet.{Group}
+use Rattle.spec.specs.Record.{CLASS}
+use Rattle.spec.specs.Sheet.{Group, of_kind}
 use Rattle.spec.specs.Classes.{superclasses, enclosing, enclosers_in, enclosers, inside, lineage_in, lineage, root_in, root}
-use Rattle.spec.specs.Relations.{Superclass, Encloser, self, Lineage, up, Root, Inside, direct, deeper}
-use Rattle.laws.proofs.Bools.{decide, nltb, false_t, t_true, t_false}
+use Rattle.spec.specs.Relations.{At, here, next, Superclass, Encloser, self, Lineage, up, Root, Inside, direct, deeper}
+use Rattle.laws.proofs.Bools.{decide, nltb, t_true, t_false}
 use Rattle.laws.proofs.All.{All, of_members, gather_cong}
-use Rattle.laws.proofs.Members.{elem_mem, mem_elem, gather_mem, mem_gather}
-use Rattle.theory.proofs.Groups.{superclass_is, encloser_is}
+use Rattle.laws.proofs.Members.{elem_mem, mem_elem, gather_mem, mem_gather, at_in, in_at}
+use Rattle.laws.proofs.Sorted.{Lone, empty, single, lone_gather, lone_at, at_lone}
+use Rattle.theory.proofs.Groups.{superclass_is, encloser_is, superclasses_lone}
 use Rattle.theory.proofs.Falls.{Falls}
 
 module _ (g : ℕ → Group) (f : Falls g) where
@@ -57,43 +59,34 @@ module _ (nlib : ℕ) (g : ℕ → Group) (f : Falls g) where
   -- ---- superclasses and root
 
   -- one step more at the lower end of a line of superclasses
-  pub lineage_prepend : {c s t : ℕ} → Superclass (g c) s → nlib ≤ s → Lineage nlib g s t → Lineage nlib g c t
-  lineage_prepend h l self = up self h l
-  lineage_prepend h l (up p q k) = up (lineage_prepend h l p) q k
+  pub lineage_prepend : {c s h t : ℕ} → Superclass (g c) s → nlib ≤ s → Lineage nlib g s h t → Lineage nlib g c (suc h) t
+  lineage_prepend a l self = up self a l
+  lineage_prepend a l (up p q k) = up (lineage_prepend a l p) q k
 
-  lineage_in_lem : (n c s : ℕ) → Memᴰ s (lineage_in nlib g n c) → Lineage nlib g c s
-  unfolding lineage_in
-  lineage_in_lem zero c s m = absurd (Memᴰ.not-nil m)
-  lineage_in_lem (suc n) c s m = go (ltb c nlib) m (lineage_in_lem n)
-    where
-      up_from : Memᴰ s (gather (lineage_in nlib g n) (superclasses (g c))) → ((d s : ℕ) → Memᴰ s (lineage_in nlib g n d) → Lineage nlib g d s) → Lineage nlib g c s
-      up_from m ih =
-          let a = gather_mem (lineage_in nlib g n) (superclasses (g c)) s m in
-          lineage_prepend ((superclass_is (g c) a.source).0 a.member) (user_head n a.source s a.part) (ih a.source s a.part)
-        where
-          user_head : (n d s : ℕ) → Memᴰ s (lineage_in nlib g n d) → nlib ≤ d
-          user_head zero d s m = absurd (Memᴰ.not-nil m)
-          user_head (suc n) d s m = at (ltb d nlib) refl m
-            where
-              at : (b : Bool) → ltb d nlib ≡ b → Memᴰ s (elim b as (λ (x : Bool). List ℕ) [ true ↦ [] | false ↦ d ∷ gather (lineage_in nlib g n) (superclasses (g d)) ]) → nlib ≤ d
-              at true e m = absurd (Memᴰ.not-nil m)
-              at false e m = nltb→le d nlib (false_t e)
+  -- a line's first step, and what is left of it
+  record Step (c h t : ℕ) : Type 0 where
+    base : ℕ
+    above : Superclass (g c) base
+    user : nlib ≤ base
+    rest : Lineage nlib g base h t
 
-      go : (b : Bool) → Memᴰ s (elim b as (λ (x : Bool). List ℕ) [ true ↦ [] | false ↦ c ∷ gather (lineage_in nlib g n) (superclasses (g c)) ])
-          → ((d s : ℕ) → Memᴰ s (lineage_in nlib g n d) → Lineage nlib g d s) → Lineage nlib g c s
-      go true m ih = absurd (Memᴰ.not-nil m)
-      go false m ih = at (Memᴰ.cases_cons m)
-        where
-          at : (s ≡ c) ⊎ Memᴰ s (gather (lineage_in nlib g n) (superclasses (g c))) → Lineage nlib g c s
-          at (inl q) = subst (Lineage nlib g c) (sym q) self
-          at (inr k) = up_from k ih
+  first_step : {c h t : ℕ} → Lineage nlib g c (suc h) t → Step c h t
+  first_step (up {t} self q k) = record { base = t; above = q; user = k; rest = self }
+  first_step (up (up p a l) q k) = let r = first_step (up p a l) in record { base = r.base; above = r.above; user = r.user; rest = up r.rest q k }
+
+  no_step : {c t : ℕ} → Lineage nlib g c 0 t → t ≡ c
+  no_step self = refl
+
+  pub lineage_user : {c h t : ℕ} → nlib ≤ c → Lineage nlib g c h t → nlib ≤ t
+  lineage_user h self = h
+  lineage_user h (up p q k) = k
+
+  pub lineage_low : {c h t : ℕ} → Lineage nlib g c h t → t ≤ c
+  lineage_low {c} self = le_refl c
+  lineage_low (up {s} {t} p a k) = let q : t < s = f.superclass s t a in let r = lineage_low p in omega arith
 
   supers_lower : (c : ℕ) → All (λ e. e < c) (superclasses (g c))
   supers_lower c = of_members (λ e. e < c) (superclasses (g c)) (λ e m. f.superclass c e ((superclass_is (g c) e).0 m))
-
-  pub lineage_user : {c s : ℕ} → nlib ≤ c → Lineage nlib g c s → nlib ≤ s
-  lineage_user h self = h
-  lineage_user h (up p q k) = k
 
   -- a walk up the superclasses that ends at the library, as the lineage and the root are found
   module _ (F : ℕ → ℕ → List ℕ) (stop start : ℕ → List ℕ) (at_library : (n c : ℕ) → c < nlib → F (suc n) c ≡ stop c)
@@ -109,16 +102,6 @@ module _ (nlib : ℕ) (g : ℕ → Group) (f : Falls g) where
             at_user n c (nltb→le c nlib t)
             ∙ ap (λ (l : List ℕ). start c ++ l) (gather_cong (λ e. e < c) (F n) (F m) ih (superclasses (g c)) (supers_lower c))
             ∙ sym (at_user m c (nltb→le c nlib t))
-
-    walk_step : (d e x : ℕ) → nlib ≤ d → Superclass (g d) e → Memᴰ x (F (suc e) e) → Memᴰ x (F (suc d) d)
-    walk_step d e x h s m =
-        let q : e < d = f.superclass d e s in
-        subst (Memᴰ x) (sym (at_user d d h))
-        (Memᴰ.append_right (start d) (mem_gather (F d) ((superclass_is (g d) e).1 s) (subst (Memᴰ x) (walk_enough (suc e) d e (le_refl (suc e)) q) m)))
-
-    walk_down : {c s : ℕ} (x : ℕ) → nlib ≤ c → Lineage nlib g c s → Memᴰ x (F (suc s) s) → Memᴰ x (F (suc c) c)
-    walk_down x h self m = m
-    walk_down x h (up {s} {t} p q k) m = walk_down x h p (walk_step s t x (lineage_user h p) q m)
 
   pub lineage_library : (n c : ℕ) → c < nlib → lineage_in nlib g (suc n) c ≡ []
   unfolding lineage_in
@@ -140,20 +123,61 @@ module _ (nlib : ℕ) (g : ℕ → Group) (f : Falls g) where
   root_more n c h =
       ap (λ (b : Bool). elim b as (λ (x : Bool). List ℕ) [ true ↦ c ∷ [] | false ↦ gather (root_in nlib g n) (superclasses (g c)) ]) (t_false (ltb c nlib) (nltb c nlib h))
 
-  pub lineage_is : (c s : ℕ) → nlib ≤ c → Memᴰ s (lineage nlib g c) ↔ Lineage nlib g c s
-  unfolding lineage
-  lineage_is c s h = (
-    lineage_in_lem (suc c) c s,
-    (λ p. walk_down (lineage_in nlib g) (λ c. []) (λ c. c ∷ []) lineage_library lineage_more s h p
-        (subst (Memᴰ s) (sym (lineage_more s s (lineage_user h p))) (Memᴰ.head refl))),
-  )
+  -- ---- a line, in a class's list
 
-  root_in_lem : (n c d : ℕ) → nlib ≤ c → Memᴰ d (root_in nlib g n c) → Root nlib g c d
+  module _ (alone : (c : ℕ) → Lone (of_kind CLASS (g c))) where
+    -- only a user class has a line
+    line_user : (n c : ℕ) {h t : ℕ} → At (lineage_in nlib g n c) h t → nlib ≤ c
+    unfolding lineage_in
+    line_user zero c a = elim a [ ]
+    line_user (suc n) c {h} {t} a = go (decide (ltb c nlib))
+      where
+        none : {h t : ℕ} → At {A = ℕ} [] h t → nlib ≤ c
+        none a = elim a [ ]
+
+        go : T (ltb c nlib) ⊎ T (not (ltb c nlib)) → nlib ≤ c
+        go (inl u) = none (subst (λ (l : List ℕ). At l h t) (lineage_library n c (ltb→lt c nlib u)) a)
+        go (inr u) = nltb→le c nlib u
+
+    line_sound : (n c h t : ℕ) → At (lineage_in nlib g n c) h t → Lineage nlib g c h t
+    unfolding lineage_in
+    line_sound zero c h t a = elim a [ ]
+    line_sound (suc n) c h t a = go (subst (λ (l : List ℕ). At l h t) (lineage_more n c (line_user (suc n) c a)) a) (line_sound n)
+      where
+        go : {h t : ℕ} → At (c ∷ gather (lineage_in nlib g n) (superclasses (g c))) h t → ((d h t : ℕ) → At (lineage_in nlib g n d) h t → Lineage nlib g d h t) → Lineage nlib g c h t
+        go here ih = self
+        go (next {x} {k} b) ih =
+            let q = lone_at (lineage_in nlib g n) (superclasses_lone (g c) (alone c)) b in
+            lineage_prepend ((superclass_is (g c) q.0).0 q.1) (line_user n q.0 q.2) (ih q.0 k x q.2)
+
+    line_complete : (n c h t : ℕ) → c < n → nlib ≤ c → Lineage nlib g c h t → At (lineage_in nlib g n c) h t
+    line_complete zero c h t k l p = absurd (not-suc-le-zero k)
+    line_complete (suc n) c h t k l p = subst (λ (xs : List ℕ). At xs h t) (sym (lineage_more n c l)) (go h p (line_complete n))
+      where
+        go : (h : ℕ) → Lineage nlib g c h t → ((d h t : ℕ) → d < n → nlib ≤ d → Lineage nlib g d h t → At (lineage_in nlib g n d) h t)
+            → At (c ∷ gather (lineage_in nlib g n) (superclasses (g c))) h t
+        go zero p ih = subst (λ (x : ℕ). At (c ∷ gather (lineage_in nlib g n) (superclasses (g c))) 0 x) (sym (no_step p)) here
+        go (suc h) p ih =
+            let s = first_step p in
+            let q : s.base < c = f.superclass c s.base s.above in
+            next (at_lone (lineage_in nlib g n) (superclasses_lone (g c) (alone c)) ((superclass_is (g c) s.base).1 s.above) (ih s.base h t (omega arith) s.user s.rest))
+
+    pub lineage_is : (c h t : ℕ) → nlib ≤ c → At (lineage nlib g c) h t ↔ Lineage nlib g c h t
+    unfolding lineage
+    lineage_is c h t l = (line_sound (suc c) c h t, line_complete (suc c) c h t (le_refl (suc c)) l)
+
+    -- so it has the classes of all heights
+    pub lineage_has : (c t : ℕ) → nlib ≤ c → Memᴰ t (lineage nlib g c) ↔ ((h : ℕ) × Lineage nlib g c h t)
+    lineage_has c t l = ((λ m. let a = in_at m in (a.0, (lineage_is c a.0 t l).0 a.1)), (λ q. at_in ((lineage_is c q.0 t l).1 q.1)))
+
+  -- ---- the root
+
+  root_sound : (n c d : ℕ) → nlib ≤ c → Memᴰ d (root_in nlib g n c) → Root nlib g c d
   unfolding root_in
-  root_in_lem zero c d h m = absurd (Memᴰ.not-nil m)
-  root_in_lem (suc n) c d h m =
+  root_sound zero c d h m = absurd (Memᴰ.not-nil m)
+  root_sound (suc n) c d h m =
       let a = gather_mem (root_in nlib g n) (superclasses (g c)) d (subst (Memᴰ d) (root_more n c h) m) in
-      go a.source ((superclass_is (g c) a.source).0 a.member) n a.part (decide (ltb a.source nlib)) (root_in_lem n a.source d)
+      go a.source ((superclass_is (g c) a.source).0 a.member) n a.part (decide (ltb a.source nlib)) (root_sound n a.source d)
     where
       last_step : (s n : ℕ) → s < nlib → Memᴰ d (root_in nlib g n s) → d ≡ s
       last_step s zero l m = absurd (Memᴰ.not-nil m)
@@ -163,18 +187,40 @@ module _ (nlib : ℕ) (g : ℕ → Group) (f : Falls g) where
           → (nlib ≤ s → Memᴰ d (root_in nlib g n s) → Root nlib g s d) → Root nlib g c d
       go s h n m (inl t) ih =
           let e : d ≡ s = last_step s n (ltb→lt s nlib t) m in
-          record { last = c; line = self; above = subst (Superclass (g c)) (sym e) h; library = subst (λ (x : ℕ). x < nlib) (sym e) (ltb→lt s nlib t) }
+          record { height = 0; last = c; line = self; above = subst (Superclass (g c)) (sym e) h; library = subst (λ (x : ℕ). x < nlib) (sym e) (ltb→lt s nlib t) }
       go s h n m (inr t) ih =
           let r = ih (nltb→le s nlib t) m in
-          record { last = r.last; line = lineage_prepend h (nltb→le s nlib t) r.line; above = r.above; library = r.library }
+          record { height = suc r.height; last = r.last; line = lineage_prepend h (nltb→le s nlib t) r.line; above = r.above; library = r.library }
+
+  root_complete : (n c d h t : ℕ) → c < n → nlib ≤ c → Lineage nlib g c h t → Superclass (g t) d → d < nlib → Memᴰ d (root_in nlib g n c)
+  root_complete zero c d h t k l p a b = absurd (not-suc-le-zero k)
+  root_complete (suc n) c d zero t k l p a b =
+      let s : Superclass (g c) d = subst (λ (x : ℕ). Superclass (g x) d) (no_step p) a in
+      let q : d < c = f.superclass c d s in
+      subst (Memᴰ d) (sym (root_more n c l)) (mem_gather (root_in nlib g n) ((superclass_is (g c) d).1 s) (go n (omega arith)))
+    where
+      go : (n : ℕ) → d < n → Memᴰ d (root_in nlib g n d)
+      go zero k = absurd (not-suc-le-zero k)
+      go (suc n) k = subst (Memᴰ d) (sym (root_library n d b)) (Memᴰ.head refl)
+  root_complete (suc n) c d (suc h) t k l p a b =
+      let s = first_step p in
+      let q : s.base < c = f.superclass c s.base s.above in
+      subst (Memᴰ d) (sym (root_more n c l))
+      (mem_gather (root_in nlib g n) ((superclass_is (g c) s.base).1 s.above) (root_complete n s.base d h t (omega arith) s.user s.rest a b))
 
   pub root_is : (c d : ℕ) → nlib ≤ c → Memᴰ d (root nlib g c) ↔ Root nlib g c d
   unfolding root
-  root_is c d h = (
-    root_in_lem (suc c) c d h,
-    (λ r.
-        let w : (s e x : ℕ) → nlib ≤ s → Superclass (g s) e → Memᴰ x (root_in nlib g (suc e) e) → Memᴰ x (root_in nlib g (suc s) s) =
-        walk_step (root_in nlib g) (λ c. c ∷ []) (λ c. []) root_library root_more in
-        walk_down (root_in nlib g) (λ c. c ∷ []) (λ c. []) root_library root_more d h r.line
-        (w r.last d d (lineage_user h r.line) r.above (subst (Memᴰ d) (sym (root_library d d r.library)) (Memᴰ.head refl)))),
-  )
+  root_is c d l = (root_sound (suc c) c d l, (λ r. root_complete (suc c) c d r.height r.last (le_refl (suc c)) l r.line r.above r.library))
+
+pub root_lone : (nlib : ℕ) (g : ℕ → Group) → ((c : ℕ) → Lone (of_kind CLASS (g c))) → (c : ℕ) → Lone (root nlib g c)
+unfolding root root_in
+root_lone nlib g alone c = go (suc c) c
+  where
+    go : (n c : ℕ) → Lone (root_in nlib g n c)
+    go zero c = empty
+    go (suc n) c = at (ltb c nlib) (lone_gather (root_in nlib g n) (go n) (superclasses_lone (g c) (alone c)))
+      where
+        at : (b : Bool) → Lone (gather (root_in nlib g n) (superclasses (g c)))
+            → Lone (elim b as (λ (x : Bool). List ℕ) [ true ↦ c ∷ [] | false ↦ gather (root_in nlib g n) (superclasses (g c)) ])
+        at true l = single
+        at false l = l

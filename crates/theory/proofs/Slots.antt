@@ -1,29 +1,29 @@
--- The computed slots of a class are document 01's, each with the record where its fault stands; so are the types that satisfy a marker, and the members that are allowed.
+-- The computed slots of a class are document 01's, in the order of the walk; so are the types that satisfy a marker, and the members that are allowed.
 -- Assumes nothing.
-use mathlib.Core.Path.{◌≡◌, refl, sym, ap, ◌∙◌, subst}
-use mathlib.Core.Logic.{◌⊎◌, inl, inr, ◌≢◌, ◌↔◌}
+use mathlib.Core.Path.{◌≡◌, refl, sym, ap, ap₂, ◌∙◌, subst}
+use mathlib.Core.Logic.{◌⊎◌, inl, inr, ◌↔◌}
 use mathlib.Core.Bool.{Bool, true, false, not, ◌&&◌}
 use mathlib.Core.List.Memᴰ
 use mathlib.Core.List.{List, [], ◌∷◌, ◌++◌, map, Memᴰ}
 use Prim.Native.Nat.{ℕ, zero, suc, ◌+◌, ◌≤◌, ◌<◌}
-use native.Mathlib.Nat.{le_refl, add-zero, zero-add, suc-add, add-suc}
+use native.Mathlib.Nat.{add-zero, zero-add, suc-add, add-suc}
 use native.Mathlib.Omega.{arith}
-use lib.Dec.{T, T_not, not_T, eqb, eqb→eq, eqb_refl}
-use lib.ListN.{get_or, take, drop}
+use lib.Dec.{T, T_not, not_T, eqb, eqb→eq}
+use lib.ListN.{length, get_or, take, drop}
 use Rattle.spec.specs.Lists.{all, keep, numbered}
-use Rattle.spec.specs.Record.{u16, bit, is_kind, FIELD, LOCAL, MEMBER, flags, Ty, local_ty, is_static, ty_references}
+use Rattle.spec.specs.Record.{u16, bit, is_kind, CLASS, FIELD, LOCAL, MEMBER, flags, Ty, local_ty, is_final, is_transient, is_static, ty_references}
 use Rattle.spec.specs.Sheet.{Group, class_record, of_kind, is_inner, is_instance_field}
 use Rattle.spec.specs.Classes.{Slot, field_slot, encloser_slot, variable_slot, class_ty, enclosing, locals, local_at, has_marker, satisfies}
 use Rattle.spec.specs.Classes.{lineage, captured, encloser_slots, field_slots, captured_slots, own_slots, slots}
-use Rattle.spec.specs.Rules.{slot_fault, place_in, member_allowed}
-use Rattle.spec.specs.Relations.{At, Nth, here, over, past, Encloser, Marked, Lineage, self, up, Captures}
-use Rattle.spec.specs.Breaks.{Flag, Allowed, Satisfies, object, primitive, SlotShape, field, fixed, type_of, Final, Transient, OwnSlot, instance, outer, HasSlot, own, inherited}
-use Rattle.laws.proofs.Bools.{decide, t_and, and_l, and_r, t_true, t_false, true_t, false_t, eq→eqb}
-use Rattle.laws.proofs.Members.{gather_mem, mem_gather, keep_mem, mem_keep, only_mem, mem_only, numbered_at, at_numbered}
-use Rattle.theory.proofs.Groups.{encloser_is, flag_is}
-use Rattle.theory.proofs.Falls.{Falls}
-use Rattle.theory.proofs.Lines.{inside_lower}
-use Rattle.theory.proofs.Capture.{chain_inside}
+use Rattle.spec.specs.Rules.{member_allowed}
+use Rattle.spec.specs.Relations.{At, Before, same, Nth, here, over, past, Marked, Lineage, Captures}
+use Rattle.spec.specs.Breaks.{Allowed, Satisfies, object, primitive, SlotShape, field, fixed, type_of, Final, Transient, OwnSlot, instance, outer, HasSlot, of}
+use Rattle.laws.proofs.Bools.{t_and, and_l, and_r, t_true, t_false, true_t, false_t, eq→eqb}
+use Rattle.laws.proofs.Members.{only_mem, mem_only}
+use Rattle.laws.proofs.Sorted.{Lone, lone_first, lone_if, lone_map, lone_sorted, sorted_weaken}
+use Rattle.theory.proofs.Groups.{encloser_is, enclosing_lone, flag_is}
+use Rattle.theory.proofs.CapturedOrder.{variable_place, sorted_captured}
+use Rattle.theory.proofs.Listed.{Listed, listed_same, listed_by, listed_keep, listed_append, listed_map, listed_gather, listed_numbered, listed_at, before_by, Moved, Given}
 use Rattle.theory.proofs.Closure.{bit_zero}
 
 -- ---- the i-th record of a kind
@@ -164,207 +164,176 @@ module _ (g : ℕ → Group) (marked : (c k : ℕ) → k < 8 → T (has_marker g
 
 -- ---- slots
 
--- a computed slot is a slot of that shape
-pub record Shows (s : Slot) (x : SlotShape) : Type 0 where
-  pub final : T s.final ↔ Final x
-  pub transient : T s.transient ↔ Transient x
-  pub type : s.type ≡ type_of x
+abbrev pub final_of : SlotShape → Bool
+final_of (field r) = is_final r
+final_of (fixed t) = true
 
-fixed_shows : (d n : ℕ) (t : Ty) → Shows (record { holder = d; record_number = n; final = true; transient = false; type = t }) (fixed t)
-fixed_shows d n t = record { final = ((λ u. u), (λ u. u)); transient = ((λ u. u), (λ u. u)); type = refl }
+abbrev pub transient_of : SlotShape → Bool
+transient_of (field r) = is_transient r
+transient_of (fixed t) = false
 
-field_shows : (d : ℕ) (n : ℕ × List ℕ) → Shows (field_slot d n) (field n.1)
-unfolding field_slot
-field_shows d n = record { final = ((λ u. u), (λ u. u)); transient = ((λ u. u), (λ u. u)); type = refl }
+-- the slot of that shape, at record k of class d
+abbrev pub slot_of : ℕ → ℕ → SlotShape → Slot
+slot_of d k x = record { holder = d; record_number = k; final = final_of x; transient = transient_of x; type = type_of x }
 
--- where a fault stands
-pub place_own : (c n : ℕ) → place_in c (record { class = c; record_number = n }) ≡ n
-unfolding place_in
-place_own c n = ap (λ (b : Bool). elim b as (λ (x : Bool). ℕ) [ true ↦ n | false ↦ 0 ]) (t_true (eqb c c) (eqb_refl c))
+pub final_is : (x : SlotShape) → T (final_of x) ↔ Final x
+final_is (field r) = ((λ t. t), (λ t. t))
+final_is (fixed t) = ((λ t. t), (λ t. t))
 
-pub place_other : (c d n : ℕ) → d ≢ c → place_in c (record { class = d; record_number = n }) ≡ 0
-unfolding place_in
-place_other c d n h = ap (λ (b : Bool). elim b as (λ (x : Bool). ℕ) [ true ↦ n | false ↦ 0 ]) (t_false (eqb d c) (not_T (eqb d c) (λ t. h (eqb→eq d c t))))
+pub transient_is : (x : SlotShape) → T (transient_of x) ↔ Transient x
+transient_is (field r) = ((λ t. t), (λ t. t))
+transient_is (fixed t) = ((λ t. t), (λ t. t))
 
-slot_other : (c : ℕ) (s : Slot) → s.holder ≢ c → place_in c (slot_fault s) ≡ 0
-unfolding slot_fault
-slot_other c s h = place_other c s.holder s.record_number h
+-- a computed slot is one of those that a relation tells
+pub record Shows (slots : List ℕ → ℕ → ℕ → SlotShape → Type 0) (w : List ℕ) (s : Slot) : Type 0 where
+  pub class : ℕ
+  pub number : ℕ
+  pub shape : SlotShape
+  pub told : slots w class number shape
+  pub is : s ≡ slot_of class number shape
 
-pub place_zero : (c d : ℕ) → place_in c (record { class = d; record_number = 0 }) ≡ 0
-unfolding place_in
-place_zero c d = go (eqb d c)
-  where
-    go : (b : Bool) → ◌≡◌ {A = ℕ} (elim b as (λ (x : Bool). ℕ) [ true ↦ 0 | false ↦ 0 ]) 0
-    go true = refl
-    go false = refl
+module _ (g : ℕ → Group) (captures : (l d i : ℕ) → Memᴰ (d, i) (captured g l) ↔ Captures g l d i) (alone : (c : ℕ) → Lone (of_kind CLASS (g c))) where
+  -- ---- the slots of one class
 
-module _ (nlib : ℕ) (g : ℕ → Group) (f : Falls g) (captures : (l d i : ℕ) → Memᴰ (d, i) (captured g l) ↔ Captures g l d i)
-    (line : (c s : ℕ) → nlib ≤ c → Memᴰ s (lineage nlib g c) ↔ Lineage nlib g c s) where
-  -- a slot of class t itself, where its fault stands in t, and no higher holder
-  record Own (t : ℕ) (s : Slot) : Type 0 where
-    shape : SlotShape
-    is : OwnSlot g t (place_in t (slot_fault s)) shape
-    shows : Shows s shape
-    low : s.holder ≤ t
+  module _ (t : ℕ) where
+    abbrev Own : List ℕ → Slot → Type 0
+    Own = Shows (OwnSlot g t)
 
-  captured_lower : {l d i : ℕ} → Captures g l d i → d < l
-  captured_lower h = inside_lower g f (chain_inside g f h.chain)
+    -- the encloser first
+    abbrev Enclosed : List ℕ → Slot → Type 0
+    Enclosed w s = (w ≡ 0 ∷ []) × Memᴰ s (encloser_slots g t)
 
-  own_encloser : (t : ℕ) (s : Slot) → Memᴰ s (encloser_slots g t) → Own t s
-  unfolding encloser_slots is_inner
-  own_encloser t s m =
-      let o = only_mem (bit 1 (flags (class_record (g t)))) (map (encloser_slot t) (enclosing (g t))) m in
-      let a = Memᴰ.of_map (encloser_slot t) (enclosing (g t)) o.1 in
-      subst (Own t) a.2 (at a.0 ((flag_is 1 (g t)).0 o.0) ((encloser_is (g t) a.0).0 a.1))
-    where
-      at : (e : ℕ) → Flag 1 (g t) → Encloser (g t) e → Own t (encloser_slot t e)
-      at e h k = unfold encloser_slot class_ty slot_fault in
-          record {
-            shape = fixed (record { dims = 0; code = 0; class = e });
-            is = subst (λ (n : ℕ). OwnSlot g t n (fixed (record { dims = 0; code = 0; class = e }))) (sym (place_own t 0)) (outer h k);
-            shows = fixed_shows t 0 (record { dims = 0; code = 0; class = e });
-            low = le_refl t;
-          }
+    enclosers_listed : Listed Enclosed (encloser_slots g t)
+    unfolding encloser_slots
+    enclosers_listed =
+        listed_by (λ s. 0 ∷ []) (encloser_slots g t)
+        (lone_sorted (λ r s. Before (0 ∷ []) (0 ∷ [])) (lone_if (is_inner (g t)) (lone_map (encloser_slot t) (enclosing_lone (g t) (alone t)))))
 
-  own_field : (t : ℕ) (s : Slot) → Memᴰ s (field_slots g t) → Own t s
-  unfolding field_slots is_instance_field
-  own_field t s m =
-      let a = Memᴰ.of_map (field_slot t) (keep (λ n. is_kind FIELD n.1 && not (is_static n.1)) (numbered 0 (g t))) m in
-      let k = keep_mem (λ n. is_kind FIELD n.1 && not (is_static n.1)) (numbered 0 (g t)) a.0 a.1 in
-      let p = numbered_at 0 (g t) a.0 k.0 in
-      let r : List ℕ = a.0.1 in
-      let h : At (g t) a.0.0 r = subst (λ (n : ℕ). At (g t) n r) (sym (zero-add p.number) ∙ sym p.is) p.at in
-      subst (Own t) a.2 (at a.0 h (and_l (is_kind FIELD r) (not (is_static r)) k.1) (and_r (is_kind FIELD r) (not (is_static r)) k.1))
-    where
-      at : (n : ℕ × List ℕ) → At (g t) n.0 n.1 → T (is_kind FIELD n.1) → T (not (is_static n.1)) → Own t (field_slot t n)
-      at n h k u = unfold field_slot slot_fault in
-          record {
-            shape = field n.1;
-            is = subst (λ (i : ℕ). OwnSlot g t i (field n.1)) (sym (place_own t n.0)) (instance h k (T_not (is_static n.1) u));
-            shows = field_shows t n;
-            low = le_refl t;
-          }
+    -- fields in order
+    abbrev Fielded : List ℕ → Slot → Type 0
+    Fielded = Moved (λ (w : List ℕ) (n : ℕ × List ℕ). ((w ≡ n.0 ∷ []) × At (g t) n.0 n.1) × T (is_instance_field n.1)) (1 ∷ []) (field_slot t)
 
-  own_captured : (t : ℕ) (s : Slot) → Memᴰ s (captured_slots g t) → Own t s
-  unfolding captured_slots local_at locals numbers
-  own_captured t s m =
-      let a = gather_mem (λ v. map (variable_slot v.0) (local_at (g v.0) v.1)) (captured g t) s m in
-      let v : ℕ × ℕ = a.source in
-      let b = Memᴰ.of_map (variable_slot v.0) (local_at (g v.0) v.1) a.part in
-      let q = nth_sound LOCAL 0 (g v.0) v.1 b.0 b.1 in
-      subst (Own t) b.2 (at v.0 v.1 b.0 ((captures t v.0 v.1).0 a.member) q.number q.nth)
-    where
-      at : (d i : ℕ) (n : ℕ × List ℕ) → Captures g t d i → (k : ℕ) → Nth LOCAL (g d) i k n.1 → Own t (variable_slot d n)
-      at d i n h k l = unfold variable_slot slot_fault in
-          let lt : d < t = captured_lower h in
-          record {
-            shape = fixed (local_ty n.1);
-            is = subst (λ (j : ℕ). OwnSlot g t j (fixed (local_ty n.1))) (sym (place_other t d n.0 (omega arith))) (Rattle.spec.specs.Breaks.OwnSlot.captured h l);
-            shows = fixed_shows d n.0 (local_ty n.1);
-            low = omega arith;
-          }
+    fields_listed : Listed Fielded (field_slots g t)
+    unfolding field_slots
+    fields_listed = listed_map (1 ∷ []) (field_slot t) (listed_keep (λ n. is_instance_field n.1) (listed_numbered (g t)))
 
-  own_sound : (t : ℕ) (s : Slot) → Memᴰ s (own_slots g t) → Own t s
-  unfolding own_slots
-  own_sound t s m = go (Memᴰ.append_cases (encloser_slots g t) m)
-    where
-      go : Memᴰ s (encloser_slots g t) ⊎ Memᴰ s (field_slots g t ++ captured_slots g t) → Own t s
-      go (inl k) = own_encloser t s k
-      go (inr k) = at (Memᴰ.append_cases (field_slots g t) k)
-        where
-          at : Memᴰ s (field_slots g t) ⊎ Memᴰ s (captured_slots g t) → Own t s
-          at (inl k) = own_field t s k
-          at (inr k) = own_captured t s k
+    -- captured variables by class and index
+    variables : ℕ × ℕ → List Slot
+    variables v = map (variable_slot v.0) (local_at (g v.0) v.1)
 
-  -- every slot of that shape is computed
-  record OwnBack (t k : ℕ) (x : SlotShape) : Type 0 where
-    slot : Slot
-    member : Memᴰ slot (own_slots g t)
-    place : place_in t (slot_fault slot) ≡ k
-    shows : Shows slot x
-    low : slot.holder ≤ t
+    abbrev Variable : List ℕ → Slot → Type 0
+    Variable = Given (λ (w : List ℕ) (v : ℕ × ℕ). (w ≡ 2 ∷ variable_place v) × Memᴰ v (captured g t)) (λ (v : ℕ × ℕ) (u : List ℕ) (s : Slot). (u ≡ []) × Memᴰ s (variables v))
 
-  own_complete : {t k : ℕ} {x : SlotShape} → OwnSlot g t k x → OwnBack t k x
-  unfolding own_slots field_slots is_instance_field field_slot slot_fault encloser_slots is_inner encloser_slot class_ty captured_slots local_at locals numbers variable_slot
-  own_complete {t} (instance {k} {r} a b u) = record {
-    slot = field_slot t (k, r);
-    member = Memᴰ.append_right (encloser_slots g t) (Memᴰ.append_left (captured_slots g t)
-        (Memᴰ.map (field_slot t)
-        (mem_keep (λ (n : ℕ × List ℕ). is_kind FIELD n.1 && not (is_static n.1))
-        (subst (λ (n : ℕ). Memᴰ (n, r) (numbered 0 (g t))) (zero-add k) (at_numbered a 0))
-        (t_and (is_kind FIELD r) (not (is_static r)) b (not_T (is_static r) u)))));
-    place = place_own t k;
-    shows = field_shows t (k, r);
-    low = le_refl t;
-  }
-  own_complete {t} (outer {e} h k) = record {
-    slot = encloser_slot t e;
-    member = Memᴰ.append_left (field_slots g t ++ captured_slots g t)
-        (mem_only (bit 1 (flags (class_record (g t)))) (map (encloser_slot t) (enclosing (g t))) ((flag_is 1 (g t)).1 h) (Memᴰ.map (encloser_slot t) ((encloser_is (g t) e).1 k)));
-    place = place_own t 0;
-    shows = fixed_shows t 0 (record { dims = 0; code = 0; class = e });
-    low = le_refl t;
-  }
-  own_complete {t} (Rattle.spec.specs.Breaks.OwnSlot.captured {d} {i} {k} {r} h l) =
-      let lt : d < t = captured_lower h in
-      record {
-        slot = variable_slot d (k, r);
-        member = Memᴰ.append_right (encloser_slots g t) (Memᴰ.append_right (field_slots g t)
-            (mem_gather (λ (v : ℕ × ℕ). map (variable_slot v.0) (local_at (g v.0) v.1)) ((captures t d i).1 h)
-            (Memᴰ.map (variable_slot d) (subst (λ (n : ℕ). Memᴰ (n, r) (local_at (g d) i)) (zero-add k) (nth_complete LOCAL l 0)))));
-        place = place_other t d k (omega arith);
-        shows = fixed_shows d k (local_ty r);
-        low = omega arith;
-      }
+    variable_at : {w : List ℕ} {s : Slot} (q : Variable w s) → w ≡ 2 ∷ variable_place q.thing
+    variable_at q = q.at ∙ ap₂ (λ (v u : List ℕ). v ++ u) q.told.0 q.gives.0
 
-  lineage_low : {c t : ℕ} → Lineage nlib g c t → t ≤ c
-  lineage_low {c} self = le_refl c
-  lineage_low (up {s} {t} p h k) = let q : t < s = f.superclass s t h in let r = lineage_low p in omega arith
+    captured_listed : Listed Variable (captured_slots g t)
+    unfolding captured_slots variables local_at
+    captured_listed =
+        listed_gather variables 3 (λ w v h. ap length h.0)
+        (λ v. listed_by (λ s. []) (variables v) (lone_sorted (λ r s. Before [] []) (lone_map (variable_slot v.0) (lone_first (drop v.1 (locals (g v.0)))))))
+        (listed_by (λ v. 2 ∷ variable_place v) (captured g t)
+        (sorted_weaken (λ v w. Before (variable_place v) (variable_place w)) (λ v w. Before (2 ∷ variable_place v) (2 ∷ variable_place w)) (λ v w b. same b) (captured g t) (sorted_captured g t)))
 
-  -- ---- own and inherited
+    own_sound : (w : List ℕ) (s : Slot) → Enclosed w s ⊎ (Fielded w s ⊎ Variable w s) → Own w s
+    unfolding encloser_slots is_inner encloser_slot class_ty is_instance_field variables local_at locals numbers variable_slot field_slot
+    own_sound w s (inl q) =
+        let o = only_mem (bit 1 (flags (class_record (g t)))) (map (encloser_slot t) (enclosing (g t))) q.1 in
+        let a = Memᴰ.of_map (encloser_slot t) (enclosing (g t)) o.1 in
+        let x : SlotShape = fixed (record { dims = 0; code = 0; class = a.0 }) in
+        record {
+          class = t;
+          number = 0;
+          shape = x;
+          told = subst (λ (w : List ℕ). OwnSlot g t w t 0 x) (sym q.0) (outer ((flag_is 1 (g t)).0 o.0) ((encloser_is (g t) a.0).0 a.1));
+          is = sym a.2;
+        }
+    own_sound w s (inr (inl q)) =
+        let k : ℕ = q.thing.0 in
+        let r : List ℕ = q.thing.1 in
+        record {
+          class = t;
+          number = k;
+          shape = field r;
+          told = subst (λ (w : List ℕ). OwnSlot g t w t k (field r)) (sym (q.at ∙ ap (λ (w : List ℕ). 1 ∷ w) q.told.0.0))
+              (instance q.told.0.1 (and_l (is_kind FIELD r) (not (is_static r)) q.told.1) (T_not (is_static r) (and_r (is_kind FIELD r) (not (is_static r)) q.told.1)));
+          is = q.is;
+        }
+    own_sound w s (inr (inr q)) =
+        let d : ℕ = q.thing.0 in
+        let i : ℕ = q.thing.1 in
+        let b = Memᴰ.of_map (variable_slot d) (local_at (g d) i) q.gives.1 in
+        let n = nth_sound LOCAL 0 (g d) i b.0 b.1 in
+        let k : ℕ = b.0.0 in
+        record {
+          class = d;
+          number = k;
+          shape = fixed (local_ty b.0.1);
+          told = subst (λ (w : List ℕ). OwnSlot g t w d k (fixed (local_ty b.0.1))) (sym (variable_at q))
+              (Rattle.spec.specs.Breaks.OwnSlot.captured ((captures t d i).0 q.told.1) (subst (λ (k : ℕ). Nth LOCAL (g d) i k b.0.1) (sym (n.is ∙ zero-add n.number)) n.nth));
+          is = sym b.2;
+        }
 
-  pub record Seen (c : ℕ) (s : Slot) : Type 0 where
-    pub shape : SlotShape
-    pub is : HasSlot nlib g c (place_in c (slot_fault s)) shape
-    pub shows : Shows s shape
+    own_complete : {w : List ℕ} {d k : ℕ} {x : SlotShape} → OwnSlot g t w d k x → Enclosed w (slot_of d k x) ⊎ (Fielded w (slot_of d k x) ⊎ Variable w (slot_of d k x))
+    unfolding encloser_slots is_inner encloser_slot class_ty is_instance_field variables local_at locals numbers variable_slot field_slot
+    own_complete (outer {e} h n) =
+        inl (refl, mem_only (bit 1 (flags (class_record (g t)))) (map (encloser_slot t) (enclosing (g t))) ((flag_is 1 (g t)).1 h) (Memᴰ.map (encloser_slot t) ((encloser_is (g t) e).1 n)))
+    own_complete (instance {k} {r} a b u) =
+        inr (inl (record { place = k ∷ []; thing = (k, r); told = ((refl, a), t_and (is_kind FIELD r) (not (is_static r)) b (not_T (is_static r) u)); at = refl; is = refl }))
+    own_complete (Rattle.spec.specs.Breaks.OwnSlot.captured {d} {i} {k} {r} c n) =
+        inr (inr (record {
+          place = 2 ∷ d ∷ i ∷ [];
+          thing = (d, i);
+          told = (refl, (captures t d i).1 c);
+          behind = [];
+          gives = (refl, Memᴰ.map (variable_slot d) (subst (λ (n : ℕ). Memᴰ (n, r) (local_at (g d) i)) (zero-add k) (nth_complete LOCAL n 0)));
+          at = refl;
+        }))
 
-  pub record SeenBack (c k : ℕ) (x : SlotShape) : Type 0 where
-    pub slot : Slot
-    pub member : Memᴰ slot (slots nlib g c)
-    pub place : place_in c (slot_fault slot) ≡ k
-    pub shows : Shows slot x
+    own_listed : Listed Own (own_slots g t)
+    unfolding own_slots
+    own_listed =
+        listed_same
+        (λ w s. (own_sound w s, (λ q. subst (λ (s : Slot). Enclosed w s ⊎ (Fielded w s ⊎ Variable w s)) (sym q.is) (own_complete q.told))))
+        (listed_append after_encloser enclosers_listed (listed_append after_fields fields_listed captured_listed))
+      where
+        after_fields : (w v : List ℕ) (r s : Slot) → Fielded w r → Variable v s → Before w v
+        after_fields w v r s p q = before_by (omega arith) p.at (variable_at q)
 
-  pub slots_sound : (c : ℕ) → nlib ≤ c → (s : Slot) → Memᴰ s (slots nlib g c) → Seen c s
-  unfolding slots
-  slots_sound c h s m =
-      let a = gather_mem (own_slots g) (lineage nlib g c) s m in
-      at a.source ((line c a.source h).0 a.member) (own_sound a.source s a.part) (decide (eqb a.source c))
-    where
-      at : (t : ℕ) → Lineage nlib g c t → Own t s → T (eqb t c) ⊎ T (not (eqb t c)) → Seen c s
-      at t p o (inl u) =
-          record { shape = o.shape; is = own (subst (λ (d : ℕ). OwnSlot g d (place_in d (slot_fault s)) o.shape) (eqb→eq t c u) o.is); shows = o.shows }
-      at t p o (inr u) =
-          let ne : t ≢ c = λ e. T_not (eqb t c) u (eq→eqb e) in
-          let le : t ≤ c = lineage_low p in
-          let low : s.holder ≤ t = o.low in
-          record {
-            shape = o.shape;
-            is = subst (λ (k : ℕ). HasSlot nlib g c k o.shape) (sym (slot_other c s (omega arith))) (inherited p ne o.is);
-            shows = o.shows;
-          }
+        after_encloser : (w v : List ℕ) (r s : Slot) → Enclosed w r → Fielded v s ⊎ Variable v s → Before w v
+        after_encloser w v r s p (inl q) = before_by (omega arith) p.0 q.at
+        after_encloser w v r s p (inr q) = before_by (omega arith) p.0 (variable_at q)
 
-  pub slots_complete : (c k : ℕ) (x : SlotShape) → nlib ≤ c → HasSlot nlib g c k x → SeenBack c k x
-  unfolding slots
-  slots_complete c k x h (own o) =
-      let b = own_complete o in
-      record { slot = b.slot; member = mem_gather (own_slots g) ((line c c h).1 self) b.member; place = b.place; shows = b.shows }
-  slots_complete c k x h (inherited {t} p ne o) =
-      let b = own_complete o in
-      let le : t ≤ c = lineage_low p in
-      let low : b.slot.holder ≤ t = b.low in
-      record {
-        slot = b.slot;
-        member = mem_gather (own_slots g) ((line c t h).1 p) b.member;
-        place = slot_other c b.slot (omega arith);
-        shows = b.shows;
-      }
+  -- ---- own class, then upward
+
+  module _ (nlib : ℕ) (line : (c h t : ℕ) → nlib ≤ c → At (lineage nlib g c) h t ↔ Lineage nlib g c h t) (c : ℕ) (user : nlib ≤ c) where
+    abbrev Upward : List ℕ → Slot → Type 0
+    Upward = Given (λ (w : List ℕ) (t : ℕ). (h : ℕ) × (w ≡ h ∷ []) × At (lineage nlib g c) h t) Own
+
+    upward_sound : (w : List ℕ) (s : Slot) → Upward w s → Shows (HasSlot nlib g c) w s
+    upward_sound w s q =
+        let o = q.gives in
+        record {
+          class = o.class;
+          number = o.number;
+          shape = o.shape;
+          told = subst (λ (w : List ℕ). HasSlot nlib g c w o.class o.number o.shape) (sym (q.at ∙ ap (λ (v : List ℕ). v ++ q.behind) q.told.1))
+              (of ((line c q.told.0 q.thing user).0 q.told.2) o.told);
+          is = o.is;
+        }
+
+    upward_complete : {w : List ℕ} {d k : ℕ} {x : SlotShape} → HasSlot nlib g c w d k x → (s : Slot) → s ≡ slot_of d k x → Upward w s
+    upward_complete (of {h} {t} {d} {k} {w} {s = x} p o) s e = record {
+      place = h ∷ [];
+      thing = t;
+      told = (h, refl, (line c h t user).1 p);
+      behind = w;
+      gives = record { class = d; number = k; shape = x; told = o; is = e };
+      at = refl;
+    }
+
+    pub slots_listed : Listed (Shows (HasSlot nlib g c)) (slots nlib g c)
+    unfolding slots
+    slots_listed =
+        listed_same (λ w s. (upward_sound w s, (λ q. upward_complete q.told s q.is)))
+        (listed_gather (own_slots g) 1 (λ w t h. ap length h.1) own_listed (listed_at (lineage nlib g c)))

@@ -63,11 +63,11 @@ module _ (library user : List ℕ) (used : ℕ) (a : Accepted library user used)
             let rel = relations_hold library user used a in
             let two = t_and (bit Powerless o) (bit Token o) ((rel.marked d Powerless (lit< tt)).1 m) ((rel.marked d Token (lit< tt)).1 token) in
             T_not (clash o) (library_fits d (ltb→lt d nlib t)) (or_l (bit Powerless o && bit Token o) (bit Selfless o && bit Equatable o) two)
-        go (inr t) = let l = nltb→le d nlib t in (right d l there).cleanly.0 (well l) 4 0 (rule4 (inl (m, token)))
+        go (inr t) = let l = nltb→le d nlib t in (right d l there).cleanly.0 (well l) 4 (0 ∷ []) d 0 (rule4 (inl (m, token)))
 
     -- of any verdicts that are right about the rules
     pub right_no_token : NoTokenKept library front verdict
-    right_no_token c hl hn fine k r at f st code well token = (right c hl hn).cleanly.0 fine 5 k (rule5 at f st (λ p. bad p.1))
+    right_no_token c hl hn fine k r at f st code well token = (right c hl hn).cleanly.0 fine 5 (k ∷ []) c k (rule5 at f st (λ p. bad p.1))
       where
         bad : Satisfies g Powerless (field_ty r) → ⊥
         bad (primitive z ne) = ne code

@@ -1,7 +1,7 @@
 -- What is claimed of the definitions, from acceptance alone. Each claim is proved in `proofs/`.
 -- Assumes nothing.
 use Rattle.std.specs.Prelude.{◌≡◌, ◌↔◌, ◌≢◌, ◌⊎◌, true, false, ℕ, zero, suc, ◌+◌, ◌≤◌, ◌<◌, T, eqb, length, get_or, take, drop}
-use mathlib.Core.List.{List, [], Memᴰ}
+use mathlib.Core.List.{List, [], ◌∷◌, Memᴰ}
 use Rattle.std.proofs.Math.Option.{Option, none, some}
 use Rattle.spec.specs.Lists.{concat, elem, reach}
 use Rattle.spec.specs.Record.{FIELD, is_kind, is_static, field_ty}
@@ -9,7 +9,7 @@ use Rattle.spec.specs.Sheet.{Group, records_of, whole_end, groups_of, class_coun
 use Rattle.spec.specs.Markers.{Token}
 use Rattle.spec.specs.Classes.{has_marker, inside, lineage, root, builds_inside, captured}
 use Rattle.spec.specs.Rules.{Verdict, clean, dependencies}
-use Rattle.spec.specs.Relations.{At, Rising, Superclass, Encloser, Implements, References, Depends, Marked, Lineage, Root, Inside, Chain, Captures}
+use Rattle.spec.specs.Relations.{At, Before, Rising, Superclass, Encloser, Implements, References, Depends, Marked, Lineage, Root, Inside, Chain, Captures}
 use Rattle.spec.specs.Breaks.{Not, Flag, Breaks}
 use Rattle.spec.specs.Refusals.{Refusal, Accepted, added_sheet, replaced_sheet, withdrawn_sheet, last_class, record_numbers, plain_numbers, judge_numbers, add_numbers, replace_numbers}
 use Rattle.spec.specs.Refusals.{withdraw_numbers, query_numbers, judge_refusal, add_refusal, replace_refusal, withdraw_refusal, query_refusal, sheet_refusal, new_refusal, present_refusal}
@@ -25,8 +25,11 @@ pub record Relations (nlib : ℕ) (g : ℕ → Group) : Type 0 where
   -- the overlay set is the closure of the own markers of all supertypes
   pub marked : (c k : ℕ) → k < 8 → T (has_marker g k c) ↔ Marked g c k
   pub inside : (d l : ℕ) → T (inside g d l) ↔ Inside g d l
-  pub lineage : (c s : ℕ) → nlib ≤ c → Memᴰ s (lineage nlib g c) ↔ Lineage nlib g c s
+  -- own class first, then upward: it stands as high in the list as there are steps
+  pub lineage : (c h t : ℕ) → nlib ≤ c → At (lineage nlib g c) h t ↔ Lineage nlib g c h t
   pub root : (c d : ℕ) → nlib ≤ c → Memᴰ d (root nlib g c) ↔ Root nlib g c d
+  -- "captured variables by class and index", each once
+  pub captured_order : (l i j d e x y : ℕ) → At (captured g l) i (d, x) → At (captured g l) j (e, y) → i < j → Before (d ∷ x ∷ []) (e ∷ y ∷ [])
   pub captured : (l d i : ℕ) → Memᴰ (d, i) (captured g l) ↔ Captures g l d i
 
 abbrev pub RelationsHold : Type 0
@@ -56,18 +59,30 @@ FormHolds = (library user : List ℕ) (used : ℕ) → Accepted library user use
 
 -- ---- demand 2
 
--- v is right about what a class breaks: clean exactly if it breaks no rule at any record, else the lowest broken rule and the lowest record that breaks it
-pub record Right (breaks : ℕ → ℕ → Type 0) (v : Verdict) : Type 0 where
-  pub cleanly : (v ≡ clean) ↔ ((r k : ℕ) → Not (breaks r k))
-  pub broken : Not (v ≡ clean) → breaks v.rule v.record_number
-  pub lowest_rule : Not (v ≡ clean) → (r k : ℕ) → breaks r k → v.rule ≤ r
-  pub lowest_record : Not (v ≡ clean) → (k : ℕ) → breaks v.rule k → v.record_number ≤ k
+-- v names the lowest broken rule and, of its faults, the first in the walk, with the class and the record where that sits. `breaks` is told rule, place in the walk, class and record
+pub record First (breaks : ℕ → List ℕ → ℕ → ℕ → Type 0) (v : Verdict) : Type 0 where
+  pub place : List ℕ
+  pub is : breaks v.rule place v.class v.record_number
+  pub lowest_rule : (r : ℕ) (w : List ℕ) (d k : ℕ) → breaks r w d k → v.rule ≤ r
+  pub first : (w : List ℕ) (d k : ℕ) → breaks v.rule w d k → (w ≡ place) ⊎ Before place w
+
+-- v is right about what a class breaks: clean exactly if it breaks no rule anywhere, else as above
+pub record Right (breaks : ℕ → List ℕ → ℕ → ℕ → Type 0) (v : Verdict) : Type 0 where
+  pub cleanly : (v ≡ clean) ↔ ((r : ℕ) (w : List ℕ) (d k : ℕ) → Not (breaks r w d k))
+  pub broken : Not (v ≡ clean) → First breaks v
 
 abbrev pub Demand2 : Type 0
 Demand2 =
     (library user : List ℕ) (used : ℕ) → Accepted library user used
     → (c : ℕ) → class_count library ≤ c → c < total library (take used user)
     → Right (Breaks (class_count library) (group library (take used user)) c) (verdict_at library (take used user) c)
+
+-- and no other verdict is right, so nothing is left open
+abbrev pub OnlyOne : Type 0
+OnlyOne =
+    (library user : List ℕ) (used : ℕ) → Accepted library user used
+    → (c : ℕ) → class_count library ≤ c → c < total library (take used user)
+    → (v : Verdict) → Right (Breaks (class_count library) (group library (take used user)) c) v → v ≡ verdict_at library (take used user) c
 
 -- ---- document 02, C-11: "the state reachable from static fields holds no authority, and a token is authority by identity alone"
 

@@ -21,27 +21,32 @@ unfolding flat_lines
 shared_is flat n lines e = e
 
 -- the bytes of a chunk
-chunk_byte : (m i j : ℕ) (xs : List ℕ) → i < m → j < 2 → get_or (get_or (first_chunks 2 m xs) i []) j 0 ≡ get_or xs (2 * i + j) 0
+chunk_byte : (m i j : ℕ) (xs : List ℕ) → i < m → j < verdict_bytes
+    → get_or (get_or (first_chunks verdict_bytes m xs) i []) j 0 ≡ get_or xs (verdict_bytes * i + j) 0
 chunk_byte zero i j xs h b = absurd (omega arith)
-chunk_byte (suc m) zero j xs h b = get_or-take 2 xs j 0 b ∙ ap (λ (k : ℕ). get_or xs k 0) (omega arith)
-chunk_byte (suc m) (suc i) j xs h b = chunk_byte m i j (drop 2 xs) (omega arith) b ∙ get_or-drop 2 xs (2 * i + j) 0 ∙ ap (λ (k : ℕ). get_or xs k 0) (omega arith)
+chunk_byte (suc m) zero j xs h b = get_or-take verdict_bytes xs j 0 b ∙ ap (λ (k : ℕ). get_or xs k 0) (omega arith)
+chunk_byte (suc m) (suc i) j xs h b =
+    chunk_byte m i j (drop verdict_bytes xs) (omega arith) b ∙ get_or-drop verdict_bytes xs (verdict_bytes * i + j) 0 ∙ ap (λ (k : ℕ). get_or xs k 0) (omega arith)
 
 -- a line as it is read
 read : Verdict → spec.Verdict
-read v = record { rule = v.rule; record_number = v.«record» }
+read v = record { rule = v.rule; record_number = v.«record»; class = v.class }
 
 module _ (flat : List ℕ) where
   abbrev pub line : ℕ → Verdict
   line i = line_of (flat_at flat i)
 
   -- the chunks of the flat row are its lines
-  pub line_read : {lines : List (List ℕ)} → lines ≡ first_chunks 2 (length flat / 2) flat → (i : ℕ) → i < length flat / 2
-      → record { rule = get_or (get_or lines i []) 0 0; «record» = get_or (get_or lines i []) 1 0 } ≡ line i
+  pub line_read : {lines : List (List ℕ)} → lines ≡ first_chunks verdict_bytes (length flat / verdict_bytes) flat → (i : ℕ) → i < length flat / verdict_bytes
+      → record { rule = get_or (get_or lines i []) 0 0; «record» = get_or (get_or lines i []) 1 0; class = get_or (get_or lines i []) 2 0 } ≡ line i
   unfolding flat_at
-  line_read e i h = rw e (λ k. record {
-    rule = (chunk_byte (length flat / 2) i 0 flat h (omega arith) ∙ ap (λ (j : ℕ). get_or flat j 0) {x = 2 * i + 0} {y = 2 * i} (omega arith)) k;
-    «record» = chunk_byte (length flat / 2) i 1 flat h (omega arith) k;
-  })
+  line_read e i h =
+      let byte = λ (j : ℕ) (b : j < verdict_bytes). chunk_byte (length flat / verdict_bytes) i j flat h b in
+      rw e (λ k. record {
+        rule = (byte 0 (omega arith) ∙ ap (λ (j : ℕ). get_or flat j 0) {x = verdict_bytes * i + 0} {y = verdict_bytes * i} (omega arith)) k;
+        «record» = byte 1 (omega arith) k;
+        class = byte 2 (omega arith) k;
+      })
 
   first_length_lem : (n : ℕ) → length (first_lines flat n) ≡ n
   unfolding first_lines

@@ -9,13 +9,13 @@ use Rattle.verdicts.specs.declared.Verdict.{Verdict}
 -- ---- the row
 
 abbrev pub clean : Verdict
-clean = record { rule = 0; «record» = 0 }
+clean = record { rule = 0; «record» = 0; class = 0 }
 
 abbrev pub line_of : spec.Verdict → Verdict
-line_of v = record { rule = v.rule; «record» = v.record_number }
+line_of v = record { rule = v.rule; «record» = v.record_number; class = v.class }
 
 unfoldable pub line_at : List Verdict → ℕ → spec.Verdict
-line_at row i = let v = get_or row i clean in record { rule = v.rule; record_number = v.«record» }
+line_at row i = let v = get_or row i clean in record { rule = v.rule; record_number = v.«record»; class = v.class }
 
 -- the row in which line i is `v i` wherever `changed i`, counted from i
 unfoldable pub rewritten_from : (ℕ → Bool) → (ℕ → spec.Verdict) → ℕ → List Verdict → List Verdict

@@ -6,15 +6,20 @@ ghost use Rattle.verdicts.specs.Row.{is_faulted, faulted_in, shared, written, fl
 
 use records::{CLASS_LIMIT, VERDICT_BYTES};
 
-// Document 01's line.
+// Document 01's line, and the class in which the fault sits (02, C-16).
 #[derive(Clone, Copy, PartialEq, Eq, Debug)]
 pub struct Verdict {
     pub rule: u8,
     pub record: u8,
+    pub class: u8,
 }
 
 impl Verdict {
-    pub const CLEAN: Verdict = Verdict { rule: 0, record: 0 };
+    pub const CLEAN: Verdict = Verdict {
+        rule: 0,
+        record: 0,
+        class: 0,
+    };
 
     pub fn is_faulted(&self) -> bool
         ensures { result ≡ is_faulted self.now }
@@ -37,8 +42,12 @@ pub fn write(row: &mut [Verdict], flat: &[u8], n: usize)
     let (lines, _) = flat.as_chunks::<VERDICT_BYTES>();
     let end = n.min(row.len()).min(lines.len());
     for (i, verdict) in row[..end].iter_mut().enumerate() {
-        let [rule, record] = lines[i];
-        *verdict = Verdict { rule, record };
+        let [rule, record, class] = lines[i];
+        *verdict = Verdict {
+            rule,
+            record,
+            class,
+        };
     }
 }
 

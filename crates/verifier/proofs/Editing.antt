@@ -2,7 +2,7 @@
 -- Assumes nothing.
 use mathlib.Core.Path.{◌≡◌, refl, sym, ap, ap₂, ◌∙◌}
 use mathlib.Core.Bool.{Bool, true, false, ◌&&◌}
-use mathlib.Core.List.{List, ◌++◌}
+use mathlib.Core.List.{List, ◌++◌, map}
 use mathlib.Core.Option.{Option, none, some}
 use Prim.Native.Nat.{ℕ, ◌+◌, ◌≤◌, ◌<◌}
 use native.Mathlib.Omega.{arith}
@@ -18,12 +18,13 @@ use Rattle.spec.specs.Refusals.{Refusal}
 use Rattle.spec.specs.Promises.{Answer, answer_of, afterwards, refused, accepted, cleared, buffer_with, State, Edit, edited, Makes}
 use Rattle.theory.proofs.FlatRow.{rewritten_same}
 use Rattle.laws.proofs.Count.{count_same}
+use Rattle.laws.proofs.Rows.{get_or_values}
 use Rattle.view.specs.View.{spliced}
 use Rattle.admit.specs.Admitting.{admit_refusal}
 use Rattle.flat.specs.Row.{chosen, marked_in}
 use Rattle.theory.proofs.Promised.{kept_refused, new_fine, changes_refused, changes_made}
 use Rattle.view.specs.declared.Cut.{Cut}
-use Rattle.verifier.specs.Changing.{touches, Touched, putting}
+use Rattle.verifier.specs.Changing.{touches, putting}
 
 -- ---- any edit that is lent a scratch
 
@@ -38,7 +39,11 @@ module _ (e : Edit) (before : State flat) (scratch : List ℕ) where
 
 -- ---- a group put in
 
-module _ (library new : List ℕ) (cut : Cut) (c : ℕ) (there : c < total library new) {marks : List ℕ} (t : Touched library new cut c marks) where
+module _ (library new : List ℕ) (cut : Cut) (c : ℕ) (few : total library new ≤ 256) (there : c < total library new) {marks : List Bool}
+    (t : marks ≡ map (touches library new cut c) (span 0 256)) where
+  touched_at : (d : ℕ) → d < total library new → get_or marks d false ≡ touches library new cut c d
+  touched_at d h = ap (λ (row : List Bool). get_or row d false) t ∙ get_or_values (touches library new cut c) 256 false d (omega arith)
+
   -- nothing past the last class is touched
   untouched : (d : ℕ) → total library new ≤ d → touches library new cut c d ≡ false
   unfolding touches depends_on
@@ -55,13 +60,13 @@ module _ (library new : List ℕ) (cut : Cut) (c : ℕ) (there : c < total libra
       d : ℕ
       d = class_count library + i
 
-      go : (b : Bool) → ltb d (total library new) ≡ b → (b && eqb (get_or marks d 0) 0) ≡ touches library new cut c d
-      go true e = t.is d (ltb-true d (total library new) e)
+      go : (b : Bool) → ltb d (total library new) ≡ b → (b && get_or marks d false) ≡ touches library new cut c d
+      go true e = touched_at d (ltb-true d (total library new) e)
       go false e = sym (untouched d (ltb-false d (total library new) e))
 
   touched_counted : marked_in marks (total library new) ≡ count (touches library new cut c) (span 0 (total library new))
   unfolding marked_in
-  touched_counted = count_same (λ d. eqb (get_or marks d 0) 0) (touches library new cut c) (total library new) (λ d h. t.is d h)
+  touched_counted = count_same (λ d. get_or marks d false) (touches library new cut c) (total library new) touched_at
 
 -- the sheet stands at the front of the buffer that was written
 pub written_sheet : (new user : List ℕ) (used : ℕ) {user' : List ℕ} {size : ℕ} → user' ≡ buffer_with new user used → size ≡ length new → take size user' ≡ new
@@ -82,17 +87,17 @@ module _ (library user : List ℕ) (used : ℕ) (verdicts scratch g : List ℕ) 
   unfolding putting
   put_refused e = edit_refused put held scratch e
 
-  module _ (o : admit_refusal library user g new (flat_lines verdicts) (length scratch) ≡ none) (eu : cut.used ≡ used) (there : c < total library new) where
-    pub put_made : {marks : List ℕ} → Touched library new cut c marks → {value used' : ℕ} {user' verdicts' cleaned : List ℕ} → value ≡ marked_in marks (total library new)
+  module _ (o : admit_refusal library user g new (flat_lines verdicts) (length scratch) ≡ none) (eu : cut.used ≡ used) (few : total library new ≤ 256) (there : c < total library new) where
+    pub put_made : {marks : List Bool} → marks ≡ map (touches library new cut c) (span 0 256) → {value used' : ℕ} {user' verdicts' cleaned : List ℕ} → value ≡ marked_in marks (total library new)
         → user' ≡ buffer_with new user cut.used → used' ≡ length new
         → verdicts' ≡ flat_rewritten (chosen (class_count library) (total library new) marks) (user_verdict library new) verdicts → cleaned ≡ cleared scratch
         → Makes flat put held scratch (accepted value) (record { user = user'; used = used'; verdicts = verdicts' }) cleaned
     unfolding putting
     put_made {marks} t ev ew en er es =
         edit_made put held scratch o
-        (ev ∙ touched_counted library new cut c there t) (ew ∙ ap (buffer_with new user) eu) en
+        (ev ∙ touched_counted library new cut c few there t) (ew ∙ ap (buffer_with new user) eu) en
         (er ∙ rewritten_same (user_verdict library new) verdicts (chosen (class_count library) (total library new) marks) (λ i. touches library new cut c (class_count library + i))
-        (touched_chosen library new cut c there t))
+        (touched_chosen library new cut c few there t))
         es
 
 -- ---- one edit for another

@@ -23,14 +23,17 @@ use Rattle.flat.specs.Row.{chosen, faulted_in}
 
 -- ---- the row
 
-module _ (library sheet marks : List ℕ) (zero : (i : ℕ) → get_or marks i 0 ≡ 0) (row : List ℕ) where
-  -- with every mark 0 all user classes are chosen
+module _ (library sheet : List ℕ) (marks : List Bool) (marked : (i : ℕ) → i < total library sheet → get_or marks i false ≡ true) (row : List ℕ) where
+  -- with every class marked all user classes are chosen
   every : (i : ℕ) → chosen (class_count library) (total library sheet) marks i ≡ ltb i (class_count sheet)
   unfolding chosen total
-  every i = rw (zero (class_count library + i)) (go (ltb i (class_count sheet)) refl)
+  every i = go (ltb i (class_count sheet)) refl
     where
-      go : (b : Bool) → ltb i (class_count sheet) ≡ b → (ltb (class_count library + i) (class_count library + class_count sheet) && true) ≡ ltb i (class_count sheet)
-      go true e = let h : i < class_count sheet = ltb-true i (class_count sheet) e in rw (lt-ltb (class_count library + i) (class_count library + class_count sheet) (omega arith)) (sym e)
+      go : (b : Bool) → ltb i (class_count sheet) ≡ b
+          → (ltb (class_count library + i) (class_count library + class_count sheet) && get_or marks (class_count library + i) false) ≡ ltb i (class_count sheet)
+      go true e =
+          let h : i < class_count sheet = ltb-true i (class_count sheet) e in
+          rw (lt-ltb (class_count library + i) (class_count library + class_count sheet) (omega arith), marked (class_count library + i) (omega arith)) (sym e)
       go false e = let h : class_count sheet ≤ i = ltb-false i (class_count sheet) e in rw (le-ltb (class_count library + i) (class_count library + class_count sheet) (omega arith)) (sym e)
 
   row_is : {after : List ℕ} → after ≡ flat_rewritten (chosen (class_count library) (total library sheet) marks) (user_verdict library sheet) row
@@ -96,7 +99,7 @@ module _ (library user : List ℕ) (used : ℕ) (verdicts scratch : List ℕ) wh
       unfolding refuse_plain refuse_if
       fine = short ∙ ap (λ (y : Bool). refuse_plain (not y) 12) t
 
-      pub judged_all : (marks : List ℕ) → ((i : ℕ) → get_or marks i 0 ≡ 0) → {after cleaned : List ℕ} {m : ℕ}
+      pub judged_all : (marks : List Bool) → ((i : ℕ) → i < total library sheet → get_or marks i false ≡ true) → {after cleaned : List ℕ} {m : ℕ}
           → after ≡ flat_rewritten (chosen (class_count library) (total library sheet) marks) (user_verdict library sheet) verdicts → cleaned ≡ cleared scratch
           → m ≡ faulted_in after (min own (flat_lines after))
           → Judges flat library user used verdicts scratch (accepted (record { classes = own; faulted = m })) after cleaned

@@ -17,11 +17,6 @@ use Rattle.admit.specs.Admitting.{admit_refusal, Plain}
 unfoldable pub touches : List ℕ → List ℕ → Cut → ℕ → ℕ → Bool
 touches library new cut c d = elim (eqb cut.from cut.used) [ true ↦ eqb d c | false ↦ depends_on library new c d ]
 
--- the row has 0 at just those
-pub record Touched (library new : List ℕ) (cut : Cut) (c : ℕ) (marks : List ℕ) : Type 0 where
-  pub long : length marks ≡ 256
-  pub is : (d : ℕ) → d < total library new → eqb (get_or marks d 0) 0 ≡ touches library new cut c d
-
 -- ---- the edit
 
 unfoldable pub putting : List ℕ → State flat → List ℕ → Cut → ℕ → ℕ → Edit

@@ -1,8 +1,8 @@
 // The operations over flat rows of numbers: the public interface.
 #![tactic(auto)]
 
-ghost use Rattle.std.specs.Prelude.{◌≡◌, ◌<◌, [], ◌∷◌, length, replicate, take};
-ghost use Rattle.spec.specs.Lists.{first_of};
+ghost use Rattle.std.specs.Prelude.{◌≡◌, ◌<◌, [], ◌∷◌, length, map, replicate, take};
+ghost use Rattle.spec.specs.Lists.{first_of, span};
 ghost use Rattle.spec.specs.Sheet.{total};
 ghost use Rattle.spec.specs.Promises.{Judges, Adds, Replaces, Makes};
 ghost use Rattle.spec.specs.Verdicts.{flat};
@@ -10,7 +10,7 @@ ghost use Rattle.spec.specs.Refusals.{present_refusal, no_user_refusal};
 ghost use Rattle.refusals.specs.Refusals.{Answers, answer_in};
 ghost use Rattle.sheets.specs.Sheets.{count};
 ghost use Rattle.verifier.specs.Answers.{counts_in};
-ghost use Rattle.verifier.specs.Changing.{Puts, Touched, cut_at, putting};
+ghost use Rattle.verifier.specs.Changing.{Puts, cut_at, putting, touches};
 
 use admit::{Room, admit};
 pub use canonical::canonical;
@@ -18,7 +18,6 @@ use edit::write;
 use flat::{faulted, marked, rejudge};
 use form::accepted::{Accepted, Found};
 use form::present;
-use lanes::EMPTY;
 pub use queries::{Place, marks, name, name_place};
 use reach::dependents;
 use records::CLASS_LIMIT;
@@ -35,7 +34,7 @@ pub struct Counts {
     pub faulted: usize,
 }
 
-/// A verdict for each user class in the row: rule and record, 0 and 0 where it is clean.
+/// A verdict for each user class in the row: rule, record and the class where the fault sits; three zeros where it is clean.
 pub fn judge<'a>(
     library: &'a [u8],
     user: &'a [u8],
@@ -49,7 +48,7 @@ pub fn judge<'a>(
     let accepted = present(library, user, used, &mut found)?;
     let classes = accepted.formed.sheets.user_count();
     Reason::TooShort.unless(Room::of(verdicts, scratch).holds(classes))?;
-    rejudge(&accepted, &[0; CLASS_LIMIT], verdicts, scratch);
+    rejudge(&accepted, &[true; CLASS_LIMIT], verdicts, scratch);
     Ok(Counts {
         classes,
         faulted: faulted(verdicts, classes),
@@ -58,17 +57,16 @@ pub fn judge<'a>(
 
 // ---- operations that change the user sheet
 
-// 0 at each class that an edit touches: an addition, which takes nothing out, touches its class alone; a replacement the classes that depend on it.
-fn touched(formed: &Formed, cut: Cut, class: usize) -> [u8; CLASS_LIMIT]
+// The classes that an edit touches: an addition, which takes nothing out, touches its class alone; a replacement the classes that depend on it.
+fn touched(formed: &Formed, cut: Cut, class: usize) -> [bool; CLASS_LIMIT]
     requires { class < count formed.now.sheets }
-    ensures { Touched formed.now.sheets.library formed.now.sheets.user cut class result }
+    ensures { result ≡ map (touches formed.now.sheets.library formed.now.sheets.user cut class) (span 0 256) }
 {
-    let mut marks = [EMPTY; CLASS_LIMIT];
-    if cut.from == cut.used {
-        marks[class] = 0;
-    } else {
-        dependents(formed, class, &mut marks);
+    if cut.from != cut.used {
+        return dependents(formed, class);
     }
+    let mut marks = [false; CLASS_LIMIT];
+    marks[class] = true;
     marks
 }
 

@@ -106,7 +106,7 @@ impl<'a> Desk<'a> {
         ));
     }
 
-    /// Puts back the group that was withdrawn, by hand too. Its verdict stays 0 0, which no
+    /// Puts back the group that was withdrawn, by hand too. Its verdict stays all zeros, which no
     /// withdrawal reads.
     pub fn put_back(&mut self, group: &[u8]) {
         let start = self.used;

@@ -2,6 +2,7 @@
 
 use kerdzhusi::{SCRATCH_BYTES, VERDICT_BYTES};
 use sheets::build::CLASS_LIMIT;
+use sheets::kinds::{BUILDS, FIELD, LOCAL};
 use sheets::{groups, kind, number, records, Family};
 
 /// The user sheet without its last class, and that class's group. Only types and BUILDS of lower
@@ -25,9 +26,9 @@ pub fn without_last(family: &Family) -> (Vec<u8>, Vec<u8>) {
 fn renamed(record: &[u8], old: u16, new: u16) -> Vec<u8> {
     let mut record = record.to_vec();
     let place = match kind(&record) {
-        3 if record[7] == 0 => 8,
-        4 if record[5] == 0 => 6,
-        6 => 4,
+        FIELD if record[7] == 0 => 8,
+        LOCAL if record[5] == 0 => 6,
+        BUILDS => 4,
         _ => return record,
     };
     if number(&record, place) == old as usize {

@@ -34,6 +34,10 @@ impl Call {
         matches!(self, Call::Add | Call::Replace(_) | Call::Withdraw)
     }
 
+    pub fn writes_verdicts(self) -> bool {
+        self == Call::Judge || self.changes_sheets()
+    }
+
     pub fn operation(self) -> usize {
         match self {
             Call::Judge => 0,

@@ -76,9 +76,12 @@ impl Desk {
         }
         match (call, ours.0) {
             (_, Err(_)) => self.require_unchanged()?,
-            (Call::Judge, Ok(_)) => self.judged = true,
+            (Call::Judge, Ok(Value::Counts { classes, .. })) => {
+                self.judged = true;
+                self.require_row_kept(classes)?;
+            }
             (Call::Canonical, Ok(Value::Number(length))) => self.require_written(length)?,
-            _ if call.changes_sheets() => self.judge_from_nothing()?,
+            _ if call.changes_sheets() => self.judge_from_nothing(call)?,
             _ => {}
         }
         self.follow_addition(call, ours)?;
@@ -120,13 +123,27 @@ impl Desk {
         }
     }
 
+    /// A row holds what it held past so many verdicts, in bytes too few for another one too.
+    fn require_row_kept(&self, verdicts: usize) -> Result<(), String> {
+        let (row, before) = (&self.ours.verdicts, &self.before.verdicts);
+        if row.keeps_all_but(VERDICT_BYTES * verdicts, before) {
+            Ok(())
+        } else {
+            Err(format!(
+                "of the row more than {verdicts} verdicts are written"
+            ))
+        }
+    }
+
     /// Both judge the sheets anew, and agree with the verdicts that were kept up to date.
-    fn judge_from_nothing(&mut self) -> Result<(), String> {
+    fn judge_from_nothing(&mut self, call: Call) -> Result<(), String> {
         let fresh = self.judge_anew(self.ours.verdicts.part().len())?;
         if self.judged && self.ours.verdicts.part()[..fresh.len()] != fresh {
             return Err("the verdicts are not those of a judging from nothing".to_string());
         }
-        Ok(())
+        // The verdict of a withdrawn class is written, too.
+        let withdrawn = (call == Call::Withdraw) as usize;
+        self.require_row_kept(fresh.len() / VERDICT_BYTES + withdrawn)
     }
 
     /// Both judge the sheets from nothing, in a row of so many bytes; gives back the verdicts.

@@ -48,8 +48,8 @@ impl<'a> Examiner<'a> {
         }
     }
 
-    /// In the form of accepted sheets each class has to break the rule that it broke, and it has to
-    /// be the form of itself and of what else means the same.
+    /// In the form of accepted sheets each class has to break the rule that it broke, the fault in
+    /// the same class, and it has to be the form of itself and of what else means the same.
     pub fn examine(
         &mut self,
         random: &mut Random,
@@ -75,9 +75,10 @@ impl<'a> Examiner<'a> {
         let before = self.judge()?;
         self.lend_user(random, form);
         let after = self.judge()?;
-        let rules = |row| verdicts(row).map(|verdict| verdict.rule);
-        if !rules(&before[..]).eq(rules(&after)) {
-            return Err(self.differs("a class breaks another rule in canonical form".to_string()));
+        let kept = |row| verdicts(row).map(|verdict| (verdict.rule, verdict.class));
+        if !kept(&before[..]).eq(kept(&after)) {
+            let what = "in canonical form a class breaks another rule, or in another class";
+            return Err(self.differs(what.to_string()));
         }
         let lines = verdicts(&before).zip(verdicts(&after));
         Ok(lines.filter(|(before, after)| before != after).count() as u64)

@@ -2,15 +2,21 @@
 
 use std::fmt;
 
+use sheets::kinds::{BUILDS, FIELD, IMPLEMENTS, LOCAL, REFERS, USES};
 use sheets::{is_of_set, kind, number, records};
 
 use crate::lent::Side;
 
 /// One more than the highest kind.
-const KINDS: usize = 9;
+const KINDS: usize = REFERS + 1;
 /// Kinds of which a group holds a set, and those whose records stay as they stand.
-const SETS: [(usize, &str); 4] = [(2, "IMPLEMENTS"), (5, "USES"), (6, "BUILDS"), (8, "REFERS")];
-const ROWS: [(usize, &str); 2] = [(3, "FIELD"), (4, "LOCAL")];
+const SETS: [(usize, &str); 4] = [
+    (IMPLEMENTS, "IMPLEMENTS"),
+    (USES, "USES"),
+    (BUILDS, "BUILDS"),
+    (REFERS, "REFERS"),
+];
+const ROWS: [(usize, &str); 2] = [(FIELD, "FIELD"), (LOCAL, "LOCAL")];
 
 const CHANGED: &str = "canonical forms of other bytes";
 const MOVED: &str = "verdicts of another record in a canonical form";

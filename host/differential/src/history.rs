@@ -266,11 +266,13 @@ impl<'a> History<'a> {
         self.desk.change(|side| side.out.copy(&lent));
     }
 
+    /// Enough for the verdicts, mostly, or some bytes short of one; often with bytes at the end that
+    /// are too few for another one.
     fn draw_row_length(&mut self, needed: usize) -> usize {
         match self.random.below(30) {
-            0 => needed.saturating_sub(1 + self.random.below(4)),
-            1..=14 => needed,
-            15..=17 => needed + 1,
+            0 => needed.saturating_sub(1 + self.random.below(VERDICT_BYTES + 2)),
+            1..=13 => needed,
+            14..=17 => needed + 1 + self.random.below(VERDICT_BYTES - 1),
             _ => needed + self.random.below(ROW),
         }
     }

@@ -13,6 +13,7 @@ mod forms;
 mod history;
 mod lent;
 mod report;
+mod sites;
 mod stock;
 mod tally;
 #[cfg(test)]

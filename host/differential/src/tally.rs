@@ -3,13 +3,14 @@
 use std::fmt;
 use std::ops::Range;
 
-use kerdzhusi::{verdicts, Refusal};
+use kerdzhusi::{verdicts, Refusal, VERDICT_BYTES};
 use sheets::build::{FINAL, IMMUTABLE, POWERLESS};
 use sheets::{groups, number, records};
 
 use crate::call::{Answer, Call, Value, OPERATIONS};
 use crate::forms::{form_length, Forms};
 use crate::lent::Side;
+use crate::sites::Sites;
 
 /// The numbers of refusals.
 const REFUSALS: Range<usize> = 1..18;
@@ -31,6 +32,14 @@ const OUTPUTS: [&str; 4] = [
     "outputs as long as a canonical form",
     "outputs longer than a canonical form",
 ];
+/// What C-16 is about, beside sites: loose bytes at a row's end, too few for a verdict. The first two
+/// are accepted, however many verdicts they have room for; the last two are refused.
+const ROWS: [&str; 4] = [
+    "rows with one loose byte",
+    "rows with two loose bytes",
+    "rows two bytes shorter than their verdicts",
+    "rows one byte shorter than their verdicts",
+];
 
 const LEAST_CALLS: u64 = 1_000_000;
 const LEAST_ACCEPTED_IN_100: u64 = 30;
@@ -42,6 +51,7 @@ const LEAST_CONSTANTS: u64 = 1_000;
 const LEAST_WITHDRAWALS: u64 = 10_000;
 const LEAST_UNDONE: u64 = 10_000;
 const LEAST_OF_AN_OUTPUT: u64 = 1_000;
+const LEAST_OF_A_ROW: u64 = 1_000;
 
 pub struct Tally {
     /// By operation, then by refusal, 0 for accepted calls.
@@ -50,6 +60,9 @@ pub struct Tally {
     out_of_order: [u64; SHEETS.len()],
     /// Verdicts of accepted judgings by rule: at record 0, at a later one.
     rules: [[u64; 2]; RULES + 1],
+    sites: Sites,
+    /// Rows with loose bytes that were lent for verdicts.
+    rows: [u64; ROWS.len()],
     with_several: u64,
     /// Verdicts of rule 5 at a constant of a class that is Immutable and not Powerless.
     immutable_constants: u64,
@@ -68,6 +81,8 @@ impl Tally {
             answers: [[0; REFUSALS.end]; OPERATIONS.len()],
             out_of_order: [0; SHEETS.len()],
             rules: [[0; 2]; RULES + 1],
+            sites: Sites::default(),
+            rows: [0; ROWS.len()],
             with_several: 0,
             immutable_constants: 0,
             undone: 0,
@@ -81,6 +96,9 @@ impl Tally {
     pub fn count(&mut self, call: Call, answer: Answer, after: &Side) {
         let number = answer.0.map_or_else(|refusal| refusal.number, |_| 0) as usize;
         self.answers[call.operation()][number] += 1;
+        if call.writes_verdicts() {
+            self.count_row(call, number, after);
+        }
         match (call, answer.0) {
             (_, Err(Refusal { sheet, .. })) if number == OUT_OF_ORDER => {
                 self.out_of_order[sheet as usize] += 1;
@@ -92,9 +110,22 @@ impl Tally {
         }
     }
 
+    /// A refused call left the sheets as they were.
+    fn count_row(&mut self, call: Call, refusal: usize, after: &Side) {
+        let row = after.verdicts.part().len();
+        let (verdicts, loose) = (row / VERDICT_BYTES, row % VERDICT_BYTES);
+        let needed = || groups(after.user_sheet()).len() + (call == Call::Add) as usize;
+        match (refusal, loose) {
+            (0, 1..) => self.rows[loose - 1] += 1,
+            (12, 1..) if verdicts + 1 == needed() => self.rows[loose + 1] += 1,
+            _ => {}
+        }
+    }
+
     fn count_verdicts(&mut self, after: &Side, classes: usize) {
-        let lines = verdicts(after.verdicts.part()).take(classes);
-        for (verdict, group) in lines.zip(groups(after.user_sheet())) {
+        let lines = || verdicts(after.verdicts.part()).take(classes);
+        self.sites.count(lines(), after);
+        for (verdict, group) in lines().zip(groups(after.user_sheet())) {
             let record = verdict.record as usize;
             self.rules[verdict.rule as usize][(record > 0) as usize] += 1;
             self.own_markers[group[6] as usize] += 1;
@@ -123,6 +154,8 @@ impl Tally {
         );
         add_rows(&mut self.out_of_order, &other.out_of_order);
         add_rows(self.rules.as_flattened_mut(), other.rules.as_flattened());
+        self.sites.add(&other.sites);
+        add_rows(&mut self.rows, &other.rows);
         add_rows(&mut self.own_markers, &other.own_markers);
         self.with_several += other.with_several;
         self.immutable_constants += other.immutable_constants;
@@ -155,6 +188,17 @@ impl Tally {
                 short.push(format!("{what}: {met}, not {least}"));
             }
         };
+        self.require_answers(&mut require);
+        self.require_verdicts(&mut require);
+        self.require_edits(&mut require);
+        for (output, met) in OUTPUTS.iter().zip(self.outputs) {
+            require(output.to_string(), met, LEAST_OF_AN_OUTPUT);
+        }
+        self.forms.require(&mut require);
+        short
+    }
+
+    fn require_answers(&self, require: &mut impl FnMut(String, u64, u64)) {
         require("calls".into(), self.calls(), LEAST_CALLS);
         let accepted = self.accepted_in_100();
         require("accepted in 100".into(), accepted, LEAST_ACCEPTED_IN_100);
@@ -172,23 +216,28 @@ impl Tally {
             let what = format!("refusal {OUT_OF_ORDER} in the {sheet} sheet");
             require(what, met, LEAST_OF_A_REFUSAL);
         }
+    }
+
+    fn require_verdicts(&self, require: &mut impl FnMut(String, u64, u64)) {
         for (rule, places) in self.rules.iter().enumerate() {
             let met = places.iter().sum();
             require(format!("rule {rule}"), met, LEAST_OF_A_RULE);
         }
-        let several = format!("replacements with {SEVERAL} or more dependents");
-        require(several, self.with_several, LEAST_WITH_SEVERAL);
+        self.sites.require(require);
         let constants = self.immutable_constants;
         require(IMMUTABLE_CONSTANTS.into(), constants, LEAST_CONSTANTS);
+        require("own marker sets".into(), self.marker_sets() as u64, 256);
+        for (row, met) in ROWS.iter().zip(self.rows) {
+            require(row.to_string(), met, LEAST_OF_A_ROW);
+        }
+    }
+
+    fn require_edits(&self, require: &mut impl FnMut(String, u64, u64)) {
+        let several = format!("replacements with {SEVERAL} or more dependents");
+        require(several, self.with_several, LEAST_WITH_SEVERAL);
         let accepted = self.answers[Call::Withdraw.operation()][0];
         require("accepted withdrawals".into(), accepted, LEAST_WITHDRAWALS);
         require(UNDONE.into(), self.undone, LEAST_UNDONE);
-        require("own marker sets".into(), self.marker_sets() as u64, 256);
-        for (output, met) in OUTPUTS.iter().zip(self.outputs) {
-            require(output.to_string(), met, LEAST_OF_AN_OUTPUT);
-        }
-        self.forms.require(&mut require);
-        short
     }
 }
 
@@ -227,6 +276,7 @@ impl fmt::Display for Tally {
         writeln!(f)?;
         self.write_rules(f)?;
         writeln!(f)?;
+        writeln!(f, "{}", self.sites)?;
         writeln!(f, "{}", self.forms)?;
         let (calls, accepted) = (self.calls(), self.accepted_in_100());
         writeln!(f, "calls {calls}, {accepted} in 100 accepted")?;
@@ -243,6 +293,9 @@ impl fmt::Display for Tally {
         writeln!(f, "own marker sets {} of 256", self.marker_sets())?;
         for (output, met) in OUTPUTS.iter().zip(self.outputs) {
             writeln!(f, "{output} {met}")?;
+        }
+        for (row, met) in ROWS.iter().zip(self.rows) {
+            writeln!(f, "{row} {met}")?;
         }
         Ok(())
     }

@@ -1,6 +1,6 @@
 //! The worked cases of document 02's requests: calls, made of both verifiers, and what they give.
 
-use kerdzhusi::{verdicts, SCRATCH_BYTES, VERDICT_BYTES};
+use kerdzhusi::{verdicts, Verdict, SCRATCH_BYTES, VERDICT_BYTES};
 
 use crate::call::{Answer, Call, Value};
 use crate::desk::Desk;
@@ -16,7 +16,7 @@ const UNWRITTEN: u8 = 0xEE;
 fn worked_cases() {
     let blocks = CASES.split("\n\n");
     let cases: Vec<_> = blocks.filter(|block| block.contains("\n= ")).collect();
-    assert_eq!(cases.len(), 22);
+    assert_eq!(cases.len(), 31);
     for case in cases {
         let (expected, given): (Vec<&str>, Vec<&str>) =
             case.lines().partition(|line| line.starts_with("= "));
@@ -136,9 +136,9 @@ fn shown(answer: Answer) -> String {
 }
 
 fn state(side: &Side) -> String {
-    let line = |verdict: kerdzhusi::Verdict| match verdict.rule {
-        UNTOUCHED => "7777,7777".to_string(),
-        rule => format!("{rule},{}", verdict.record),
+    let line = |verdict: Verdict| match verdict.rule {
+        UNTOUCHED => "7777,7777,7777".to_string(),
+        rule => format!("{rule},{},{}", verdict.record, verdict.class),
     };
     let lines: Vec<_> = verdicts(side.verdicts.part()).map(line).collect();
     let (used, lines) = (side.used, lines.join(" "));

@@ -46,11 +46,13 @@ impl Part {
     }
 }
 
-/// The lowest rule that a class breaks and its lowest record that does; both 0 for a clean class.
+/// The lowest rule that a class breaks, and where its first fault sits: the number of a record, and
+/// the class whose record it is. All 0 for a clean class.
 #[derive(Clone, Copy, Debug, PartialEq, Eq)]
 pub struct Verdict {
     pub rule: u8,
     pub record: u8,
+    pub class: u8,
 }
 
 impl Verdict {
@@ -59,11 +61,12 @@ impl Verdict {
     }
 }
 
-/// The verdicts of a row; an odd last byte belongs to none.
+/// The verdicts of a row; one or two bytes that are left at its end belong to none.
 pub fn verdicts(row: &[u8]) -> impl Iterator<Item = Verdict> + '_ {
     row.chunks_exact(VERDICT_BYTES).map(|line| Verdict {
         rule: line[0],
         record: line[1],
+        class: line[2],
     })
 }
 

@@ -6,8 +6,8 @@ pub mod raw;
 
 pub use answers::{verdicts, Counts, Part, Refusal, Verdict};
 
-/// The bytes of a verdict: rule, then record number.
-pub const VERDICT_BYTES: usize = 2;
+/// The bytes of a verdict: rule, record number, class in which the fault sits.
+pub const VERDICT_BYTES: usize = 3;
 /// The bytes of scratch that `judge`, `add` and `replace` ask for, and zero.
 pub const SCRATCH_BYTES: usize = 65_536;
 /// The most bytes of a sheet.

@@ -20,8 +20,19 @@ const BUSY: [u8; 37] = *b"\x0D\0\x01\0\0\0\0\0\0\0\xFF\xFFA\x06\0\x06\0\x01\0\
 /// The same in canonical form.
 const TIDY: [u8; 25] = *b"\x0D\0\x01\0\0\0\0\0\0\0\xFF\xFFA\x06\0\x06\0\0\0\x06\0\x06\0\x01\0";
 
-const CLEAN: Verdict = Verdict { rule: 0, record: 0 };
-const NOT_FINAL: Verdict = Verdict { rule: 7, record: 1 };
+/// A class below class 1 that is Immutable.
+const BELOW: [u8; 13] = *b"\x0D\0\x01\0\0\0\x01\0\x01\0\xFF\xFFC";
+
+const CLEAN: Verdict = Verdict {
+    rule: 0,
+    record: 0,
+    class: 0,
+};
+const NOT_FINAL: Verdict = Verdict {
+    rule: 7,
+    record: 1,
+    class: 1,
+};
 
 fn refusal(number: u8, sheet: u8, byte: usize) -> Refusal {
     Refusal {
@@ -35,7 +46,7 @@ fn refusal(number: u8, sheet: u8, byte: usize) -> Refusal {
 fn judge_add_and_replace() {
     let mut user = [0; 60];
     let mut used = 0;
-    let mut row = [0xEE; 3];
+    let mut row = [0xEE; 5];
     let mut scratch = vec![0xEE; SCRATCH_BYTES];
     let judged = judge(&LIBRARY, &user, used, &mut row, &mut scratch);
     let (classes, faulted) = (0, 0);
@@ -61,18 +72,45 @@ fn judge_add_and_replace() {
     );
     assert_eq!((dependents, used), (Ok(1), 25));
     assert_eq!(verdicts(&row).collect::<Vec<_>>(), [NOT_FINAL]);
-    assert_eq!((row[2], scratch == vec![0; SCRATCH_BYTES]), (0xEE, true));
+    assert_eq!(row[3..], [0xEE; 2]);
+    assert!(scratch == vec![0; SCRATCH_BYTES]);
+}
+
+/// Three bytes a verdict; what is left at the end of a row belongs to none.
+#[test]
+fn rows_of_every_length() {
+    let sheet = [&MUTABLE[..], &BELOW].concat();
+    let mut scratch = vec![0; SCRATCH_BYTES];
+    for bytes in 0..10 {
+        let mut row = vec![0xEE; bytes];
+        let answer = judge(&LIBRARY, &sheet, sheet.len(), &mut row, &mut scratch);
+        if bytes < 6 {
+            assert_eq!(answer, Err(refusal(12, 0, 0)));
+            assert_eq!(row, vec![0xEE; bytes]);
+            continue;
+        }
+        let (classes, faulted) = (2, 2);
+        assert_eq!(answer, Ok(Counts { classes, faulted }));
+        // Class 2 inherits the field.
+        assert_eq!(row[..6], [7, 1, 1, 7, 1, 1]);
+        assert_eq!(row[6..], [0xEE; 3][..bytes - 6]);
+        let whole: Vec<_> = verdicts(&row).take(2).collect();
+        assert_eq!(
+            (whole, verdicts(&row).count()),
+            (vec![NOT_FINAL; 2], bytes / 3)
+        );
+    }
 }
 
 #[test]
 fn withdraw_until_none_is_left() {
     let mut user = [&MUTABLE[..], &BUILDER, &[0xEE; 5]].concat();
     let mut used = MUTABLE.len() + BUILDER.len();
-    let mut row = [7, 1, 0xEE, 0xEE, 0xEE];
+    let mut row = [7, 1, 1, 0xEE, 0xEE, 0xEE, 0xEE, 0xEE];
     assert_eq!(withdraw(&LIBRARY, &mut user, &mut used, &mut row), Ok(2));
-    assert_eq!((used, row), (25, [7, 1, 0, 0, 0xEE]));
+    assert_eq!((used, row), (25, [7, 1, 1, 0, 0, 0, 0xEE, 0xEE]));
     assert_eq!(withdraw(&LIBRARY, &mut user, &mut used, &mut row), Ok(1));
-    assert_eq!((used, row), (0, [0, 0, 0, 0, 0xEE]));
+    assert_eq!((used, row), (0, [0, 0, 0, 0, 0, 0, 0xEE, 0xEE]));
     assert_eq!(user, [&[0; 44][..], &[0xEE; 5]].concat());
     let answer = withdraw(&LIBRARY, &mut user, &mut used, &mut row);
     assert_eq!(answer, Err(refusal(13, 0, 0)));
@@ -88,12 +126,12 @@ fn refusals_of_withdraw() {
         assert!(row.iter().all(|&byte| byte == 0xEE));
         refusal
     };
-    assert_eq!(refused(45, 4), refusal(1, 1, 0));
+    assert_eq!(refused(45, 6), refusal(1, 1, 0));
     assert_eq!(refused(3, 0), refusal(2, 1, 0));
     assert_eq!(refused(19, 0), refusal(9, 1, 13));
-    assert_eq!(refused(44, 4), refusal(17, 0, 0));
-    assert_eq!(refused(44, 3), refusal(17, 0, 0));
-    assert_eq!(refused(13, 1), refusal(12, 0, 0));
+    assert_eq!(refused(44, 6), refusal(17, 0, 0));
+    assert_eq!(refused(44, 5), refusal(17, 0, 0));
+    assert_eq!(refused(13, 2), refusal(12, 0, 0));
     assert_eq!(refused(0, 0), refusal(13, 0, 0));
 }
 
@@ -131,7 +169,7 @@ fn names_and_markers() {
 
 #[test]
 fn refusals() {
-    let mut row = [0xEE; 2];
+    let mut row = [0xEE; 3];
     let mut scratch = vec![0xEE; SCRATCH_BYTES];
     let mut judge_used = |used| judge(&LIBRARY, &POINT, used, &mut row, &mut scratch);
     assert_eq!(judge_used(26), Err(refusal(1, 1, 0)));
@@ -143,7 +181,7 @@ fn refusals() {
 #[test]
 fn every_call_refuses_records_out_of_order() {
     let (mut user, mut used) = (OUT_OF_ORDER, OUT_OF_ORDER.len());
-    let mut row = [0xEE; 4];
+    let mut row = [0xEE; 6];
     let mut scratch = vec![0xEE; SCRATCH_BYTES];
     let refused = refusal(16, 1, 19);
     let (library, row, scratch) = (&LIBRARY, &mut row, &mut scratch);

@@ -1,6 +1,6 @@
 //! The pairs of files that are listed.
 
-use sheets::build::{short_name, Class, Sheet, GROUP_LIMIT, INT, SHEET_LIMIT};
+use sheets::build::{object_only, short_name, Class, Sheet, GROUP_LIMIT, INT, SHEET_LIMIT};
 use sheets::{damage, families, varied_pair};
 
 const VARIED: u64 = 400;
@@ -44,9 +44,7 @@ pub fn pairs() -> Vec<Pair> {
 }
 
 fn library() -> Vec<u8> {
-    let mut library = Sheet::new();
-    library.class(Class::object(), b"Object");
-    library.into_bytes()
+    object_only().into_bytes()
 }
 
 /// One class, the longest group and one record more, the longest sheet.

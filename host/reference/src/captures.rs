@@ -1,66 +1,81 @@
-//! Captured variables: which markers do those of each class have?
+//! Captured variables: the first one of each class whose type lacks a marker.
 
 use crate::class_set::{reaching, ClassSet};
 use crate::markers::*;
-use crate::pair::{Pair, MOST_CLASSES};
+use crate::pair::{Item, Pair, MOST_CLASSES};
 
 /// The markers that rules ask of captured variables.
-const ASKED: [Markers; 3] = [IMMUTABLE, POWERLESS, DEEP_SELFLESS];
+pub const ASKED: [Markers; 3] = [IMMUTABLE, POWERLESS, DEEP_SELFLESS];
 
-/// For each class those of the asked markers that all its captured variables have.
-pub fn captured_markers(pair: &Pair) -> [Markers; MOST_CLASSES] {
-    let mut row = [ALL; MOST_CLASSES];
+#[derive(Clone, Copy)]
+pub struct Variable {
+    pub owner: u8,
+    pub local: Item,
+}
+
+/// For each class and each asked marker the first variable, by owner and index, that the class
+/// captures and whose type lacks the marker.
+pub type FirstCaptured = [[Option<Variable>; ASKED.len()]; MOST_CLASSES];
+
+pub fn first_captured(pair: &Pair) -> FirstCaptured {
+    let mut first = [[None; ASKED.len()]; MOST_CLASSES];
     let doubtful = doubtful_uses(pair);
     if doubtful.is_empty() {
-        return row;
+        return first;
     }
     let steps = Steps::of(pair);
-    for marker in ASKED {
-        let mut capturing = capturing(&steps, &doubtful, marker);
-        while let Some(class) = capturing.pop() {
-            row[class] &= !marker;
-        }
+    for (number, marker) in ASKED.into_iter().enumerate() {
+        let lacking = doubtful.iter().filter(|usage| usage.lacks & marker != 0);
+        note_captures(&steps, &lacking.collect::<Vec<_>>(), |class, variable| {
+            first[class][number] = Some(variable);
+        });
     }
-    row
+    first
 }
 
 /// A use of another class's variable, and the asked markers that its type lacks.
 struct DoubtfulUse {
     user: u8,
-    owner: u8,
+    variable: Variable,
     lacks: Markers,
 }
 
+/// By owner and index of the variable: LOCALs stand in that order.
 fn doubtful_uses(pair: &Pair) -> Vec<DoubtfulUse> {
     let asked = ASKED.iter().fold(NONE, |all, marker| all | marker);
-    let uses = pair.uses.iter().map(|usage| DoubtfulUse {
+    let others = pair.uses.iter().filter(|usage| usage.user != usage.owner);
+    let uses = others.map(|usage| DoubtfulUse {
         user: usage.user,
-        owner: usage.owner,
+        variable: Variable {
+            owner: usage.owner,
+            local: usage.local,
+        },
         lacks: asked & !pair.local_type(usage.local).markers(&pair.overlay),
     });
-    uses.filter(|usage| usage.lacks != NONE && usage.user != usage.owner)
-        .collect()
+    let mut doubtful: Vec<_> = uses.filter(|usage| usage.lacks != NONE).collect();
+    doubtful.sort_by_key(|usage| usage.variable.local.at);
+    doubtful
 }
 
-/// All classes that capture a variable whose type lacks the marker.
+/// Tells of each class that captures one of the variables, and of the first one that it captures.
 ///
-/// Owners are taken outermost first. The enclosers of a class form a chain, so what lies inside
-/// an inner owner lies inside the outer one too: a class reached once needs no second visit,
-/// neither do those before it.
-fn capturing(steps: &Steps, doubtful: &[DoubtfulUse], marker: Markers) -> ClassSet {
-    let mut owners = ClassSet::EMPTY;
-    let mut users_of = vec![ClassSet::EMPTY; steps.inside.len()];
-    for usage in doubtful.iter().filter(|usage| usage.lacks & marker != 0) {
-        let (user, owner) = (usage.user as usize, usage.owner as usize);
-        owners.insert(owner);
-        users_of[owner].insert(user);
-    }
+/// The enclosers of a class form a chain, and outer ones have lower numbers: where BUILDS inside a
+/// later owner lead to a class that captures an earlier variable, the whole chain lies inside the
+/// earlier owner too. So a class reached once needs no second visit, neither do those before it.
+fn note_captures(steps: &Steps, uses: &[&DoubtfulUse], mut note: impl FnMut(usize, Variable)) {
     let mut known = ClassSet::EMPTY;
-    while let Some(owner) = owners.pop() {
-        let within = steps.inside[owner];
-        known.add_all(reaching(&steps.builders, users_of[owner], within, known));
+    for uses in uses.chunk_by(|one, next| one.variable.local.at == next.variable.local.at) {
+        let mut users = ClassSet::EMPTY;
+        uses.iter()
+            .for_each(|usage| users.insert(usage.user as usize));
+        let variable = uses[0].variable;
+        let within = steps.inside[variable.owner as usize];
+        let mut new = reaching(&steps.builders, users, within, known);
+        known.add_all(new);
+        while let Some(class) = new.pop() {
+            note(class, variable);
+        }
     }
-    known
 }
 
 /// What a search along BUILDS goes by.

@@ -21,8 +21,8 @@ use rules::{judge_classes, Verdict};
 pub const SHEET_LIMIT: usize = 32_768;
 /// The bytes of scratch that `judge`, `add` and `replace` ask for, and zero.
 pub const SCRATCH_BYTES: usize = 65_536;
-/// The bytes of a verdict: rule, then record number.
-pub const VERDICT_BYTES: usize = 2;
+/// The bytes of a verdict: rule, record number, class in which the fault sits (document 02, C-16).
+pub const VERDICT_BYTES: usize = 3;
 
 /// Why a call was turned away: the documents' number, the sheet (0 library, 1 user) and the byte
 /// where the record begins.
@@ -66,7 +66,7 @@ pub struct Counts {
     pub faulted: usize,
 }
 
-/// Judges all user classes. The row gets two bytes a user class.
+/// Judges all user classes. The row gets three bytes a user class.
 pub fn judge(
     library: &[u8],
     user: &[u8],
@@ -208,10 +208,15 @@ fn try_listing(library: &[u8], user: &[u8]) -> Result<String, Refusal> {
     let pair = check(library, user, user.len())?;
     let mut lines = String::new();
     let mut faulted = 0;
-    judge_classes(&pair, |class, Verdict { rule, record }| {
+    judge_classes(&pair, |number, verdict| {
+        let Verdict {
+            rule,
+            record,
+            class,
+        } = verdict;
         faulted += (rule != 0) as usize;
-        let name = name_text(&pair, class);
-        let _ = writeln!(lines, "{class} {name} {rule} {record}");
+        let name = name_text(&pair, number);
+        let _ = writeln!(lines, "{number} {name} {rule} {record} {class}");
     });
     let classes = pair.user_classes();
     Ok(format!("classes {classes} faulted {faulted}\n{lines}"))
@@ -251,7 +256,7 @@ fn require_room(pair: &Pair, verdicts: &[u8], scratch: &[u8]) -> Result<(), Refu
     require(scratch.len() >= SCRATCH_BYTES, 12)
 }
 
-/// Refusal 12 where no scratch is asked for.
+/// Refusal 12 where no scratch is asked for. Bytes too few for a verdict count for nothing.
 fn require_lines(pair: &Pair, verdicts: &[u8]) -> Result<(), Refusal> {
     require(verdicts.len() / VERDICT_BYTES >= pair.user_classes(), 12)
 }
@@ -320,8 +325,13 @@ fn rewrite(pair: &Pair, changed: ClassSet, verdicts: &mut [u8]) {
 }
 
 fn write_verdict(verdicts: &mut [u8], line: usize, verdict: Verdict) {
+    let Verdict {
+        rule,
+        record,
+        class,
+    } = verdict;
     let at = line * VERDICT_BYTES;
-    verdicts[at..at + VERDICT_BYTES].copy_from_slice(&[verdict.rule, verdict.record]);
+    verdicts[at..at + VERDICT_BYTES].copy_from_slice(&[rule, record, class]);
 }
 
 fn clear(scratch: &mut [u8]) {

@@ -26,11 +26,18 @@ pub struct Class {
     pub enclosers: ClassSet,
 }
 
-/// A USES record: which class uses a variable of which, and where its LOCAL begins.
+/// A MEMBER or a LOCAL: where it begins, and its number in its group.
+#[derive(Clone, Copy)]
+pub struct Item {
+    pub at: u16,
+    pub number: u8,
+}
+
+/// A USES record: which class uses a variable of which, and its LOCAL.
 pub struct Use {
     pub user: u8,
     pub owner: u8,
-    pub local: u16,
+    pub local: Item,
 }
 
 /// A BUILDS record.
@@ -47,8 +54,8 @@ pub struct Pair<'a> {
     pub overlay: [Markers; MOST_CLASSES],
     pub uses: Vec<Use>,
     pub builds: Vec<Build>,
-    /// Where each MEMBER and each LOCAL begins, class by class.
-    items: Vec<u16>,
+    /// Each MEMBER and each LOCAL, class by class.
+    items: Vec<Item>,
 }
 
 impl<'a> Pair<'a> {
@@ -95,17 +102,16 @@ impl<'a> Pair<'a> {
                     // No record of its group is before it.
                     before = CLASS;
                 }
-                LOCAL | MEMBER => self.items.push(at as u16),
+                LOCAL | MEMBER => self.items.push(Item {
+                    at: at as u16,
+                    number: records as u8,
+                }),
                 _ => {}
             }
             records += 1;
-            if records > MOST_RECORDS {
-                return Err(refused(7));
-            }
+            require(records <= MOST_RECORDS, 7).map_err(refused)?;
             // Document 02, C-13: inside a group kinds never fall.
-            if kind < before {
-                return Err(refused(16));
-            }
+            require(kind >= before, 16).map_err(refused)?;
             before = kind;
             at += record.len();
         }
@@ -315,15 +321,14 @@ impl<'a> Pair<'a> {
         }
     }
 
-    /// The type of the LOCAL at this byte of the user sheet.
-    pub fn local_type(&self, at: u16) -> Type {
-        Type::of_local(&self.user[at as usize..])
+    pub fn local_type(&self, local: Item) -> Type {
+        Type::of_local(&self.user[local.at as usize..])
     }
 
     /// Is this MEMBER of a library class allowed?
     pub fn member_allowed(&self, class: usize, index: usize) -> bool {
-        let at = self.items[self.classes[class].first_item + index];
-        number(self.library, at as usize + 4) & MEMBER_ALLOWED != 0
+        let member = self.items[self.classes[class].first_item + index];
+        number(self.library, member.at as usize + 4) & MEMBER_ALLOWED != 0
     }
 }
 

@@ -19,8 +19,8 @@ fn written(
     (canonical(library, user, used, &mut out), out)
 }
 
-/// The canonical form beside a library. It has its own one, its own lines, and each byte of the
-/// output past it stays.
+/// The canonical form beside a library. It is its own one, each class keeps its rule and the class
+/// in which the fault sits, and each byte of the output past it stays.
 fn form_beside(library: &[u8], user: &[u8]) -> Vec<u8> {
     let room = user.len() + 9;
     let (answer, mut out) = written(library, user, user.len(), room);
@@ -28,11 +28,11 @@ fn form_beside(library: &[u8], user: &[u8]) -> Vec<u8> {
     assert_eq!(past, vec![UNTOUCHED; room - out.len()]);
     let (answer, again) = written(library, &out, out.len(), out.len());
     assert_eq!((answer, &again), (Ok(out.len()), &out));
-    let rules = |sheet| -> Vec<u8> {
+    let kept = |sheet| -> Vec<(u8, u8)> {
         let lines = judged(library, sheet).expect("accepted");
-        lines.into_iter().map(|line| line.0).collect()
+        lines.into_iter().map(|line| (line.0, line.2)).collect()
     };
-    assert_eq!(rules(&out), rules(user));
+    assert_eq!(kept(&out), kept(user));
     out
 }
 
@@ -183,8 +183,34 @@ fn a_place_may_move() {
     ]
     .concat();
     let tidy = form_beside(&library, &user);
-    assert_eq!(judged(&library, &user), Ok(vec![(1, 3)]));
-    assert_eq!(judged(&library, &tidy), Ok(vec![(1, 1)]));
+    assert_eq!(judged(&library, &user), Ok(vec![(1, 3, 2)]));
+    assert_eq!(judged(&library, &tidy), Ok(vec![(1, 1, 2)]));
+}
+
+/// Document 02, C-16: so may one in another class, here that of a field and of a variable.
+#[test]
+fn a_place_elsewhere_may_move() {
+    let library = rich_library();
+    let user = |interfaces: &[u16]| {
+        let interfaces: Vec<_> = interfaces.iter().flat_map(|&i| implements(i)).collect();
+        [
+            plain("C"),
+            interfaces.clone(),
+            field(0, INT, "f"),
+            plain("D"),
+            interfaces,
+            local(OBJECT, "v"),
+            class(0, 1, 5, NO_CLASS, "E"),
+            class(0, 1, 0, 6, "F"),
+            uses(6, 0),
+        ]
+        .concat()
+    };
+    let (loose, tidy) = (user(&[2, 1, 2]), user(&[1, 2]));
+    assert_eq!(form_beside(&library, &loose), tidy);
+    let lines = |place| Ok(vec![CLEAN, CLEAN, (7, place, 5), (7, place, 6)]);
+    assert_eq!(judged(&library, &loose), lines(4));
+    assert_eq!(judged(&library, &tidy), lines(3));
 }
 
 #[test]

@@ -2,7 +2,7 @@
 
 mod support;
 
-use reference::{add, replace, withdraw, Refusal};
+use reference::{add, replace, withdraw, Refusal, VERDICT_BYTES};
 use support::*;
 
 /// User buffer, used length, verdicts and scratch.
@@ -19,11 +19,9 @@ struct Desk {
 impl Desk {
     /// A judged user sheet in a buffer with some bytes to spare.
     fn new(user: &[u8], spare: usize) -> Desk {
-        let mut verdicts = vec![0xEE; 20];
-        for (line, (rule, record)) in lines(user).into_iter().enumerate() {
-            verdicts[2 * line] = rule;
-            verdicts[2 * line + 1] = record;
-        }
+        // Two bytes at the end belong to no line.
+        let mut verdicts = row_of(&lines(user));
+        verdicts.resize(10 * VERDICT_BYTES + 2, 0xEE);
         Desk {
             user: [user, &vec![0xEE; spare]].concat(),
             used: user.len(),
@@ -87,7 +85,7 @@ impl Desk {
         }
         assert!(self.scratch.iter().all(|&byte| byte == 0));
         let past = self.check_lines();
-        assert!(past.iter().all(|&line| line == (0xEE, 0xEE)));
+        assert!(past.iter().all(|&byte| byte == 0xEE));
     }
 
     /// The bytes in use before and not now are zero, and so is the class's line. Everything else
@@ -95,18 +93,16 @@ impl Desk {
     fn check_withdrawn(&self, before: Contents, line: usize) {
         let (mut user, used, mut verdicts, scratch) = before;
         user[self.used..used].fill(0);
-        verdicts[2 * line..2 * line + 2].fill(0);
+        verdicts[VERDICT_BYTES * line..][..VERDICT_BYTES].fill(0);
         assert!(self.contents() == (user, self.used, verdicts, scratch));
-        assert_eq!(self.check_lines()[0], (0, 0));
+        assert_eq!(lines_of(self.check_lines())[0], CLEAN);
     }
 
-    /// The lines are those of judging anew; gives back those past the last class.
-    fn check_lines(&self) -> Vec<(u8, u8)> {
+    /// The lines are those of judging anew; gives back the bytes past the last class's.
+    fn check_lines(&self) -> &[u8] {
         let fresh = lines(&self.user[..self.used]);
-        let row = self.verdicts.chunks_exact(2);
-        let mut kept: Vec<_> = row.map(|line| (line[0], line[1])).collect();
-        let past = kept.split_off(fresh.len());
-        assert_eq!(kept, fresh);
+        let (kept, past) = self.verdicts.split_at(VERDICT_BYTES * fresh.len());
+        assert_eq!(lines_of(kept), fresh);
         past
     }
 }
@@ -123,7 +119,7 @@ fn adding_writes_group_line_and_length() {
     assert_eq!(desk.used, POINT.len() + group.len());
     assert_eq!(desk.user[POINT.len()..desk.used], group);
     assert!(desk.user[desk.used..].iter().all(|&byte| byte == 0xEE));
-    assert_eq!(desk.verdicts[..4], [0, 0, 7, 1]);
+    assert_eq!(desk.verdicts[..6], [0, 0, 0, 7, 1, 2]);
 }
 
 #[test]
@@ -137,15 +133,33 @@ fn a_replacement_reaches_all_dependents() {
         plain("Fourth"),
     ];
     let mut desk = Desk::new(&user.concat(), 0);
-    assert_eq!(desk.verdicts[..8], [0; 8]);
+    assert_eq!(desk.verdicts[..12], [0; 12]);
     let before = desk.used;
     assert_eq!(desk.replace(1, &plain("F")), Ok(3));
-    assert_eq!(desk.verdicts[..8], [0, 0, 0, 0, 7, 1, 0, 0]);
+    let kept = [CLEAN, CLEAN, (7, 1, 3), CLEAN];
+    assert_eq!(desk.verdicts[..12], row_of(&kept));
     assert_eq!(desk.used, before - 4);
     assert_eq!(desk.user[desk.used..], [0; 4]);
     let first = class(0, 1, 0, NO_CLASS, "First");
     assert_eq!(desk.replace(1, &first), Ok(3));
     assert_eq!(desk.user, user.concat());
+}
+
+/// Document 02, C-16: a variable moves in its owner, and the lines that name it follow.
+#[test]
+fn a_replacement_moves_places_in_other_lines() {
+    let owner = |field: &[u8]| [&plain("A"), field, &local(OBJECT, "v")].concat();
+    let user = [
+        owner(&[]),
+        class(0, 1, 0, 1, "B"),
+        uses(1, 0),
+        class(0, 1, 2, NO_CLASS, "C"),
+    ];
+    let mut desk = Desk::new(&user.concat(), 20);
+    assert_eq!(desk.verdicts[..9], [0, 0, 0, 7, 1, 1, 7, 1, 1]);
+    let longer = owner(&field(0, INT, "f"));
+    assert_eq!(desk.replace(1, &longer), Ok(3));
+    assert_eq!(desk.verdicts[..9], [0, 0, 0, 7, 2, 1, 7, 2, 1]);
 }
 
 #[test]
@@ -157,7 +171,7 @@ fn only_the_lines_of_dependents_are_rewritten() {
     let (verdicts, scratch) = (&mut desk.verdicts, &mut desk.scratch);
     let answer = replace(&LIBRARY, user, used, 1, &plain("A"), verdicts, scratch);
     assert_eq!(answer, Ok(2));
-    assert_eq!(desk.verdicts[..6], [0, 0, 0, 0, 0xEE, 0xEE]);
+    assert_eq!(desk.verdicts[..9], [0, 0, 0, 0, 0, 0, 0xEE, 0xEE, 0xEE]);
 }
 
 #[test]
@@ -199,7 +213,7 @@ fn fifteen_no_room_in_a_sheet() {
     }
     let mut desk = Desk::new(&user, 40_000);
     for number in 9..21u8 {
-        desk.verdicts.resize(60, 0xEE);
+        desk.verdicts.resize(30 * VERDICT_BYTES, 0xEE);
         let mut group = group.clone();
         group[12] += number;
         assert_eq!(desk.add(&group), Ok(number as usize + 1));
@@ -268,7 +282,7 @@ fn a_replacement_can_break_another_group() {
 #[test]
 fn twelve_comes_last() {
     let mut desk = Desk::new(&POINT, 100);
-    desk.verdicts.truncate(3);
+    desk.verdicts.truncate(5);
     assert_eq!(desk.add(&plain("Pt")), Err(refusal(10, 1, 25)));
     assert_eq!(desk.add(&plain("D")), Err(refusal(12, 0, 0)));
     assert_eq!(desk.replace(1, &plain("D")), Ok(1));
@@ -280,14 +294,14 @@ fn twelve_comes_last() {
 fn withdrawing_takes_group_line_and_length_back() {
     let last = [class(0, 1, 0, NO_CLASS, "D"), field(0, INT, "f")].concat();
     let mut desk = Desk::new(&[&POINT[..], &last].concat(), 40);
-    assert_eq!(desk.verdicts[..6], [0, 0, 7, 1, 0xEE, 0xEE]);
+    assert_eq!(desk.verdicts[..9], [0, 0, 0, 7, 1, 2, 0xEE, 0xEE, 0xEE]);
     assert_eq!(desk.withdraw(), Ok(2));
     assert_eq!(desk.used, POINT.len());
     assert_eq!(desk.user[..POINT.len()], POINT);
     let (freed, past) = desk.user[POINT.len()..].split_at(last.len());
     assert!(freed.iter().all(|&byte| byte == 0));
     assert!(past.iter().all(|&byte| byte == 0xEE));
-    assert_eq!(desk.verdicts[..6], [0, 0, 0, 0, 0xEE, 0xEE]);
+    assert_eq!(desk.verdicts[..9], [0, 0, 0, 0, 0, 0, 0xEE, 0xEE, 0xEE]);
 }
 
 #[test]
@@ -343,9 +357,11 @@ fn naming_itself_or_others_keeps_no_class() {
 fn twelve_of_a_withdrawal_asks_for_present_lines_alone() {
     let user = [plain("A"), plain("B")].concat();
     let mut desk = Desk::new(&user, 0);
-    desk.verdicts.truncate(3);
-    assert_eq!(desk.withdraw(), Err(refusal(12, 0, 0)));
-    desk.verdicts.push(0xEE);
+    for bytes in [0, 3, 4, 5] {
+        desk.verdicts.resize(bytes, 0xEE);
+        assert_eq!(desk.withdraw(), Err(refusal(12, 0, 0)));
+    }
+    desk.verdicts = vec![0; 6];
     assert_eq!(desk.withdraw(), Ok(2));
 }
 
@@ -365,7 +381,7 @@ fn an_addition_and_a_withdrawal_give_everything_back() {
     assert_eq!(desk.add(&group), Ok(2));
     assert_eq!(desk.withdraw(), Ok(2));
     user[used..used + group.len()].fill(0);
-    verdicts[2..4].fill(0);
+    verdicts[3..6].fill(0);
     let scratch = vec![0; 65_536];
     assert!(desk.contents() == (user, used, verdicts, scratch));
 }

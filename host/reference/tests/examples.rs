@@ -7,7 +7,10 @@ use support::*;
 
 #[test]
 fn listing_of_the_first_example() {
-    assert_eq!(listing(&LIBRARY, &POINT), "classes 1 faulted 0\n1 Pt 0 0\n");
+    assert_eq!(
+        listing(&LIBRARY, &POINT),
+        "classes 1 faulted 0\n1 Pt 0 0 0\n"
+    );
 }
 
 #[test]
@@ -46,20 +49,20 @@ fn points() {
     let mut mutable = POINT;
     mutable[18] = 0;
     let of_object = [class(0, 1, 0, NO_CLASS, "Pt"), field(FINAL, OBJECT, "x")].concat();
-    assert_eq!(lines(&POINT), [(0, 0)]);
-    assert_eq!(lines(&mutable), [(7, 1)]);
-    assert_eq!(lines(&of_object), [(7, 1)]);
+    assert_eq!(lines(&POINT), [CLEAN]);
+    assert_eq!(lines(&mutable), [(7, 1, 1)]);
+    assert_eq!(lines(&of_object), [(7, 1, 1)]);
 }
 
 #[test]
 fn single_classes() {
-    assert_eq!(lines(&class(0, 128, 0, NO_CLASS, "C")), [(9, 0)]);
-    assert_eq!(lines(&class(0, 12, 0, NO_CLASS, "C")), [(4, 0)]);
-    assert_eq!(lines(&class(0, 16, 0, NO_CLASS, "C")), [(3, 0)]);
-    assert_eq!(lines(&class(1 << 7, 0, 0, NO_CLASS, "C")), [(6, 0)]);
+    assert_eq!(lines(&class(0, 128, 0, NO_CLASS, "C")), [(9, 0, 1)]);
+    assert_eq!(lines(&class(0, 12, 0, NO_CLASS, "C")), [(4, 0, 1)]);
+    assert_eq!(lines(&class(0, 16, 0, NO_CLASS, "C")), [(3, 0, 1)]);
+    assert_eq!(lines(&class(1 << 7, 0, 0, NO_CLASS, "C")), [(6, 0, 1)]);
     let array = field(FINAL | STATIC, INT_ARRAY, "a");
     let user = [class(0, 0, 0, NO_CLASS, "C"), array].concat();
-    assert_eq!(lines(&user), [(5, 1)]);
+    assert_eq!(lines(&user), [(5, 1, 1)]);
 }
 
 /// Document 02, C-11.
@@ -78,12 +81,14 @@ fn a_static_field_is_of_a_powerless_type() {
     };
     let (token, immutable, powerless) = (16, 1, 2);
     let of_kept = [0, 0, 1, 0];
-    assert_eq!(kept(token, FINAL | STATIC, of_kept), ((5, 2), (5, 2)));
-    assert_eq!(kept(immutable, FINAL | STATIC, of_kept), ((5, 2), (5, 2)));
-    assert_eq!(kept(powerless, FINAL | STATIC, of_kept), ((0, 0), (5, 3)));
-    assert_eq!(kept(powerless, STATIC, of_kept), ((5, 2), (5, 2)));
+    let second = ((5, 2, 2), (5, 2, 2));
+    assert_eq!(kept(token, FINAL | STATIC, of_kept), second);
+    assert_eq!(kept(immutable, FINAL | STATIC, of_kept), second);
+    let third = (CLEAN, (5, 3, 2));
+    assert_eq!(kept(powerless, FINAL | STATIC, of_kept), third);
+    assert_eq!(kept(powerless, STATIC, of_kept), second);
     let array = [1, 0, 1, 0];
-    assert_eq!(kept(powerless, FINAL | STATIC, array), ((5, 2), (5, 2)));
+    assert_eq!(kept(powerless, FINAL | STATIC, array), second);
     let inherited = [
         class(INTERFACE, powerless, NO_CLASS, NO_CLASS, "Marker"),
         class(0, 0, 0, NO_CLASS, "Kept"),
@@ -92,7 +97,7 @@ fn a_static_field_is_of_a_powerless_type() {
         field(FINAL | STATIC, [0, 0, 2, 0], "kept"),
         field(FINAL | STATIC, OBJECT, "other"),
     ];
-    assert_eq!(lines(&inherited.concat()), [(0, 0), (0, 0), (5, 2)]);
+    assert_eq!(lines(&inherited.concat()), [CLEAN, CLEAN, (5, 2, 3)]);
 }
 
 #[test]
@@ -105,7 +110,7 @@ fn captured_through_builds() {
         class(0, 0, 0, 1, "Three"),
         uses(1, 0),
     ];
-    assert_eq!(lines(&user.concat()), [(0, 0), (7, 0), (0, 0)]);
+    assert_eq!(lines(&user.concat()), [CLEAN, (7, 1, 1), CLEAN]);
 }
 
 #[test]
@@ -118,7 +123,7 @@ fn a_local_of_the_class_itself_is_not_captured() {
         class(0, 0, 0, 2, "Three"),
         uses(2, 0),
     ];
-    assert_eq!(lines(&user.concat()), [(0, 0), (0, 0), (0, 0)]);
+    assert_eq!(lines(&user.concat()), [CLEAN; 3]);
 }
 
 #[test]
@@ -134,8 +139,7 @@ fn a_chain_has_to_stay_inside_the_owner() {
         class(0, 1, 0, 1, "Around"),
         builds(3),
     ];
-    let clean = [(0, 0), (0, 0), (0, 0), (0, 0)];
-    assert_eq!(lines(&outside.concat()), clean);
+    assert_eq!(lines(&outside.concat()), [CLEAN; 4]);
 }
 
 #[test]
@@ -146,17 +150,17 @@ fn a_clean_subclass_of_a_dirty_class_is_dirty() {
         class(0, 1, 1, NO_CLASS, "Sub"),
         field(FINAL, INT, "y"),
     ];
-    assert_eq!(lines(&user.concat()), [(0, 0), (7, 0)]);
+    assert_eq!(lines(&user.concat()), [CLEAN, (7, 1, 1)]);
 }
 
 #[test]
-fn record_zero_is_lower_than_an_own_field() {
+fn the_encloser_comes_before_own_fields() {
     let user = [
         class(0, 0, 0, NO_CLASS, "Outer"),
         class(INNER, 1, 0, 1, "In"),
         field(0, INT, "x"),
     ];
-    assert_eq!(lines(&user.concat()), [(0, 0), (7, 0)]);
+    assert_eq!(lines(&user.concat()), [CLEAN, (7, 0, 2)]);
 }
 
 #[test]
@@ -167,12 +171,12 @@ fn interfaces_are_judged_by_six_rules() {
         class(INTERFACE, 0, NO_CLASS, NO_CLASS, "J"),
         field(STATIC, INT, "x"),
     ];
-    assert_eq!(lines(&user.concat()), [(0, 0), (5, 1)]);
+    assert_eq!(lines(&user.concat()), [CLEAN, (5, 1, 2)]);
 }
 
 #[test]
 fn only_the_lines_in_use_and_the_scratch_are_written() {
-    let mut verdicts = [0xEE; 5];
+    let mut verdicts = [0xEE; 8];
     let mut scratch = vec![0xEE; 65_540];
     let user = [&POINT[..], &[7; 9]].concat();
     let counts = judge(&LIBRARY, &user, POINT.len(), &mut verdicts, &mut scratch);
@@ -181,7 +185,7 @@ fn only_the_lines_in_use_and_the_scratch_are_written() {
         faulted: 0,
     };
     assert_eq!(counts, Ok(expected));
-    assert_eq!(verdicts, [0, 0, 0xEE, 0xEE, 0xEE]);
+    assert_eq!(verdicts, [0, 0, 0, 0xEE, 0xEE, 0xEE, 0xEE, 0xEE]);
     assert!(scratch[..65_536].iter().all(|&byte| byte == 0));
     assert!(scratch[65_536..].iter().all(|&byte| byte == 0xEE));
 }

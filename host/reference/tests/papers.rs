@@ -4,14 +4,14 @@ mod support;
 
 use std::collections::HashMap;
 
-use support::judged;
+use support::{judged, Line};
 
 const TEXT: &str = include_str!("paper_examples.txt");
 
 struct Example<'a> {
     name: &'a str,
     library: &'a str,
-    verdicts: Vec<(u8, u8)>,
+    verdicts: Vec<Line>,
     user: Vec<u8>,
 }
 
@@ -58,10 +58,15 @@ fn first_word(text: &str) -> &str {
     text.split(' ').next().unwrap_or(text)
 }
 
-fn verdict(text: &str) -> (u8, u8) {
-    let (rule, record) = text.split_once(' ').expect("two numbers");
-    let number = |digits: &str| digits.parse().expect("a number");
-    (number(rule), number(record))
+fn verdict(text: &str) -> Line {
+    let numbers: Vec<u8> = text
+        .split(' ')
+        .map(|digits| digits.parse().expect("a number"))
+        .collect();
+    let [rule, record, class] = numbers[..] else {
+        panic!("three numbers: {text}");
+    };
+    (rule, record, class)
 }
 
 fn hex(text: &str) -> Vec<u8> {

@@ -121,7 +121,7 @@ fn seven_limits_of_classes_and_records() {
     assert_eq!(refused(&classes(256)), (7, 1, 255 * 16));
     assert_eq!(refused(&classes(300)), (7, 1, 255 * 16));
     let group = |records: usize| after_class(&builds(0).repeat(records - 1));
-    assert_eq!(lines(&group(255)), [(0, 0)]);
+    assert_eq!(lines(&group(255)), [CLEAN]);
     assert_eq!(refused(&group(256)), (7, 1, AFTER + 254 * 6));
     assert_eq!(refused_pair(&[], &[1]), (7, 0, 0));
 }
@@ -168,7 +168,7 @@ fn equal_kinds_pass_and_a_class_begins_anew() {
         [class(0, 0, 0, NO_CLASS, name), twice].concat()
     };
     let user = [group(3, "C"), group(4, "D")].concat();
-    assert_eq!(judged(&library, &user), Ok(vec![(0, 0), (0, 0)]));
+    assert_eq!(judged(&library, &user), Ok(vec![CLEAN, CLEAN]));
 }
 
 #[test]
@@ -234,7 +234,7 @@ fn sixteen_comes_after_one_and_before_the_second_pass() {
 #[test]
 fn names_of_a_hundred_bytes() {
     let named = |length| class(0, 0, 0, NO_CLASS, &"n".repeat(length));
-    assert_eq!(lines(&named(100)), [(0, 0)]);
+    assert_eq!(lines(&named(100)), [CLEAN]);
     assert_eq!(refused(&named(101)), (4, 1, 0));
 }
 
@@ -337,30 +337,35 @@ fn eleven_deemed_markers() {
     assert_eq!(refused_pair(&library, &after_class(&builds(9))).0, 9);
 }
 
+/// Document 02, C-16: three bytes a line, and what is left at the end belongs to none.
 #[test]
 fn twelve_room() {
-    let call = |lines: usize, scratch: usize| {
-        let mut row = vec![0; lines];
-        judge(
-            &LIBRARY,
-            &POINT,
-            POINT.len(),
-            &mut row,
-            &mut vec![0; scratch],
-        )
-        .map(|counts| counts.classes)
+    let two = after_class(&class(0, 0, 0, NO_CLASS, "D"));
+    let call = |user: &[u8], bytes: usize, scratch: usize| {
+        let mut row = vec![0xEE; bytes];
+        let mut scratch = vec![0; scratch];
+        judge(&LIBRARY, user, user.len(), &mut row, &mut scratch).map(|counts| {
+            let past = &row[3 * counts.classes..];
+            assert!(past.iter().all(|&byte| byte == 0xEE));
+            counts.classes
+        })
     };
-    assert_eq!(call(1, 65_536), Err(refusal(12, 0, 0)));
-    assert_eq!(call(2, 65_535), Err(refusal(12, 0, 0)));
-    assert_eq!(call(2, 65_536), Ok(1));
+    let short = Err(refusal(12, 0, 0));
+    for bytes in 0..9 {
+        let of_one = if bytes < 3 { short } else { Ok(1) };
+        let of_two = if bytes < 6 { short } else { Ok(2) };
+        assert_eq!(call(&POINT, bytes, 65_536), of_one);
+        assert_eq!(call(&two, bytes, 65_536), of_two);
+    }
+    assert_eq!(call(&[], 0, 65_536), Ok(0));
+    assert_eq!(call(&POINT, 3, 65_535), short);
 }
 
-/// The sheets come first: each call is refused for them as judging is, whatever else it is given.
-#[test]
-fn every_call_meets_one_to_eleven_and_sixteen() {
+/// For each refusal of the sheets a library sheet and a user sheet.
+fn refused_pairs() -> [(u8, Vec<u8>, Vec<u8>); 14] {
     let marked = class(ALLOWED, 1, NO_CLASS, NO_CLASS, "O");
     let fall = after_class(&[builds(1), implements(1)].concat());
-    let pairs = [
+    [
         (1, vec![0; 32_769], vec![]),
         (1, LIBRARY.to_vec(), vec![0; 32_769]),
         (2, LIBRARY.to_vec(), after_class(&[6, 0, 6])),
@@ -375,8 +380,13 @@ fn every_call_meets_one_to_eleven_and_sixteen() {
         (11, marked, after_class(&builds(1))),
         (16, LIBRARY.to_vec(), fall),
         (16, falling_library(), POINT.to_vec()),
-    ];
-    for (number, library, user) in pairs {
+    ]
+}
+
+/// The sheets come first: each call is refused for them as judging is, whatever else it is given.
+#[test]
+fn every_call_meets_one_to_eleven_and_sixteen() {
+    for (number, library, user) in refused_pairs() {
         let refused = judged(&library, &user).expect_err("refused");
         assert_eq!(refused.number, number);
         assert_eq!(marks(&library, &user, user.len(), 999), Err(refused));

@@ -1,5 +1,6 @@
 //! Records and groups, written one after the other.
 
+use crate::kinds;
 use crate::read::ordered;
 
 /// Superclass or encloser of a class that has none.
@@ -14,6 +15,10 @@ pub const NAME_LIMIT: usize = 100;
 pub const CLASS_LIMIT: usize = 256;
 /// The lengths that a FIELD can have.
 pub const FIELD_LENGTHS: (usize, usize) = (11, 110);
+/// User classes beside a library of one class.
+pub const CHAIN: usize = CLASS_LIMIT - 1;
+/// Names of class numbers are at most this long.
+pub const SHORT: usize = 2;
 
 pub const INTERFACE: u16 = 1 << 0;
 pub const INNER: u16 = 1 << 1;
@@ -153,6 +158,16 @@ impl Class {
     }
 }
 
+/// A library sheet and a user sheet.
+pub type Pair = (Sheet, Sheet);
+
+/// A library with Object alone.
+pub fn object_only() -> Sheet {
+    let mut library = Sheet::new();
+    library.class(Class::object(), b"Object");
+    library
+}
+
 /// A sheet, or the start of one. Lengths and numbers are the caller's affair, so that broken
 /// sheets can be written too.
 #[derive(Clone, Default)]
@@ -171,10 +186,10 @@ impl Sheet {
     }
 
     /// A record of any kind.
-    pub fn record(&mut self, kind: u16, body: &[&[u8]]) -> &mut Sheet {
+    pub fn record(&mut self, kind: usize, body: &[&[u8]]) -> &mut Sheet {
         let length = 4 + body.iter().map(|part| part.len()).sum::<usize>();
-        self.bytes.extend((length as u16).to_le_bytes());
-        self.bytes.extend(kind.to_le_bytes());
+        self.bytes.extend(two_bytes(length));
+        self.bytes.extend(two_bytes(kind));
         self.bytes.extend(body.concat());
         self.records += 1;
         self.in_group += 1;
@@ -188,35 +203,38 @@ impl Sheet {
         let flags = class.flags.to_le_bytes();
         let superclass = class.superclass.to_le_bytes();
         let encloser = class.encloser.to_le_bytes();
-        self.record(1, &[&flags, &[class.own, 0], &superclass, &encloser, name])
+        self.record(
+            kinds::CLASS,
+            &[&flags, &[class.own, 0], &superclass, &encloser, name],
+        )
     }
 
     pub fn implements(&mut self, interface: usize) -> &mut Sheet {
-        self.record(2, &[&two_bytes(interface)])
+        self.record(kinds::IMPLEMENTS, &[&two_bytes(interface)])
     }
 
     pub fn field(&mut self, flags: u16, ty: Type, name: &[u8]) -> &mut Sheet {
-        self.record(3, &[&flags.to_le_bytes(), &ty.bytes(), name])
+        self.record(kinds::FIELD, &[&flags.to_le_bytes(), &ty.bytes(), name])
     }
 
     pub fn local(&mut self, ty: Type, name: &[u8]) -> &mut Sheet {
-        self.record(4, &[&ty.bytes(), name])
+        self.record(kinds::LOCAL, &[&ty.bytes(), name])
     }
 
     pub fn uses(&mut self, class: usize, index: usize) -> &mut Sheet {
-        self.record(5, &[&two_bytes(class), &two_bytes(index)])
+        self.record(kinds::USES, &[&two_bytes(class), &two_bytes(index)])
     }
 
     pub fn builds(&mut self, class: usize) -> &mut Sheet {
-        self.record(6, &[&two_bytes(class)])
+        self.record(kinds::BUILDS, &[&two_bytes(class)])
     }
 
     pub fn member(&mut self, allowed: bool, name: &[u8]) -> &mut Sheet {
-        self.record(7, &[&[allowed as u8, 0], name])
+        self.record(kinds::MEMBER, &[&[allowed as u8, 0], name])
     }
 
     pub fn refers(&mut self, class: usize, index: usize) -> &mut Sheet {
-        self.record(8, &[&two_bytes(class), &two_bytes(index)])
+        self.record(kinds::REFERS, &[&two_bytes(class), &two_bytes(index)])
     }
 
     /// A constant as long as the room allows, which leaves nothing or enough for another one.

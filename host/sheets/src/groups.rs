@@ -2,6 +2,7 @@
 //! bytes that mean the same.
 
 use crate::build::{Sheet, GROUP_LIMIT, SHEET_LIMIT};
+use crate::kinds::{BUILDS, CLASS, FIELD, LOCAL};
 use crate::plan::{Plan, OWN};
 use crate::random::{damage, Random};
 use crate::read::{groups, is_of_set, kind, ordered, records};
@@ -97,11 +98,11 @@ fn edit(random: &mut Random, rows: &mut Vec<Vec<u8>>, classes: usize) {
 fn retouch(random: &mut Random, record: &mut [u8], classes: usize) {
     let class = (random.below(classes) as u16).to_le_bytes();
     match kind(record) {
-        1 => record[6] ^= 1 << random.below(8),
-        3 if random.percent(50) => record[4] ^= 1 << random.below(3),
-        3 => record[6..10].copy_from_slice(&[0, 0, class[0], class[1]]),
-        4 => record[4..8].copy_from_slice(&[0, 0, class[0], class[1]]),
-        6 => record[4..6].copy_from_slice(&class),
+        CLASS => record[6] ^= 1 << random.below(8),
+        FIELD if random.percent(50) => record[4] ^= 1 << random.below(3),
+        FIELD => record[6..10].copy_from_slice(&[0, 0, class[0], class[1]]),
+        LOCAL => record[4..8].copy_from_slice(&[0, 0, class[0], class[1]]),
+        BUILDS => record[4..6].copy_from_slice(&class),
         _ => {}
     }
 }

@@ -1,8 +1,8 @@
 //! Sheets that are accepted and cost as much as they can.
 
 use crate::build::*;
+use crate::rings::*;
 
-type Pair = (Sheet, Sheet);
 type Maker = fn() -> Pair;
 
 pub const ALL: &[(&str, Maker)] = &[
@@ -18,6 +18,15 @@ pub const ALL: &[(&str, Maker)] = &[
     ("builds_rings_rising", || nested_rings(rising(CHAIN))),
     ("builds_rings_falling", || nested_rings(falling(CHAIN))),
     ("builds_rings_owners", ring_below_owners),
+    ("captured_far_zigzag", || captured_far(zigzag(CHAIN))),
+    ("captured_far_rising", || captured_far(rising(CHAIN))),
+    ("captured_far_falling", || captured_far(falling(CHAIN))),
+    ("captured_far_owners_zigzag", || captured_far_owners(zigzag)),
+    ("captured_far_owners_rising", || captured_far_owners(rising)),
+    ("captured_far_owners_falling", || {
+        captured_far_owners(falling)
+    }),
+    ("faulted_rings", faulted_rings),
     ("dense_references", dense_references),
     ("spread_references", spread_references),
     ("equal_prefixes", equal_prefixes),
@@ -27,18 +36,6 @@ pub const ALL: &[(&str, Maker)] = &[
     ("deep_uses", deep_uses),
     ("spread_pairs", spread_pairs),
 ];
-
-/// User classes beside a library of one class.
-const CHAIN: usize = 255;
-/// Names of class numbers are at most this long.
-const SHORT: usize = 2;
-
-/// A library with Object alone.
-fn object_only() -> Sheet {
-    let mut library = Sheet::new();
-    library.class(Class::object(), b"Object");
-    library
-}
 
 /// Each of 100 interfaces extends all lower ones, in both sheets; classes implement the highest.
 fn interface_diamonds() -> Pair {
@@ -228,29 +225,23 @@ fn fill_with_fields(user: &mut Sheet, flags: u16, later: usize) {
     }
 }
 
-/// Faults behind much that is sound. Below a superclass chain with as many fields as fit stand as
-/// many classes as there can be, all markers asked, each broken by rule 10 alone, at a field of
-/// its own. The chain's classes are broken by rule 1 alone, each at its last record.
+/// Faults behind much that is sound: a superclass chain of all classes, the fields near its first
+/// one, whose last field breaks rule 10 and no other. Each class meets it after all that it has
+/// inherited.
 fn faulted_chains() -> Pair {
-    const SUPERCLASSES: usize = 10;
     let mut library = object_only();
-    library.class(Class::below(0), b"System");
     library.class(Class::below(0).flags(ALLOWED).own(POWERLESS), b"Powerless");
-    let (system, powerless, first) = (1, 2, 3);
-    let last = first + SUPERCLASSES - 1;
-    let own = POWERLESS | DEEP_SELFLESS;
+    let (powerless, first) = (1, 2);
     let mut user = Sheet::new();
-    for class in first..=last {
-        user.class(chained(class, first).own(own), &short_name(class));
-        let later = (last - class) * (12 + SHORT + 6) + (CHAIN - last) * (12 + SHORT + 11);
-        while user.records_in_group() < GROUP_LIMIT - 1 && user.fits(11 + 6 + later) {
-            user.field(FINAL, object(first), b"f");
+    for class in first..=CHAIN {
+        user.class(chained(class, first), &short_name(class));
+        if class == first {
+            for _ in 2..GROUP_LIMIT {
+                user.field(FINAL, object(CHAIN), b"f");
+            }
+            user.field(FINAL, object(powerless), b"f");
         }
-        user.builds(system);
-    }
-    for class in last + 1..=CHAIN {
-        user.class(Class::below(last).own(own), &short_name(class));
-        user.field(FINAL, object(powerless), b"f");
+        fill_with_fields(&mut user, FINAL, (CHAIN - class) * (12 + SHORT));
     }
     (library, user)
 }
@@ -259,113 +250,6 @@ fn faulted_chains() -> Pair {
 fn fill_last_group(user: &mut Sheet) {
     while user.fits(6) {
         user.builds(0);
-    }
-}
-
-/// The classes 2 to `last`, so that neighbours lie far apart and steps go up and down in turn.
-fn zigzag(last: usize) -> Vec<usize> {
-    let mut path = Vec::new();
-    let (mut low, mut high) = (2, last);
-    while low <= high {
-        path.push(high);
-        if low < high {
-            path.push(low);
-        }
-        low += 1;
-        high -= 1;
-    }
-    path.reverse();
-    path
-}
-
-/// Each class builds the next higher one.
-fn rising(last: usize) -> Vec<usize> {
-    (2..=last).collect()
-}
-
-/// Each class builds the next lower one.
-fn falling(last: usize) -> Vec<usize> {
-    (2..=last).rev().collect()
-}
-
-/// All classes lie in each other, 254 deep, and build each other along a path. Its last class
-/// uses a variable of the outermost class and of some more; all other BUILDS lead back along
-/// the path, so they close rings and shorten nothing.
-fn nested_rings(path: Vec<usize>) -> Pair {
-    const OWNERS: usize = 60;
-    let mut plan = Rings::new(path, OWNERS);
-    plan.encloser = |class| class - 1;
-    (object_only(), plan.write())
-}
-
-/// Half of the classes lie in each other and own a variable each; the others lie in the
-/// innermost, build each other along a path, and the last uses all variables.
-fn ring_below_owners() -> Pair {
-    const OWNERS: usize = 127;
-    let order = zigzag(CHAIN - OWNERS + 1);
-    let path = order.into_iter().map(|class| class - 1 + OWNERS);
-    let mut plan = Rings::new(path.collect(), OWNERS);
-    plan.encloser = |class| (class - 1).min(OWNERS);
-    (object_only(), plan.write())
-}
-
-/// BUILDS along a path and back.
-struct Rings {
-    owners: usize,
-    encloser: fn(usize) -> usize,
-    /// The last class of the path.
-    last: usize,
-    /// What each class builds.
-    builds: Vec<Vec<usize>>,
-}
-
-impl Rings {
-    fn new(path: Vec<usize>, owners: usize) -> Rings {
-        let mut builds = vec![Vec::new(); CHAIN + 1];
-        for step in path.windows(2) {
-            builds[step[0]].push(step[1]);
-        }
-        let heads = CHAIN * (12 + SHORT) + owners * (9 + 8);
-        let mut records = (SHEET_LIMIT - heads) / 6 - path.len();
-        for back in 1..path.len() {
-            for from in back..path.len() {
-                if records > 0 {
-                    builds[path[from]].push(path[from - back]);
-                    records -= 1;
-                }
-            }
-        }
-        Rings {
-            owners,
-            encloser: |_| 0,
-            last: path[path.len() - 1],
-            builds,
-        }
-    }
-
-    fn write(&self) -> Sheet {
-        let mut user = Sheet::new();
-        for class in 1..=CHAIN {
-            let own = POWERLESS | DEEP_SELFLESS;
-            let head = Class::below(0).flags(BY_VALUE).own(own);
-            let head = match class {
-                1 => head,
-                _ => head.inside((self.encloser)(class)),
-            };
-            user.class(head, &short_name(class));
-            if class <= self.owners {
-                user.local(object(0), b"v");
-            }
-            if class == self.last {
-                (1..=self.owners.min(class - 1)).for_each(|owner| {
-                    user.uses(owner, 0);
-                });
-            }
-            for &built in &self.builds[class] {
-                user.builds(built);
-            }
-        }
-        user
     }
 }
 

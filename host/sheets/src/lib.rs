@@ -4,18 +4,20 @@
 pub mod build;
 mod groups;
 mod hostile;
+pub mod kinds;
 mod ordinary;
 mod plan;
 mod random;
 mod read;
 mod real;
 mod real_names;
+mod rings;
 
 pub use groups::{broken_group, edited_group, fitting_group, shuffled_sets};
 pub use random::{damage, random_group, random_pair, varied_pair, Random};
 pub use read::{groups, is_in_order, is_of_set, kind, number, records};
 
-use build::Sheet;
+use build::Pair;
 
 /// A library sheet and a user sheet with a name.
 pub struct Family {
@@ -28,7 +30,7 @@ pub struct Family {
 }
 
 impl Family {
-    fn new(name: &'static str, (library, user): (Sheet, Sheet)) -> Family {
+    fn new(name: &'static str, (library, user): Pair) -> Family {
         Family {
             name,
             hostile: false,

@@ -3,11 +3,11 @@
 use crate::build::*;
 use crate::random::Random;
 
-pub fn typical() -> (Sheet, Sheet) {
+pub fn typical() -> Pair {
     Mixed::new(1).write(20, 2_000, 40, 7_000)
 }
 
-pub fn full() -> (Sheet, Sheet) {
+pub fn full() -> Pair {
     Mixed::new(2).write(56, 12_000, 200, SHEET_LIMIT)
 }
 
@@ -116,7 +116,7 @@ impl Mixed {
         library_bytes: usize,
         user_classes: usize,
         user_bytes: usize,
-    ) -> (Sheet, Sheet) {
+    ) -> Pair {
         for number in 0..library_classes {
             self.library_class(number, library_bytes * (number + 1) / library_classes);
         }

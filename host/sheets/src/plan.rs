@@ -1,6 +1,7 @@
 //! Two sheets drawn class by class before they are written.
 
 use crate::build::*;
+use crate::kinds;
 use crate::random::Random;
 use crate::read::{groups, kind, number, records};
 
@@ -86,13 +87,15 @@ impl Plan {
             encloser: number(group, 10) as u16,
         };
         let of_kind = |wanted| records(group).filter(move |record| kind(record) == wanted);
-        let interfaces: Vec<_> = of_kind(2).map(|record| number(record, 4)).collect();
+        let interfaces: Vec<_> = of_kind(kinds::IMPLEMENTS)
+            .map(|record| number(record, 4))
+            .collect();
         let above = self.drafts.get(class.superclass as usize).into_iter();
         let above = above.chain(interfaces.iter().map(|&number| &self.drafts[number]));
         Draft {
             class,
             overlay: above.fold(closure(class.own), |all, draft| all | draft.overlay),
-            items: of_kind(4).chain(of_kind(7)).count(),
+            items: of_kind(kinds::LOCAL).chain(of_kind(kinds::MEMBER)).count(),
             name: String::from_utf8_lossy(&group[12..number(group, 0)]).into_owned(),
             interfaces,
         }
@@ -258,7 +261,7 @@ impl Plan {
         self.drafts[random.below(self.drafts.len())].name.clone()
     }
 
-    pub fn write(&self, random: &mut Random) -> (Sheet, Sheet) {
+    pub fn write(&self, random: &mut Random) -> Pair {
         let mut sheets = [Sheet::new(), Sheet::new()];
         for class in 0..self.drafts.len() {
             self.write_group(random, class, &mut sheets[self.is_user(class) as usize]);
@@ -424,7 +427,7 @@ impl Plan {
             3 => sheet.implements(class),
             4 => sheet.field(random.below(9) as u16, object(class), b"f"),
             5 => sheet.local(primitive(random.below(10) as u8), b"bad name"),
-            6 => sheet.record(random.below(10) as u16, &[b"body"]),
+            6 => sheet.record(random.below(10), &[b"body"]),
             _ => sheet.member(true, &[b'm'; NAME_LIMIT + 1]),
         };
     }

@@ -1,5 +1,7 @@
 //! Taking sheets apart again.
 
+use crate::kinds::*;
+
 /// The number in two bytes.
 pub fn number(bytes: &[u8], at: usize) -> usize {
     u16::from_le_bytes([bytes[at], bytes[at + 1]]) as usize
@@ -12,7 +14,7 @@ pub fn kind(record: &[u8]) -> usize {
 /// Is this an IMPLEMENTS, USES, BUILDS or REFERS? Of each a group holds a set: neither order nor
 /// repeats mean anything (document 02, C-15).
 pub fn is_of_set(record: &[u8]) -> bool {
-    [2, 5, 6, 8].contains(&kind(record))
+    [IMPLEMENTS, USES, BUILDS, REFERS].contains(&kind(record))
 }
 
 /// The records of a sheet, up to the first that is not whole.
@@ -31,7 +33,9 @@ pub fn records(mut sheet: &[u8]) -> impl Iterator<Item = &[u8]> {
 /// Do kinds never fall inside a group?
 pub fn is_in_order(sheet: &[u8]) -> bool {
     let kinds: Vec<_> = records(sheet).map(kind).collect();
-    kinds.windows(2).all(|two| two[1] == 1 || two[0] <= two[1])
+    kinds
+        .windows(2)
+        .all(|two| two[1] == CLASS || two[0] <= two[1])
 }
 
 /// A group with its records in order of kind, those of one kind as they stood.
@@ -47,7 +51,7 @@ pub fn groups(sheet: &[u8]) -> Vec<&[u8]> {
     let mut groups = Vec::new();
     let (mut start, mut at) = (None, 0);
     for record in records(sheet) {
-        if kind(record) == 1 {
+        if kind(record) == CLASS {
             groups.extend(start.map(|start| &sheet[start..at]));
             start = Some(at);
         }

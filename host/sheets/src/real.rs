@@ -7,7 +7,7 @@ use crate::ordinary::*;
 use crate::random::Random;
 use crate::real_names::{self as names, FAILURES, INTERFACES, NOT_ALLOWED, TOOLS, VALUES};
 
-pub fn real() -> (Sheet, Sheet) {
+pub fn real() -> Pair {
     let mut pair = Real::new(3);
     pair.write_library();
     pair.write_user();

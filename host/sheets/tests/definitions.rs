@@ -1,14 +1,14 @@
 //! The reference beside the documents' definitions, written down as plainly as they read: relations
 //! over lists, searched without cleverness. Random pairs are judged by both.
 
-use std::collections::HashSet;
+use std::collections::{BTreeSet, HashSet};
 use std::ops::Range;
 
-use reference::{add, judge, replace, withdraw, Refusal, SCRATCH_BYTES};
+use reference::{add, judge, replace, withdraw, Refusal, SCRATCH_BYTES, VERDICT_BYTES};
+use sheets::kinds::CLASS;
 use sheets::{damage, families, groups, kind, random_group, random_pair, records, Random};
 
 const NO_CLASS: u16 = 0xFFFF;
-const CLASS: usize = 1;
 const PAIRS: u64 = 40_000;
 
 #[derive(Clone, Copy)]
@@ -16,6 +16,51 @@ struct Type {
     dimensions: u8,
     code: u8,
     class: usize,
+}
+
+/// Where something stands: a record number, and the class whose record it is.
+type Place = (usize, usize);
+
+/// A slot: a field, an encloser or a captured variable.
+struct Slot {
+    place: Place,
+    ty: Type,
+    is_final: bool,
+    is_transient: bool,
+}
+
+/// Where the fault of a line sits.
+#[derive(Clone, Copy, PartialEq, Eq, Hash, Debug)]
+enum Site {
+    /// In a record of the class itself; in the walk of rules 7 to 10 in a field.
+    Own,
+    /// In a field of a superclass.
+    Superclass,
+    /// In the encloser of the class itself.
+    Encloser,
+    /// In that of a superclass.
+    InheritedEncloser,
+    Variable,
+    Root,
+    /// Rule 9's.
+    SecondPart,
+}
+
+/// The sites where a fault of a rule can sit. Document 01 has rules 7, 8 and 10 ask every slot's
+/// type, and the root; rule 9 asks field slots alone.
+fn sites(rule: u8) -> &'static [Site] {
+    match rule {
+        1..=6 => &[Site::Own],
+        9 => &[Site::Own, Site::Superclass, Site::SecondPart],
+        _ => &[
+            Site::Own,
+            Site::Superclass,
+            Site::Encloser,
+            Site::InheritedEncloser,
+            Site::Variable,
+            Site::Root,
+        ],
+    }
 }
 
 enum Record {
@@ -138,9 +183,9 @@ impl Pair {
         }
     }
 
-    /// The types of the variables that a class captures.
-    fn captured(&self, class: usize) -> Vec<Type> {
-        let mut types = Vec::new();
+    /// The variables that a class captures, by owner and index.
+    fn captured(&self, class: usize) -> BTreeSet<(usize, usize)> {
+        let mut variables = BTreeSet::new();
         for owner in 0..self.classes.len() {
             if !self.strictly_inside(class, owner) {
                 continue;
@@ -151,7 +196,7 @@ impl Pair {
                 for record in &self.classes[next].records {
                     match *record {
                         Record::Uses(of, index) if of == owner => {
-                            types.push(self.local(of, index));
+                            variables.insert((of, index));
                         }
                         Record::Builds(built)
                             if self.strictly_inside(built, owner) && chain.insert(built) =>
@@ -163,16 +208,23 @@ impl Pair {
                 }
             }
         }
-        types
+        variables
     }
 
-    fn local(&self, class: usize, index: usize) -> Type {
-        let locals = self.classes[class].records.iter();
-        let mut types = locals.filter_map(|record| match record {
-            Record::Local(ty) => Some(*ty),
-            _ => None,
-        });
-        types.nth(index).expect("a LOCAL")
+    /// The record number and the type of a variable.
+    fn local(&self, class: usize, index: usize) -> (usize, Type) {
+        let mut locals = self
+            .records(class)
+            .filter_map(|(number, record)| match record {
+                Record::Local(ty) => Some((number, *ty)),
+                _ => None,
+            });
+        locals.nth(index).expect("a LOCAL")
+    }
+
+    /// The records after the CLASS, with their numbers.
+    fn records(&self, class: usize) -> impl Iterator<Item = (usize, &Record)> {
+        (1..).zip(&self.classes[class].records)
     }
 
     fn member_allowed(&self, class: usize, index: usize) -> bool {
@@ -184,42 +236,59 @@ impl Pair {
         allowed.nth(index).expect("a MEMBER")
     }
 
-    /// All slots of a class and its user superclasses: place, final, steady, type.
-    /// The place is 0 but for the class's own fields.
-    fn slots(&self, class: usize) -> Vec<(usize, bool, bool, Type)> {
+    /// A class and its superclasses upward.
+    fn lineage(&self, class: usize) -> Vec<usize> {
+        std::iter::successors(Some(class), |&class| self.classes[class].superclass).collect()
+    }
+
+    /// The slots of one class: "the encloser (record 0), FIELDs in order, captured variables by
+    /// class and index (place: the LOCAL, class: its owner)".
+    fn own_slots(&self, class: usize) -> Vec<Slot> {
+        let fixed = |place, ty| Slot {
+            place,
+            ty,
+            is_final: true,
+            is_transient: false,
+        };
+        let of = &self.classes[class];
         let mut slots = Vec::new();
-        let mut holder = class;
-        while self.is_user(holder) {
-            let of = &self.classes[holder];
-            if of.flags & 2 != 0 {
-                let encloser = Type {
-                    dimensions: 0,
-                    code: 0,
-                    class: of.encloser.expect("inner needs an encloser"),
-                };
-                slots.push((0, true, true, encloser));
+        if of.flags & 2 != 0 {
+            let encloser = Type {
+                dimensions: 0,
+                code: 0,
+                class: of.encloser.expect("inner needs an encloser"),
+            };
+            slots.push(fixed((0, class), encloser));
+        }
+        for (number, record) in self.records(class) {
+            match *record {
+                Record::Field { flags, ty } if flags & 4 == 0 => slots.push(Slot {
+                    place: (number, class),
+                    ty,
+                    is_final: flags & 1 != 0,
+                    is_transient: flags & 2 != 0,
+                }),
+                _ => {}
             }
-            for ty in self.captured(holder) {
-                slots.push((0, true, true, ty));
-            }
-            for (index, record) in of.records.iter().enumerate() {
-                if let Record::Field { flags, ty } = *record {
-                    let place = if holder == class { index + 1 } else { 0 };
-                    if flags & 4 == 0 {
-                        slots.push((place, flags & 1 != 0, flags & 2 == 0, ty));
-                    }
-                }
-            }
-            holder = of.superclass.expect("a class has a superclass");
+        }
+        for (owner, index) in self.captured(class) {
+            let (number, ty) = self.local(owner, index);
+            slots.push(fixed((number, owner), ty));
         }
         slots
     }
 
-    fn root(&self, mut class: usize) -> usize {
-        while self.is_user(class) {
-            class = self.classes[class].superclass.expect("a superclass");
-        }
-        class
+    /// Document 02, C-16: "own class, then upward".
+    fn slots(&self, class: usize) -> Vec<Slot> {
+        let lineage = self.lineage(class).into_iter();
+        let users = lineage.filter(|&class| self.is_user(class));
+        users.flat_map(|class| self.own_slots(class)).collect()
+    }
+
+    /// The first library class upward.
+    fn root(&self, class: usize) -> usize {
+        let mut lineage = self.lineage(class).into_iter();
+        lineage.find(|&class| !self.is_user(class)).expect("a root")
     }
 
     fn forbidden(&self, class: usize) -> bool {
@@ -237,85 +306,116 @@ impl Pair {
         }
     }
 
-    /// The places where a class breaks a rule.
-    fn broken(&self, class: usize, rule: u8) -> Vec<usize> {
+    /// The places where a class breaks a rule, in the order of records or of the walk.
+    fn broken(&self, class: usize, rule: u8) -> Vec<Place> {
+        match rule {
+            1..=6 => self.broken_records(class, rule),
+            _ => self.broken_in_walk(class, rule),
+        }
+    }
+
+    /// The records that break one of rules 1 to 6.
+    fn broken_records(&self, class: usize, rule: u8) -> Vec<Place> {
+        let head = self.head_breaks(class, rule).then_some(0);
+        let records = self.records(class);
+        let broken = records.filter(|(_, record)| self.record_breaks(rule, record));
+        let numbers = head.into_iter().chain(broken.map(|(number, _)| number));
+        numbers.map(|number| (number, class)).collect()
+    }
+
+    /// Does the CLASS break one of rules 1 to 6?
+    fn head_breaks(&self, class: usize, rule: u8) -> bool {
         let of = &self.classes[class];
         let overlay = self.overlay(class);
-        let interface = of.flags & 1 != 0;
-        let records = || of.records.iter().enumerate().map(|(i, r)| (i + 1, r));
-        let at_zero = |broken: bool| if broken { vec![0] } else { vec![] };
-        let places = |breaks: &dyn Fn(&Record) -> bool| -> Vec<usize> {
-            let broken = records().filter(|(_, record)| breaks(record));
-            broken.map(|(place, _)| place).collect()
-        };
         match rule {
             1 => {
-                let named = of.superclass.into_iter().chain(of.encloser);
-                let mut found = at_zero(named.into_iter().any(|class| self.forbidden(class)));
-                let names_one = |r: &Record| self.names(r).is_some_and(|c| self.forbidden(c));
-                found.extend(places(&names_one));
-                found
+                let mut named = of.superclass.into_iter().chain(of.encloser);
+                named.any(|class| self.forbidden(class))
             }
-            2 => places(&|record| match *record {
-                Record::Refers(class, index) => !self.member_allowed(class, index),
-                _ => false,
-            }),
-            3 => at_zero(of.own & (16 | 32 | 64) != 0),
-            4 => at_zero(overlay & 18 == 18 || overlay & 12 == 12),
+            3 => of.own & (16 | 32 | 64) != 0,
+            4 => overlay & 18 == 18 || overlay & 12 == 12,
+            6 => of.flags & 0xE0 != 0,
+            _ => false,
+        }
+    }
+
+    /// Does a later record break one of them?
+    fn record_breaks(&self, rule: u8, record: &Record) -> bool {
+        match (rule, record) {
+            (1, record) => self
+                .names(record)
+                .is_some_and(|class| self.forbidden(class)),
+            (2, &Record::Refers(class, index)) => !self.member_allowed(class, index),
             // Document 02, C-11: of a Powerless type.
-            5 => places(&|record| match *record {
-                Record::Field { flags, ty } => {
-                    flags & 4 != 0 && (flags & 1 == 0 || !self.satisfies(ty, 2))
-                }
-                _ => false,
-            }),
-            6 => at_zero(of.flags & 0xE0 != 0),
-            _ if interface => vec![],
-            7 if overlay & 1 != 0 => {
-                let mut found = self.broken_types(class, 1);
-                let slots = self.slots(class).into_iter();
-                found.extend(slots.filter(|slot| !slot.1).map(|slot| slot.0));
-                found
+            (5, &Record::Field { flags, ty }) => {
+                flags & 4 != 0 && (flags & 1 == 0 || !self.satisfies(ty, 2))
             }
-            8 if overlay & 2 != 0 => self.broken_types(class, 2),
-            9 if overlay & 4 != 0 => {
-                let slots = self.slots(class).into_iter();
-                let unsteady = slots.filter(|slot| !slot.1 || !slot.2);
-                let mut found: Vec<_> = unsteady.map(|slot| slot.0).collect();
-                let superclass = of.superclass.expect("a superclass");
-                let by_value = superclass == 0 && of.flags & 0b11100 == 0b01100;
-                found.extend(at_zero(self.overlay(superclass) & 4 == 0 && !by_value));
-                found
-            }
-            10 if overlay & 128 != 0 => self.broken_types(class, 128),
-            _ => vec![],
+            _ => false,
         }
     }
 
-    /// Slots and root that lack a marker.
-    fn broken_types(&self, class: usize, marker: u8) -> Vec<usize> {
+    /// What breaks one of rules 7 to 10: slots, then what comes after them.
+    fn broken_in_walk(&self, class: usize, rule: u8) -> Vec<Place> {
+        let marker = [1, 2, 4, 128][rule as usize - 7];
+        let interface = self.classes[class].flags & 1 != 0;
+        if interface || self.overlay(class) & marker == 0 {
+            return vec![];
+        }
         let slots = self.slots(class).into_iter();
-        let lacking = slots.filter(|slot| !self.satisfies(slot.3, marker));
-        let mut found: Vec<_> = lacking.map(|slot| slot.0).collect();
-        let root = self.root(class);
-        if root != 0 && self.overlay(root) & marker == 0 {
-            found.push(0);
-        }
-        found
+        let broken = slots.filter(|slot| match rule {
+            7 => !slot.is_final || !self.satisfies(slot.ty, marker),
+            9 => !slot.is_final || slot.is_transient,
+            _ => !self.satisfies(slot.ty, marker),
+        });
+        let last = match rule {
+            9 => self.second_part_breaks(class).then_some((0, class)),
+            _ => self.broken_root(class, marker),
+        };
+        broken.map(|slot| slot.place).chain(last).collect()
     }
 
-    fn line(&self, class: usize) -> [u8; 2] {
+    /// Document 02, C-16: "then a root fault, naming the root and 0".
+    fn broken_root(&self, class: usize, marker: u8) -> Option<Place> {
+        let root = self.root(class);
+        (root != 0 && self.overlay(root) & marker == 0).then_some((0, root))
+    }
+
+    /// Rule 9's: "either the superclass is Selfless, or it is class 0 with flags 2 and 3 set and 4
+    /// clear".
+    fn second_part_breaks(&self, class: usize) -> bool {
+        let of = &self.classes[class];
+        let superclass = of.superclass.expect("a superclass");
+        let by_value = superclass == 0 && of.flags & 0b11100 == 0b01100;
+        self.overlay(superclass) & 4 == 0 && !by_value
+    }
+
+    fn line(&self, class: usize) -> [u8; VERDICT_BYTES] {
         for rule in 1..=10 {
-            if let Some(place) = self.broken(class, rule).into_iter().min() {
-                return [rule, place as u8];
+            if let Some(&(record, class)) = self.broken(class, rule).first() {
+                return [rule, record as u8, class as u8];
             }
         }
-        [0, 0]
+        [0; VERDICT_BYTES]
     }
 
     fn lines(&self) -> Vec<u8> {
         let users = self.library..self.classes.len();
         users.flat_map(|class| self.line(class)).collect()
+    }
+
+    fn site(&self, class: usize, line: &[u8]) -> Site {
+        let [rule, record, at] = [line[0], line[1], line[2]].map(usize::from);
+        let records = &self.classes[at].records;
+        let local = record > 0 && matches!(records[record - 1], Record::Local(_));
+        match rule {
+            7.. if !self.is_user(at) => Site::Root,
+            7.. if local => Site::Variable,
+            9 if (record, at) == (0, class) => Site::SecondPart,
+            7.. if (record, at) == (0, class) => Site::Encloser,
+            7.. if record == 0 => Site::InheritedEncloser,
+            _ if at == class => Site::Own,
+            _ => Site::Superclass,
+        }
     }
 
     /// The classes that the records of a class name.
@@ -378,45 +478,77 @@ fn check_order(library: &[u8], user: &[u8], refusal: Option<Refusal>) {
 }
 
 fn judged(library: &[u8], user: &[u8]) -> Result<Vec<u8>, Refusal> {
-    let mut verdicts = vec![0xEE; 512];
+    let mut verdicts = vec![0xEE; 256 * VERDICT_BYTES];
     let mut scratch = vec![0; SCRATCH_BYTES];
     let answer = judge(library, user, user.len(), &mut verdicts, &mut scratch);
     check_order(library, user, answer.err());
-    verdicts.truncate(2 * answer?.classes);
+    verdicts.truncate(VERDICT_BYTES * answer?.classes);
     Ok(verdicts)
+}
+
+/// What random pairs have met.
+#[derive(Default)]
+struct Met {
+    accepted: u64,
+    /// Broken rules, and whether at a later record than 0.
+    places: HashSet<(u8, bool)>,
+    sites: HashSet<(u8, Site)>,
+    refusals: HashSet<(u8, u8)>,
+}
+
+impl Met {
+    fn note_lines(&mut self, pair: &Pair, lines: &[u8]) {
+        self.accepted += 1;
+        for (class, line) in (pair.library..).zip(lines.chunks(VERDICT_BYTES)) {
+            if line[0] > 0 {
+                self.places.insert((line[0], line[1] > 0));
+                self.sites.insert((line[0], pair.site(class, line)));
+            }
+        }
+    }
+
+    /// Each rule is broken at each place and site where it can be, and at no other site.
+    fn require_rules(&self) {
+        for rule in 1..=10 {
+            let zero = ![2, 5].contains(&rule);
+            let later = ![3, 4, 6].contains(&rule);
+            let met = |later| self.places.contains(&(rule, later));
+            assert!(!zero || met(false), "rule {rule}");
+            assert!(!later || met(true), "rule {rule}");
+        }
+        let each = (1..=10).flat_map(|rule| sites(rule).iter().map(move |&site| (rule, site)));
+        assert_eq!(self.sites, each.collect());
+    }
+
+    fn require_refusals(&self) {
+        let met = |number, sheet| self.refusals.contains(&(number, sheet));
+        for number in 2..=11 {
+            assert!(met(number, 0) || met(number, 1), "refusal {number}");
+        }
+        assert!(met(16, 0) && met(16, 1), "refusal 16");
+    }
 }
 
 #[test]
 fn random_pairs_get_the_lines_of_the_definitions() {
-    let mut accepted = 0;
-    let mut found = HashSet::new();
-    let mut refusals = HashSet::new();
+    let mut met = Met::default();
     for seed in 0..PAIRS {
         let (library, user) = random_pair(seed);
         match judged(&library, &user) {
             Ok(lines) => {
-                accepted += 1;
-                assert_eq!(lines, Pair::parse(&library, &user).lines(), "seed {seed}");
-                found.extend(lines.chunks(2).map(|line| (line[0], line[1] > 0)));
+                let pair = Pair::parse(&library, &user);
+                assert_eq!(lines, pair.lines(), "seed {seed}");
+                met.note_lines(&pair, &lines);
             }
             Err(refusal) => {
-                refusals.insert((refusal.number, refusal.sheet));
+                met.refusals.insert((refusal.number, refusal.sheet));
             }
         }
     }
-    let share = accepted * 100 / PAIRS;
+    let share = met.accepted * 100 / PAIRS;
     assert!((40..=60).contains(&share), "{share} in a hundred accepted");
-    for rule in 1..=10 {
-        let zero = ![2, 5].contains(&rule);
-        let later = ![3, 4, 6].contains(&rule);
-        assert!(!zero || found.contains(&(rule, false)), "rule {rule}");
-        assert!(!later || found.contains(&(rule, true)), "rule {rule}");
-    }
-    let met = |number, sheet| refusals.contains(&(number, sheet));
-    for number in 2..=11 {
-        assert!(met(number, 0) || met(number, 1), "refusal {number}");
-    }
-    assert!(met(16, 0) && met(16, 1), "refusal 16");
+    met.require_rules();
+    met.require_refusals();
 }
 
 #[test]
@@ -432,79 +564,140 @@ fn families_get_the_lines_of_the_definitions() {
     }
 }
 
+/// Two sheets that calls change, and their lines.
+#[derive(Clone, PartialEq)]
+struct Desk {
+    library: Vec<u8>,
+    user: Vec<u8>,
+    used: usize,
+    lines: Vec<u8>,
+    scratch: Vec<u8>,
+}
+
+/// A group to add, or to put in the place of a class.
+struct Edit {
+    adding: bool,
+    class: usize,
+    group: Vec<u8>,
+}
+
+impl Edit {
+    fn draw(random: &mut Random, pair: &Pair) -> Edit {
+        let classes = pair.classes.len();
+        let adding = random.percent(40);
+        let class = if adding {
+            classes
+        } else {
+            random.below(classes + 1)
+        };
+        let mut group = random_group(random.number(), pair.library, classes, class);
+        if random.percent(10) {
+            group = damage(random.number(), &group);
+        }
+        Edit {
+            adding,
+            class,
+            group,
+        }
+    }
+}
+
+impl Desk {
+    /// A random pair with its lines and room for more, if it is accepted.
+    fn draw(seed: u64) -> Option<Desk> {
+        let (library, user) = random_pair(seed);
+        let mut lines = judged(&library, &user).ok()?;
+        lines.resize(40 * VERDICT_BYTES + 1, 0xEE);
+        Some(Desk {
+            library,
+            used: user.len(),
+            user: [&user[..], &[0xEE; 300]].concat(),
+            lines,
+            scratch: vec![0xEE; SCRATCH_BYTES],
+        })
+    }
+
+    fn pair(&self) -> Pair {
+        Pair::parse(&self.library, &self.user[..self.used])
+    }
+
+    fn call(&mut self, edit: &Edit) -> Result<usize, Refusal> {
+        let (library, group) = (&self.library, &edit.group);
+        let (user, used) = (&mut self.user, &mut self.used);
+        let (lines, scratch) = (&mut self.lines, &mut self.scratch);
+        if edit.adding {
+            add(library, user, used, group, lines, scratch)
+        } else {
+            replace(library, user, used, edit.class, group, lines, scratch)
+        }
+    }
+
+    /// The user sheet with the group in its place.
+    fn edited(&self, edit: &Edit) -> Vec<u8> {
+        let number = edit.class - groups(&self.library).len();
+        with_group(&self.user[..self.used], number, &edit.group)
+    }
+
+    /// Of an accepted call: the new class's number, or how many classes stand on the replaced one.
+    fn expected_answer(&self, edit: &Edit) -> usize {
+        if edit.adding {
+            return edit.class;
+        }
+        let pair = self.pair();
+        let classes = 0..pair.classes.len();
+        classes
+            .filter(|&from| pair.stands_on(from, edit.class))
+            .count()
+    }
+
+    /// A refused call changed nothing.
+    fn check_refused(&self, before: &Desk, edit: &Edit, refusal: Refusal) {
+        assert!(self == before);
+        if !(13..=15).contains(&refusal.number) {
+            check_order(&self.library, &self.edited(edit), Some(refusal));
+        }
+    }
+
+    /// An accepted call put the group in its place; the lines are those of judging from nothing.
+    fn check_accepted(&self, before: &Desk, edit: &Edit) {
+        let used = &self.user[..self.used];
+        assert_eq!(used, before.edited(edit));
+        let end = self.used.max(before.used);
+        assert!(self.user[self.used..end].iter().all(|&byte| byte == 0));
+        assert_eq!(self.user[end..], before.user[end..]);
+        let fresh = judged(&self.library, used).expect("an accepted call");
+        let (lines, past) = self.lines.split_at(fresh.len());
+        assert!(lines == fresh);
+        assert!(past.iter().all(|&byte| byte == 0xEE));
+        assert!(self.scratch.iter().all(|&byte| byte == 0));
+    }
+}
+
 /// Whatever the calls, the lines stay those of judging from nothing, refused calls change nothing,
 /// and a replacement counts and rewrites exactly the classes that stand on it.
 #[test]
 fn histories() {
     let (mut adds, mut replaces, mut falling) = (0, 0, 0);
     for seed in 0..6_000 {
-        let (library, start) = random_pair(seed);
-        let Ok(mut lines) = judged(&library, &start) else {
+        let Some(mut desk) = Desk::draw(seed) else {
             continue;
         };
         let mut random = Random::new(!seed);
-        let mut user = [&start[..], &[0xEE; 300]].concat();
-        let mut used = start.len();
-        lines.resize(80, 0xEE);
         for _ in 0..8 {
-            let pair = Pair::parse(&library, &user[..used]);
-            let classes = pair.classes.len();
-            let adding = random.percent(40);
-            let class = if adding {
-                classes
-            } else {
-                random.below(classes + 1)
-            };
-            let mut group = random_group(random.number(), pair.library, classes, class);
-            if random.percent(10) {
-                group = damage(random.number(), &group);
-            }
-            let before = (user.clone(), used, lines.clone());
-            let mut scratch = vec![0xEE; SCRATCH_BYTES];
-            let answer = if adding {
-                add(
-                    &library,
-                    &mut user,
-                    &mut used,
-                    &group,
-                    &mut lines,
-                    &mut scratch,
-                )
-            } else {
-                let scratch = &mut scratch;
-                replace(
-                    &library, &mut user, &mut used, class, &group, &mut lines, scratch,
-                )
-            };
-            let new = || with_group(&before.0[..before.1], class - pair.library, &group);
-            let answer = match answer {
-                Ok(answer) => answer,
+            let edit = Edit::draw(&mut random, &desk.pair());
+            desk.scratch.fill(0xEE);
+            let before = desk.clone();
+            match desk.call(&edit) {
                 Err(refusal) => {
-                    assert!((user.clone(), used, lines.clone()) == before);
-                    assert!(scratch.iter().all(|&byte| byte == 0xEE));
-                    if !(13..=15).contains(&refusal.number) {
-                        check_order(&library, &new(), Some(refusal));
-                    }
+                    desk.check_refused(&before, &edit, refusal);
                     falling += (refusal.number == 16) as usize;
-                    continue;
                 }
-            };
-            assert!(scratch.iter().all(|&byte| byte == 0));
-            let fresh = judged(&library, &user[..used]).expect("an accepted call");
-            assert!(lines[..fresh.len()] == fresh, "seed {seed}");
-            assert!(lines[fresh.len()..].iter().all(|&byte| byte == 0xEE));
-            assert_eq!(user[..used], new());
-            let end = used.max(before.1);
-            assert!(user[used..end].iter().all(|&byte| byte == 0));
-            assert_eq!(user[end..], before.0[end..]);
-            if adding {
-                adds += 1;
-                assert_eq!(answer, classes);
-            } else {
-                replaces += 1;
-                let new = Pair::parse(&library, &user[..used]);
-                let standing = (0..classes).filter(|&from| new.stands_on(from, class));
-                assert_eq!(answer, standing.count(), "seed {seed}");
+                Ok(answer) => {
+                    desk.check_accepted(&before, &edit);
+                    assert_eq!(answer, desk.expected_answer(&edit), "seed {seed}");
+                    adds += edit.adding as usize;
+                    replaces += !edit.adding as usize;
+                }
             }
         }
     }
@@ -541,7 +734,7 @@ fn withdrawals() {
                 assert_eq!(answer, Ok(last), "seed {seed}");
                 length = group_bytes(&bytes[..end], last - pair.library).start;
                 bytes[length..end].fill(0);
-                row[2 * (last - pair.library)..][..2].fill(0);
+                row[VERDICT_BYTES * (last - pair.library)..][..VERDICT_BYTES].fill(0);
             }
             assert!((&user, used, &lines) == (&bytes, length, &row));
             if answer.is_err() {

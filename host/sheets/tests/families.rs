@@ -2,7 +2,7 @@
 
 use std::time::{Duration, Instant};
 
-use reference::{canonical, judge, Counts, SCRATCH_BYTES, SHEET_LIMIT};
+use reference::{canonical, judge, Counts, SCRATCH_BYTES, SHEET_LIMIT, VERDICT_BYTES};
 use sheets::{families, full, groups, is_in_order, records, typical, Family};
 
 struct Buffers {
@@ -13,7 +13,7 @@ struct Buffers {
 impl Buffers {
     fn new() -> Buffers {
         Buffers {
-            verdicts: vec![0xEE; 512],
+            verdicts: vec![0xEE; 256 * VERDICT_BYTES],
             scratch: vec![0xEE; SCRATCH_BYTES],
         }
     }
@@ -29,6 +29,20 @@ impl Buffers {
         );
         answer.unwrap_or_else(|refusal| panic!("{}: {refusal}", family.name))
     }
+
+    fn verdicts_of(mut self, family: &Family) -> Vec<[u8; VERDICT_BYTES]> {
+        let classes = self.judge(family).classes;
+        let verdicts = self.verdicts.chunks(VERDICT_BYTES).take(classes);
+        verdicts
+            .map(|verdict| [verdict[0], verdict[1], verdict[2]])
+            .collect()
+    }
+}
+
+fn family(name: &str) -> Family {
+    let mut families = families().into_iter();
+    let found = families.find(|family| family.name == name);
+    found.expect("a family of this name")
 }
 
 #[test]
@@ -77,36 +91,52 @@ fn full_is_full_and_mostly_clean() {
     assert!(counts.faulted * 10 <= counts.classes, "{counts:?}");
 }
 
-/// Each class below the chain passes all rules but the last.
+/// All classes inherit one faulted field, and nothing before it breaks a rule.
 #[test]
-fn faulted_chains_break_rule_1_and_the_classes_below_rule_10() {
-    let families = families();
-    let family = families
-        .iter()
-        .find(|family| family.name == "faulted_chains");
-    let mut buffers = Buffers::new();
-    let counts = buffers.judge(family.expect("a family of this name"));
-    let verdicts: Vec<&[u8]> = buffers.verdicts.chunks(2).take(counts.classes).collect();
-    let (chain, below) = verdicts.split_at(10);
-    assert!(chain.iter().all(|verdict| verdict[0] == 1), "{chain:?}");
-    assert_eq!(below, vec![[10, 1]; 243]);
+fn faulted_families_come_to_one_field() {
+    let expected = [
+        ("faulted_chains", [10, 254, 2]),
+        ("faulted_rings", [9, 1, 1]),
+    ];
+    for (name, fault) in expected {
+        let verdicts = Buffers::new().verdicts_of(&family(name));
+        assert!(verdicts.len() >= 254, "{name}");
+        assert!(verdicts.iter().all(|verdict| *verdict == fault), "{name}");
+    }
+}
+
+/// Whatever is used on the way, each class of the path captures the first variable of all.
+#[test]
+fn captured_far_all_capture_the_first_variable() {
+    let mut met = 0;
+    for family in families() {
+        if !family.name.starts_with("captured_far") {
+            continue;
+        }
+        let verdicts = Buffers::new().verdicts_of(&family);
+        let clean = verdicts.iter().filter(|verdict| verdict[0] == 0).count();
+        let (owners, path) = verdicts.split_at(clean);
+        assert!(owners.iter().all(|verdict| *verdict == [0; 3]));
+        assert!(path.iter().all(|verdict| *verdict == [7, 1, 1]));
+        assert!([128, 254].contains(&path.len()), "{}", family.name);
+        met += 1;
+    }
+    assert_eq!(met, 6);
 }
 
 /// No group has room for another pair, and no pair stays where it is.
 #[test]
 fn spread_pairs_turn_round() {
-    let families = families();
-    let family = families.iter().find(|family| family.name == "spread_pairs");
-    let Family { library, user, .. } = family.expect("a family of this name");
+    let Family { library, user, .. } = family("spread_pairs");
     let mut turned = Vec::new();
-    for group in groups(user) {
+    for group in groups(&user) {
         let mut rows: Vec<_> = records(group).collect();
         assert_eq!(rows.len(), 255);
         rows[1..].reverse();
         turned.extend(rows.concat());
     }
     let mut out = vec![0xEE; user.len()];
-    let answer = canonical(library, user, user.len(), &mut out);
+    let answer = canonical(&library, &user, user.len(), &mut out);
     assert_eq!((answer, out), (Ok(user.len()), turned));
 }
 
@@ -121,7 +151,7 @@ fn timing() {
             .min()
             .unwrap_or_default();
         println!(
-            "{:22} {:9.2} us  classes {:3} records {:5} bytes {:5} faulted {:3}",
+            "{:28} {:9.2} us  classes {:3} records {:5} bytes {:5} faulted {:3}",
             family.name,
             best.as_secs_f64() * 1e6,
             family.classes,

@@ -1,6 +1,6 @@
 //! What the generators draw is varied enough, and good enough, to be worth comparing.
 
-use reference::{add, judge, replace, SCRATCH_BYTES};
+use reference::{add, judge, replace, SCRATCH_BYTES, VERDICT_BYTES};
 use sheets::build::{CLASS_LIMIT, GROUP_LIMIT, SHEET_LIMIT};
 use sheets::{
     edited_group, fitting_group, groups, is_in_order, random_group, random_pair, records,
@@ -8,11 +8,13 @@ use sheets::{
 };
 
 const PAIRS: u64 = 10_000;
+/// The bytes of a row that is long enough for any sheets.
+const ROW: usize = CLASS_LIMIT * VERDICT_BYTES;
 
 /// The number of the refusal, 0 for an accepted pair.
 fn judged((library, user): &(Vec<u8>, Vec<u8>)) -> u8 {
     let mut scratch = vec![0; SCRATCH_BYTES];
-    let answer = judge(library, user, user.len(), &mut [0; 512], &mut scratch);
+    let answer = judge(library, user, user.len(), &mut [0; ROW], &mut scratch);
     answer.map_or_else(|refusal| refusal.number, |_| 0)
 }
 
@@ -132,14 +134,14 @@ fn buffer(user: &[u8]) -> (Vec<u8>, usize) {
 fn is_added(library: &[u8], user: &[u8], group: &[u8]) -> bool {
     let (mut user, mut used) = buffer(user);
     let mut scratch = vec![0; SCRATCH_BYTES];
-    let row = &mut [0; 512];
+    let row = &mut [0; ROW];
     add(library, &mut user, &mut used, group, row, &mut scratch).is_ok()
 }
 
 fn is_replaced(library: &[u8], user: &[u8], class: usize, group: &[u8]) -> bool {
     let (mut user, mut used) = buffer(user);
     let mut scratch = vec![0; SCRATCH_BYTES];
-    let row = &mut [0; 512];
+    let row = &mut [0; ROW];
     replace(
         library,
         &mut user,

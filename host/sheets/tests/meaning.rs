@@ -3,8 +3,9 @@
 
 use std::collections::HashSet;
 
-use reference::{canonical, judge, SCRATCH_BYTES};
-use sheets::build::{GROUP_LIMIT, SHEET_LIMIT};
+use reference::{canonical, judge, SCRATCH_BYTES, VERDICT_BYTES};
+use sheets::build::{CLASS_LIMIT, GROUP_LIMIT, SHEET_LIMIT};
+use sheets::kinds::*;
 use sheets::{
     damage, edited_group, families, groups, is_in_order, kind, number, random_pair, records,
     shuffled_sets, varied_pair, Random,
@@ -25,13 +26,14 @@ fn form(library: &[u8], user: &[u8]) -> Option<Vec<u8>> {
     Some(out)
 }
 
-fn rules(library: &[u8], user: &[u8]) -> Vec<u8> {
-    let mut verdicts = [0; 512];
+/// The rule of each verdict, and the class in which the fault sits: all but the record.
+fn rules(library: &[u8], user: &[u8]) -> Vec<(u8, u8)> {
+    let mut verdicts = [0; CLASS_LIMIT * VERDICT_BYTES];
     let mut scratch = vec![0; SCRATCH_BYTES];
     let answer = judge(library, user, user.len(), &mut verdicts, &mut scratch);
     let classes = answer.expect("accepted").classes;
-    let lines = verdicts.chunks(2).take(classes);
-    lines.map(|line| line[0]).collect()
+    let lines = verdicts.chunks(VERDICT_BYTES).take(classes);
+    lines.map(|line| (line[0], line[2])).collect()
 }
 
 /// The accepted ones of many pairs, and their canonical forms.
@@ -63,12 +65,12 @@ fn find<'a>(rows: &[&'a [u8]], wanted: &[usize]) -> Option<&'a [u8]> {
 fn plain_form(user: &[u8]) -> Vec<u8> {
     let mut sheet = Vec::new();
     for group in groups(user) {
-        for kind in 1..=8 {
+        for kind in CLASS..=REFERS {
             let rows = of_kind(group, kind);
             let classes = 0..END;
             let rows: Vec<&[u8]> = match kind {
-                2 | 6 => classes.filter_map(|class| find(&rows, &[class])).collect(),
-                5 | 8 => {
+                IMPLEMENTS | BUILDS => classes.filter_map(|class| find(&rows, &[class])).collect(),
+                USES | REFERS => {
                     let pairs = classes.flat_map(|class| (0..END).map(move |index| [class, index]));
                     pairs.filter_map(|pair| find(&rows, &pair)).collect()
                 }
@@ -90,8 +92,8 @@ fn mean_the_same(one: &[u8], other: &[u8]) -> bool {
 fn same(one: &[u8], other: &[u8]) -> bool {
     let set =
         |group, kind| -> HashSet<_> { of_kind(group, kind).into_iter().map(numbers).collect() };
-    let rows = [1, 3, 4].map(|kind| of_kind(one, kind) == of_kind(other, kind));
-    let sets = [2, 5, 6, 8].map(|kind| set(one, kind) == set(other, kind));
+    let rows = [CLASS, FIELD, LOCAL].map(|kind| of_kind(one, kind) == of_kind(other, kind));
+    let sets = [IMPLEMENTS, USES, BUILDS, REFERS].map(|kind| set(one, kind) == set(other, kind));
     rows.into_iter().chain(sets).all(|equal| equal)
 }
 
@@ -129,7 +131,7 @@ fn another(random: &mut Random, user: &[u8], classes: usize) -> Vec<u8> {
 }
 
 /// "Two sheets over one library mean the same precisely when the tidied bytes are equal", and then
-/// every class breaks the same rule in both.
+/// every class breaks the same rule in both, and the fault sits in the same class.
 #[test]
 fn forms_are_equal_exactly_where_sheets_mean_the_same() {
     let mut random = Random::new(15);

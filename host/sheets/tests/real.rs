@@ -2,8 +2,9 @@
 
 use std::collections::BTreeMap;
 
-use reference::{judge, SCRATCH_BYTES};
-use sheets::build::{INNER, INTERFACE, NO_CLASS};
+use reference::{judge, SCRATCH_BYTES, VERDICT_BYTES};
+use sheets::build::{CLASS_LIMIT, INNER, INTERFACE, NO_CLASS};
+use sheets::kinds::CLASS;
 use sheets::{kind, number, real, records};
 
 /// How many records of each kind, CLASS first, a sheet has.
@@ -17,7 +18,7 @@ fn kinds(sheet: &[u8]) -> [usize; 8] {
 
 /// The user classes whose CLASS record is as asked.
 fn classes(user: &[u8], asked: impl Fn(&[u8]) -> bool) -> usize {
-    let heads = records(user).filter(|record| kind(record) == 1);
+    let heads = records(user).filter(|record| kind(record) == CLASS);
     heads.filter(|head| asked(head)).count()
 }
 
@@ -48,13 +49,13 @@ fn user_classes_of_each_shape() {
 #[test]
 fn classes_that_break_each_rule_first() {
     let family = real();
-    let mut verdicts = [0; 512];
+    let mut verdicts = [0; CLASS_LIMIT * VERDICT_BYTES];
     let mut scratch = vec![0; SCRATCH_BYTES];
     let (library, user) = (&family.library, &family.user);
     let counts = judge(library, user, user.len(), &mut verdicts, &mut scratch);
     let counts = counts.unwrap_or_else(|refusal| panic!("{refusal}"));
     let mut broken = BTreeMap::new();
-    for verdict in verdicts.chunks(2).take(counts.classes) {
+    for verdict in verdicts.chunks(VERDICT_BYTES).take(counts.classes) {
         *broken.entry(verdict[0]).or_insert(0) += 1;
     }
     println!("{broken:?}");

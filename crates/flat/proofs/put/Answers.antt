@@ -4,7 +4,7 @@ use mathlib.Core.List.{append_assoc}
 use Rattle.std.proofs.lemmas.List.{drop-drop}
 use Rattle.std.proofs.lemmas.List.Edits.{sets, sets-eq}
 use borrow.Rule.Slice.PartMut.{put_mid}
-use Rattle.spec.specs.Verdicts.{bytes_of}
+use Rattle.spec.specs.Verdicts.{verdict_bytes, bytes_of}
 use Rattle.theory.proofs.FlatRow.{line_room}
 use Rattle.rules.specs.Line.{line_of}
 use Rattle.flat.specs.Row.{put_at}
@@ -27,5 +27,5 @@ slice_bounds-copy_from_slice-end c = omega (arith, line_room _ c.requires)
 pub returns : goal.returns
 unfolding put_at bytes_of
 returns c =
-    part_set (bytes_of (line_of c.args.fault)) c.copy_from_slice.new.self c.args.verdicts.now (2 * c.args.i) _ (c.copy_from_slice.ensures.after ∙ c.line.ensures) (omega arith)
+    part_set (bytes_of (line_of c.args.fault)) c.copy_from_slice.new.self c.args.verdicts.now (verdict_bytes * c.args.i) _ (c.copy_from_slice.ensures.after ∙ c.line.ensures) (omega arith)
     (line_room _ c.requires)

@@ -34,5 +34,5 @@ pub returns : goal.returns
 returns c =
     let a = c.args in
     let q = name_by (goal.at.returns c).After-from in
-    put_same (line_read (a.nlib + a.i) a.verdicts.now a.i q.is c.from-rule.ensures c.from-place.ensures)
+    put_same (line_read (a.nlib + a.i) a.verdicts.now a.i q.is c.from-rule.ensures c.from-place.ensures c.from-class.ensures)
     (put_then c.put_number.ensures (put_then c.put.ensures (put_then c.put_bytes.ensures (put_then c.put-2.ensures c.put_verdict.ensures))))

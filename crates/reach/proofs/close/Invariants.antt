@@ -1,12 +1,12 @@
 -- Each sweep that changes something lowers the row's sum; after one that does not, the row is least.
-use Rattle.lanes.specs.Lanes.{sum_of}
+use Rattle.lanes.specs.Lanes.{words, sum_of}
 use Rattle.lanes.proofs.Closing.{CloseAt}
 use Rattle.sheets.specs.Sheets.{count, groups}
 use Rattle.reach.specs.Reach.{steps_of, outer_of}
 use Rattle.reach.proofs.close.Given as goal
 
 abbrev pub invariant-loop-along : goal.invariant-loop-along
-invariant-loop-along l = CloseAt (steps_of (groups l.sheets) l.along) (outer_of (groups l.sheets)) (count l.sheets) l.lanes l.fn.row l.row
+invariant-loop-along l = CloseAt (steps_of (groups l.nest.formed.now.sheets) l.along) (outer_of (groups l.nest.formed.now.sheets)) (count l.nest.formed.now.sheets) l.lanes (words l.fn.row) (words l.row)
 
 abbrev pub decreases-loop-along : goal.decreases-loop-along
-decreases-loop-along l = sum_of l.row
+decreases-loop-along l = sum_of (words l.row)

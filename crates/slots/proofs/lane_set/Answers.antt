@@ -2,10 +2,10 @@ use Rattle.std.proofs.Common.{rules}
 use Rattle.slots.specs.Slots.{lane_by}
 use Rattle.slots.proofs.lane_set.Goals as goal
 
-pub returns-then-lacking : goal.returns-then-lacking
+pub returns-then-is_some : goal.returns-then-is_some
 unfolding lane_by
-returns-then-lacking c = search rules
+returns-then-is_some c = search rules
 
-pub returns-else-lacking : goal.returns-else-lacking
+pub returns-else-is_some : goal.returns-else-is_some
 unfolding lane_by
-returns-else-lacking c = search rules
+returns-else-is_some c = search rules

@@ -11,7 +11,7 @@ use Rattle.survey.proofs.class_set.Goals.{After-head_set-first, After-is_interfa
 head_is : (c : After-head_set-first) → c.head-head.result ≡ head_of (class_record (groups c.args.judging.now.formed.now.sheets c.args.t))
 head_is c = c.head-head.ensures ∙ ap (λ (h : Group). head_of (class_record h)) c.group-group.ensures
 
-first_is : (c : After-head_set-first) → let j = c.args.judging.now in HeadSet j.markers j.lanes.now c.head-head.result (library_count j.formed.now.sheets) c.args.t c.head_set-first.result
+first_is : (c : After-head_set-first) → let j = c.args.judging.now in HeadSet j.markers c.head-head.result (library_count j.formed.now.sheets) c.args.t c.head_set-first.result
 first_is c = rw c.library_count-nlib.ensures.count at c.head_set-first.ensures
 
 concrete : (c : After-is_interface) → c.head-head.result ≡ head_of (class_record (groups c.args.judging.now.formed.now.sheets c.args.t)) → c.is_interface.result ≡ false
@@ -51,4 +51,5 @@ returns c =
     let j = c.args.judging.now in
     let at = goal.at.returns c in
     class_user _ j.formed.now.formed (concrete at.After-is_interface (head_is at.After-head_set-first) c.if-is_interface.false) j.known j.shown (first_is at.After-head_set-first)
-    c.group-group.ensures (rw c.records.ensures.records at c.fields_set.ensures) c.common-own.result c.common-own.ensures c.in-Some.is c.requires.passing c.common.ensures
+    c.captured_set.ensures c.common-fixed.result c.common-fixed.ensures (rw (c.records.ensures.records, c.group-group.ensures) at c.fields_set.ensures)
+    c.common-own.result c.common-own.ensures c.in-Some.is c.requires.passing c.common.ensures

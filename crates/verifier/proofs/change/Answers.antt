@@ -66,6 +66,7 @@ returns c =
     let k = goal.at.returns c in
     let e = there k.After-new-accepted in
     let a = admit_facts (rw c.of-room.ensures at c.in_ok-size.ensures.answer.0) in
-    put_made _ _ _ _ _ _ _ _ (rw c.of-room.ensures at c.in_ok-size.ensures.answer.0) c.requires.used_is (c.requires.there a.whole) (rw e at c.touched-marks.ensures)
+    put_made _ _ _ _ _ _ _ _ (rw c.of-room.ensures at c.in_ok-size.ensures.answer.0) c.requires.used_is
+    (rw e at c.new-accepted.result.formed.passed.few) (c.requires.there a.whole) (rw e at c.touched-marks.ensures)
     (c.marked.ensures ∙ ap (marked_in c.touched-marks.result) (c.count.ensures.count ∙ ap count e))
     c.write.ensures c.in_ok-size.ensures.answer.1.0 (rw e at c.rejudge.ensures.verdicts) c.rejudge.ensures.scratch

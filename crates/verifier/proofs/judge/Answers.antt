@@ -1,10 +1,10 @@
 -- What refuses a judging, then every verdict.
-use Rattle.std.proofs.Common.{◌≡◌, ◌∙◌, ap, take, arith}
-use Rattle.sheets.specs.Sheets.{Pair}
+use Rattle.std.proofs.Common.{◌≡◌, ◌∙◌, ap, take, arith, Bool, true, false}
+use Rattle.sheets.specs.Sheets.{Pair, count}
 use Rattle.std.proofs.lemmas.Result.{err_from_is_err_and}
 use Rattle.spec.specs.Sheet.{class_count, total}
 use Rattle.refusals.proofs.Unless.{held, failed}
-use Rattle.lanes.proofs.Rows.{same_all}
+use Rattle.std.proofs.lemmas.List.{get_or-replicate}
 use Rattle.verifier.proofs.Verdicts.{sheets_stop, short_stop, room, enough, judged_all}
 use Rattle.verifier.proofs.judge.Goals as goal
 use Rattle.verifier.proofs.judge.Goals.{After-user_count-classes}
@@ -46,4 +46,5 @@ returns c =
     let k = (goal.at.returns c).After-user_count-classes in
     let h = c.in_ok-accepted.ensures in
     judged_all c.args.library.now c.args.user.now c.args.used c.args.verdicts.now c.args.scratch.now h.0 (own k) (rw c.of.ensures at c.holds.ensures) (held _ _ c.in_ok-unless.ensures)
-    _ (same_all 0 256) (rw h.1 at c.rejudge.ensures.verdicts) c.rejudge.ensures.scratch c.faulted.ensures
+    _ (λ i l. get_or-replicate {A = Bool} 256 i true false (omega (arith, l, c.in_ok-accepted.accepted.formed.passed.few, ap count h.1)))
+    (rw h.1 at c.rejudge.ensures.verdicts) c.rejudge.ensures.scratch c.faulted.ensures

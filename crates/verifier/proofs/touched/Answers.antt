@@ -1,10 +1,11 @@
 -- One mark, or those of a search.
-use Rattle.std.specs.Prelude.{refl}
+use mathlib.Core.Path.{◌∙◌}
+use native.Mathlib.Omega.{arith}
 use Rattle.verifier.proofs.Touching.{touched_one, touched_all}
 use Rattle.verifier.proofs.touched.Goals as goal
 
 pub returns-then-cut : goal.returns-then-cut
-returns-then-cut c = touched_one _ _ _ _ refl c.args.formed.now.passed.few refl c.if-cut.true
+returns-then-cut c = c.dependents.ensures ∙ touched_all _ _ _ _ c.if-cut.true
 
-pub returns-else-cut : goal.returns-else-cut
-returns-else-cut c = touched_all _ _ _ _ refl c.args.formed.now.passed.few refl c.if-cut.false c.dependents.auto.row c.dependents.ensures
+pub returns : goal.returns
+returns c = touched_one _ _ _ _ (omega (arith, c.requires, c.args.formed.now.passed.few)) c.if-cut.false

@@ -1,7 +1,12 @@
 //! Records written by hand, and short ways to judge them.
 #![allow(dead_code)]
 
-use reference::{judge, Counts, Refusal};
+use reference::{judge, Counts, Refusal, VERDICT_BYTES};
+
+/// Rule, record number, class in which the fault sits.
+pub type Line = (u8, u8, u8);
+
+pub const CLEAN: Line = (0, 0, 0);
 
 pub const NO_CLASS: u16 = 0xFFFF;
 pub const INTERFACE: u16 = 1;
@@ -66,24 +71,35 @@ pub fn refusal(number: u8, sheet: u8, byte: usize) -> Refusal {
     }
 }
 
+/// The lines of a row; bytes that are too few for one belong to none.
+pub fn lines_of(row: &[u8]) -> Vec<Line> {
+    let lines = row.chunks_exact(VERDICT_BYTES);
+    lines.map(|line| (line[0], line[1], line[2])).collect()
+}
+
+pub fn row_of(lines: &[Line]) -> Vec<u8> {
+    let bytes = |&(rule, record, class): &Line| [rule, record, class];
+    lines.iter().flat_map(bytes).collect()
+}
+
 /// The verdicts of all user classes; on a refusal the buffers have to be as before.
-pub fn judged(library: &[u8], user: &[u8]) -> Result<Vec<(u8, u8)>, Refusal> {
-    let mut verdicts = vec![0xEE; 512];
+pub fn judged(library: &[u8], user: &[u8]) -> Result<Vec<Line>, Refusal> {
+    let mut verdicts = vec![0xEE; 256 * VERDICT_BYTES];
     let mut scratch = vec![0xEE; 65_536];
     let answer = judge(library, user, user.len(), &mut verdicts, &mut scratch);
     if answer.is_err() {
         assert!(verdicts.iter().chain(&scratch).all(|&byte| byte == 0xEE));
     }
     let Counts { classes, faulted } = answer?;
-    let (used, rest) = verdicts.split_at(2 * classes);
+    let (used, rest) = verdicts.split_at(VERDICT_BYTES * classes);
     assert!(rest.iter().all(|&byte| byte == 0xEE));
-    let lines: Vec<_> = used.chunks(2).map(|line| (line[0], line[1])).collect();
+    let lines = lines_of(used);
     assert_eq!(faulted, lines.iter().filter(|line| line.0 != 0).count());
     Ok(lines)
 }
 
 /// The verdicts beside library L.
-pub fn lines(user: &[u8]) -> Vec<(u8, u8)> {
+pub fn lines(user: &[u8]) -> Vec<Line> {
     judged(&LIBRARY, user).expect("accepted")
 }
 

@@ -10,4 +10,4 @@ pub loop-m-preserved : goal.loop-m-preserved
 loop-m-preserved c = all_next c.loop-m.invariant c.seed_class.ensures
 
 pub returns : goal.returns
-returns c = all_end (omega (arith, library_low c.args.self.now.formed.now.sheets)) c.loop-m.invariant
+returns c = all_end (omega (arith, library_low c.args.self.now.nest.now.formed.now.sheets)) c.loop-m.invariant
