@@ -3,6 +3,6 @@ pub mod Banning
 pub mod Statics
 pub mod Members
 pub mod Places
-pub mod Heads
+pub mod Fields
 pub mod Locals
 pub mod Sites

@@ -6,14 +6,12 @@ use Prim.Native.Nat.{ℕ, ◌<◌}
 use lib.ListN.{length, get_or}
 use Rattle.std.specs.Prelude.{Option, Some}
 use Rattle.std.specs.List.{filter_map, enumerate_from, slice_get}
-use Rattle.std.specs.Option.{option_map}
-use Rattle.std.proofs.lemmas.Option.{slice_get-map, slice_get-get_or}
 use Rattle.spec.specs.Lists.{numbered}
 use Rattle.spec.specs.Record.{is_kind, LOCAL}
 use Rattle.spec.specs.Sheet.{Group}
 use Rattle.spec.specs.Classes.{locals}
 use native.Mathlib.Omega.{arith}
-use Rattle.laws.proofs.Lists.{picked, all_picked, numbered_is}
+use Rattle.laws.proofs.Lists.{picked, nth_picked, numbered_is}
 use Rattle.laws.proofs.All.{All, all_keep, all_at, of_members}
 use Rattle.laws.proofs.Members.{Placed, numbered_at, at_low}
 
@@ -36,7 +34,5 @@ number_of = picked (λ (n : ℕ × List ℕ). is_kind LOCAL n.1) (λ (n : ℕ ×
 pub nth_number : (h : Group) (i : ℕ) → i < length (locals h) → slice_get (filter_map number_of (enumerate_from 0 h)) i ≡ Some (get_or (locals h) i (0, [])).0
 unfolding locals
 nth_number h i l =
-    ap (λ (ns : List ℕ). slice_get ns i)
-    (ap (filter_map number_of) (numbered_is 0 h) ∙ all_picked (λ (n : ℕ × List ℕ). is_kind LOCAL n.1) (λ (n : ℕ × List ℕ). n.0) (numbered 0 h))
-    ∙ slice_get-map (λ (n : ℕ × List ℕ). n.0) (locals h) i
-    ∙ ap (option_map (λ (n : ℕ × List ℕ). n.0)) (slice_get-get_or (locals h) i (0, []) l)
+    ap (λ (ns : List (ℕ × List ℕ)). slice_get (filter_map number_of ns) i) (numbered_is 0 h)
+    ∙ nth_picked (λ (n : ℕ × List ℕ). is_kind LOCAL n.1) (λ (n : ℕ × List ℕ). n.0) (0, []) (numbered 0 h) i l

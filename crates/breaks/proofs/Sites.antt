@@ -9,23 +9,22 @@ use native.Mathlib.Omega.{arith}
 use lib.Dec.{ltb}
 use lib.ListN.{length, get_or}
 use borrow.Author.Tests.{lt-ltb, le-ltb}
-use Rattle.std.specs.Prelude.{None, Some}
+use Rattle.std.specs.Prelude.{Option, None, Some}
 use Rattle.spec.specs.Lists.{keep}
 use Rattle.spec.specs.Sheet.{Group}
 use Rattle.spec.specs.Classes.{variable_slot, locals, captured_slots}
 use Rattle.spec.specs.Rules.{Fault, slot_fault}
 use Rattle.captured.specs.declared.Lane.{Lane}
-use Rattle.captured.specs.declared.Lane.TheVariants as lanes
 use Rattle.captured.specs.declared.Variable.{Variable}
 use Rattle.captured.specs.Captured.{lane_marker, variable_of}
 use Rattle.captured.proofs.Firsts.{variable_none, variable_some, First, none, some}
 use Rattle.slots.specs.declared.Late.{Late as LateRule}
 use Rattle.slots.specs.declared.Late.TheVariants as late
-use Rattle.slots.specs.Slots.{slot_fits, base_breaks, captured_faults}
-use Rattle.slots.proofs.Heads.{Asks, asks_immutable, selfless_none}
+use Rattle.slots.specs.Slots.{slot_fits, base_breaks, captured_faults, late_lane}
+use Rattle.slots.proofs.Heads.{Asks, LaneOf, asks, unasked, lane_asked, selfless_none}
 use Rattle.breaks.specs.declared.rule.Rule.{Rule}
 use Rattle.breaks.specs.declared.rule.Rule.TheVariants.{Late}
-use Rattle.breaks.specs.Beyond.{first_fault, late_lane, lane_of, captured_at, base_at}
+use Rattle.breaks.specs.Beyond.{first_fault, lane_of, captured_at, base_at}
 use Rattle.breaks.proofs.LateRules.{EarlyOrLate, early_or_late}
 
 -- ---- a rule and its lane
@@ -38,11 +37,11 @@ pub record Laned (g : ℕ → Group) (rule : Rule) (lane : Lane) : Type 0 where
 
 module _ (g : ℕ → Group) where
   late_laned : (l : LateRule) {lane : Lane} → late_lane l ≡ Some lane → Laned g (Late l) lane
-  late_laned late.Immutable {lane} e = let q : lanes.Immutable ≡ lane = cc in subst (Laned g (Late late.Immutable)) q (record { late = late.Immutable; is = refl; asks = asks_immutable g })
-  late_laned late.Powerless {lane} e = let q : lanes.Powerless ≡ lane = cc in subst (Laned g (Late late.Powerless)) q (record { late = late.Powerless; is = refl; asks = λ s f t. refl })
-  late_laned late.Selfless e = absurd (cc)
-  late_laned late.DeepSelfless {lane} e =
-      let q : lanes.DeepSelfless ≡ lane = cc in subst (Laned g (Late late.DeepSelfless)) q (record { late = late.DeepSelfless; is = refl; asks = λ s f t. refl })
+  late_laned l {lane} e = go (lane_asked g l) e
+    where
+      go : {o : Option Lane} → LaneOf g l o → o ≡ Some lane → Laned g (Late l) lane
+      go (asks {l = k} h) q = let same : k ≡ lane = cc in record { late = l; is = refl; asks = subst (λ (k : Lane). Asks g l (lane_marker k)) same h }
+      go (unasked z) q = absurd (cc)
 
   pub laned : (rule : Rule) {lane : Lane} → lane_of rule ≡ Some lane → Laned g rule lane
   laned rule {lane} e = go (early_or_late rule)
@@ -53,14 +52,15 @@ module _ (g : ℕ → Group) where
 
   -- without a lane no captured variable breaks the rule
   late_unlaned : (nlib : ℕ) (l : LateRule) (t : ℕ) → late_lane l ≡ None → None ≡ first_fault (captured_at nlib g (Late l) t)
-  late_unlaned nlib late.Immutable t e = absurd (cc)
-  late_unlaned nlib late.Powerless t e = absurd (cc)
-  late_unlaned nlib late.Selfless t e = go (ltb t nlib) (selfless_none g t)
+  late_unlaned nlib l t e = go (lane_asked g l) e
     where
-      go : (b : Bool) → captured_faults g late.Selfless t ≡ [] → None ≡ first_fault (elim b as (λ (_ : Bool). List Fault) [ true ↦ [] | false ↦ captured_faults g late.Selfless t ])
-      go true q = refl
-      go false q = ap first_fault (sym q)
-  late_unlaned nlib late.DeepSelfless t e = absurd (cc)
+      nothing : (b : Bool) {fs : List Fault} → fs ≡ [] → None ≡ first_fault (elim b as (λ (_ : Bool). List Fault) [ true ↦ [] | false ↦ fs ])
+      nothing true q = refl
+      nothing false q = ap first_fault (sym q)
+
+      go : {o : Option Lane} → LaneOf g l o → o ≡ None → None ≡ first_fault (captured_at nlib g (Late l) t)
+      go (asks h) q = absurd (cc)
+      go (unasked z) q = rw z (nothing (ltb t nlib) (selfless_none g t))
 
   pub unlaned : (nlib : ℕ) (rule : Rule) (t : ℕ) → lane_of rule ≡ None → None ≡ first_fault (captured_at nlib g rule t)
   unlaned nlib rule t e = go (early_or_late rule)

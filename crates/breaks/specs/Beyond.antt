@@ -4,10 +4,9 @@ use Rattle.std.specs.Prelude.{Bool, true, false, Option, None, Some, List, [], �
 use Rattle.spec.specs.Sheet.{Group}
 use Rattle.spec.specs.Rules.{Fault}
 use Rattle.captured.specs.declared.Lane.{Lane}
-use Rattle.captured.specs.declared.Lane.TheVariants as lane
 use Rattle.slots.specs.declared.Late.{Late as LateRule}
 use Rattle.slots.specs.declared.Late.TheVariants as late
-use Rattle.slots.specs.Slots.{base_breaks, captured_faults}
+use Rattle.slots.specs.Slots.{base_breaks, captured_faults, late_lane}
 use Rattle.breaks.specs.declared.beyond.Site.{Site}
 use Rattle.breaks.specs.declared.rule.Rule.{Rule}
 use Rattle.breaks.specs.Breaking.{late_of}
@@ -18,12 +17,6 @@ fault_at s = record { class = s.class; record_number = s.number }
 abbrev pub first_fault : List Fault → Option Fault
 first_fault [] = None
 first_fault (f ∷ fs) = Some f
-
-abbrev pub late_lane : LateRule → Option Lane
-late_lane late.Immutable = Some lane.Immutable
-late_lane late.Powerless = Some lane.Powerless
-late_lane late.Selfless = None
-late_lane late.DeepSelfless = Some lane.DeepSelfless
 
 -- the lane that a rule asks
 abbrev pub lane_of : Rule → Option Lane

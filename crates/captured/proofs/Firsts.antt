@@ -37,7 +37,7 @@ module _ (g : ℕ → Group) where
   unfolding local_at
   one_slot v l = ap (λ (ns : List (ℕ × List ℕ)). map (variable_slot v.0) (take 1 ns)) (drop-cons (locals (g v.0)) v.1 (0, []) l)
 
-  pub slot_type : (v : ℕ × ℕ) → (slot_of v).type ≡ variable_ty g v
+  slot_type : (v : ℕ × ℕ) → (slot_of v).type ≡ variable_ty g v
   unfolding variable_slot
   slot_type v =
       ap local_ty (sym (get_or-map (λ (n : ℕ × List ℕ). n.1) (locals (g v.0)) v.1 (0, [])) ∙ ap (λ (rs : Group). get_or rs v.1 []) (locals_are (g v.0)))

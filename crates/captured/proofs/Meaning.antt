@@ -34,12 +34,12 @@ use Rattle.sheets.specs.Sheets.{Pair, Passed, count, groups, library_count}
 use Rattle.sheets.proofs.Indexes.{indexed}
 use Rattle.named.specs.declared.Along.TheVariants as along
 use Rattle.named.specs.Named.{named_by}
-use Rattle.lanes.specs.Lanes.{words, Nested, direct, deeper, Draws, own, via, entry_at, SeedsFit, Least}
+use Rattle.lanes.specs.Lanes.{words, Nested, direct, deeper, Draws, own, via, entry_at, SeedsFit}
 use Rattle.lanes.specs.Lanes as lanes
 use Rattle.lanes.proofs.Words.{words_all}
 use Rattle.lanes.proofs.Enclosing.{inside_lower, fits_lower}
 use Rattle.lanes.proofs.Chains.{draws_fit}
-use Rattle.reach.specs.Reach.{named_in, steps_of, outer_of}
+use Rattle.reach.specs.Reach.{named_in, steps_of, outer_of, Closed}
 use Rattle.captured.specs.declared.Lane.{Lane}
 use Rattle.captured.specs.Captured.{lane_marker, lane_place, entry_of, variable_ty, first_captured, Shown}
 use Rattle.captured.specs.Seeds.{Lowering, Wanted, ByClasses}
@@ -235,7 +235,7 @@ module _ {p : Pair} (x : Passed p) (ok : form_refusal p.library p.user ≡ optio
     abbrev lacks : ℕ × ℕ → Bool
     lacks v = not (satisfies g marker (variable_ty g v))
 
-    module _ (after : List ℕ) (least : Least (steps_of g along.Builds) (outer_of g) (count p) 3 seeds after) where
+    module _ (after : List ℕ) (least : Closed p along.Builds 3 seeds after) where
       -- an entry that stands there is a variable that is captured and lacks the marker
       there : (l : ℕ) → l < count p → entry_at after place l < 65535 → Memᴰ (entry_at after place l / 256, entry_at after place l % 256) (keep lacks (captured g l))
       there l hl v =
@@ -330,7 +330,7 @@ module _ {p : Pair} (x : Passed p) (ok : form_refusal p.library p.user ≡ optio
         let w = fit (lane_at k) m hm (subst (λ (j : ℕ). entry_at seeds j m < 65535) (sym e) v) in
         inr (subst (λ (j : ℕ). Nested (outer_of g) (entry_at seeds j m / 256) m) e (subst (λ (a : ℕ). Nested (outer_of g) a m) (wanted_owner w) w.wanted.within))
 
-    pub captures_shown : {after : List ℕ} → Least (steps_of g along.Builds) (outer_of g) (count p) 3 seeds (words after) → Shown g (count p) after
+    pub captures_shown : {after : List ℕ} → Closed p along.Builds 3 seeds (words after) → Shown g (count p) after
     captures_shown {after} l = record { lane = λ lane m hm. lane_shown lane seeds (fit lane) (low lane) (words after) l m hm (few lane m hm) }
       where
         few : (lane : Lane) (m : ℕ) → m < count p → entry_at (words after) (lane_place lane) m ≤ 65535

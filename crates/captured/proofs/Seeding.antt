@@ -35,7 +35,7 @@ use Rattle.reach.proofs.Library.{library_uses_none}
 use Rattle.captured.specs.declared.Lane.{Lane}
 use Rattle.captured.specs.declared.Lane.TheVariants.{Immutable, Powerless, DeepSelfless}
 use Rattle.captured.specs.Captured.{lane_marker, variable_ty}
-use Rattle.captured.specs.Seeds.{OneOf, Lowering, Offered, ByRecord, ByClasses}
+use Rattle.captured.specs.Seeds.{OneOf, Lowering, Offered, ByRecord, ByClass, ByClasses}
 use Rattle.captured.proofs.Lowering.{lower_none, lower_then, lower_same}
 
 marker_low : (lane : Lane) → lane_marker lane < 8
@@ -125,11 +125,11 @@ unfolding of_kind
 all_start x s = lower_none s (λ i d q. absurd (empty (library_uses_none x q.below) (mem_keep (is_kind USES) q.allows.member q.allows.allows.wanted.uses)))
 
 module _ {g : ℕ → Group} where
-  pub all_next : {m : ℕ} {s₀ s s' : List ℕ} → Lowering (ByClasses g m) s₀ s → Lowering (OneOf (ByRecord g m) (g m)) s s' → Lowering (ByClasses g (m + 1)) s₀ s'
+  pub all_next : {m : ℕ} {s₀ s s' : List ℕ} → Lowering (ByClasses g m) s₀ s → Lowering (ByClass g m) s s' → Lowering (ByClasses g (m + 1)) s₀ s'
   all_next {m} f h =
       lower_then f h
       (λ i x q.
-      ⊎_elim (λ e. inr (subst (λ (j : ℕ). OneOf (ByRecord g j) (g j) i x) e q.allows)) (λ l. inl (record { class = q.class; below = l; allows = q.allows }))
+      ⊎_elim (λ e. inr (subst (λ (j : ℕ). ByClass g j i x) e q.allows)) (λ l. inl (record { class = q.class; below = l; allows = q.allows }))
       (eq-or-lt_of_le (le_of_suc-le-suc (let b = q.below in omega arith))))
       (λ i x q. record { class = q.class; below = let b = q.below in omega arith; allows = q.allows })
       (λ i x q. record { class = m; below = omega arith; allows = q })

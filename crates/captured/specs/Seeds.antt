@@ -51,8 +51,12 @@ pub record ByRecord (g : ℕ → Group) (m : ℕ) (r : List ℕ) (i x : ℕ) : T
   pub place : i ≡ lane_place lane * 256 + m
   pub wanted : Wanted g (lane_marker lane) m r x
 
--- so it is with one of the records of one of the first n classes
+-- so it is with one of the records of class m
+abbrev pub ByClass : (ℕ → Group) → ℕ → ℕ → ℕ → Type 0
+ByClass g m = OneOf (ByRecord g m) (g m)
+
+-- so with one of the first n classes
 pub record ByClasses (g : ℕ → Group) (n i x : ℕ) : Type 0 where
   pub class : ℕ
   pub below : class < n
-  pub allows : OneOf (ByRecord g class) (g class) i x
+  pub allows : ByClass g class i x

@@ -9,7 +9,7 @@ ghost use Rattle.sheets.specs.Sheets.{count, groups};
 ghost use Rattle.lanes.specs.Lanes.{words, entry_at};
 ghost use Rattle.overlay.specs.Types.{Known};
 ghost use Rattle.captured.specs.Captured.{lane_marker, lane_place, variable_of, Shown};
-ghost use Rattle.captured.specs.Seeds.{OneOf, Lowering, InLane, Offered, ByRecord, ByClasses};
+ghost use Rattle.captured.specs.Seeds.{Lowering, InLane, Offered, ByClass, ByClasses};
 
 use lanes::{EMPTY, ENTRY_BYTES, LANE, entry, put};
 use markers::{DEEP_SELFLESS, IMMUTABLE, POWERLESS, has};
@@ -109,7 +109,7 @@ impl<'a> MarkedSheets<'a> {
     // What the records of class m use.
     fn seed_records(&self, m: usize, row: &mut [u8; ROW_BYTES])
         requires { m < count self.now.nest.now.formed.now.sheets }
-        ensures { Lowering (OneOf (ByRecord (groups self.now.nest.now.formed.now.sheets) m) (groups self.now.nest.now.formed.now.sheets m)) (words row.old) (words row.new) }
+        ensures { Lowering (ByClass (groups self.now.nest.now.formed.now.sheets) m) (words row.old) (words row.new) }
     {
         let sheets = &self.nest.formed.sheets;
         let group = sheets.group(m);
@@ -126,7 +126,7 @@ impl<'a> MarkedSheets<'a> {
     // What class m itself uses. Most classes use nothing.
     fn seed_class(&self, m: usize, row: &mut [u8; ROW_BYTES])
         requires { m < count self.now.nest.now.formed.now.sheets }
-        ensures { Lowering (OneOf (ByRecord (groups self.now.nest.now.formed.now.sheets) m) (groups self.now.nest.now.formed.now.sheets m)) (words row.old) (words row.new) }
+        ensures { Lowering (ByClass (groups self.now.nest.now.formed.now.sheets) m) (words row.old) (words row.new) }
     {
         if self.nest.formed.sheets.group(m).has(Kind::Uses) {
             self.seed_records(m, row);
@@ -135,7 +135,8 @@ impl<'a> MarkedSheets<'a> {
 
     // What each class itself uses. No library class uses a variable.
     fn seed(&self, row: &mut [u8; ROW_BYTES])
-        ensures { Lowering (ByClasses (groups self.now.nest.now.formed.now.sheets) (count self.now.nest.now.formed.now.sheets)) (words row.old) (words row.new) }
+        ensures { Lowering (ByClasses (groups self.now.nest.now.formed.now.sheets) (count self.now.nest.now.formed.now.sheets))
+            (words row.old) (words row.new) }
     {
         let sheets = &self.nest.formed.sheets;
         for m in sheets.library_count()..sheets.count() {

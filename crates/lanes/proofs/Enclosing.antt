@@ -1,4 +1,4 @@
--- Enclosers are lower and nest: of two that enclose one class, the lower encloses the other. So an owner that fits passes down a chain.
+-- Enclosers are lower and nest: of two that enclose one class, the lower encloses the other. So an entry that fits passes down a chain.
 -- Assumes nothing.
 use mathlib.Core.Path.{◌≡◌, sym, ◌∙◌, subst}
 use mathlib.Core.Logic.{◌⊎◌, inl, inr, ⊎_elim}

@@ -125,6 +125,14 @@ module _ {A B : Type 0} (P : A → Type 0) (Q : B → Type 0) where
   all_map f h [] k = tt
   all_map f h (x ∷ xs) k = (h x k.0, all_map f h xs k.1)
 
+-- what holds of all that f gives holds of all that is gathered, and of all that is mapped
+module _ {A B : Type 0} (Q : B → Type 0) where
+  pub every_gather : (f : A → List B) → ((x : A) → All Q (f x)) → (xs : List A) → All Q (gather f xs)
+  every_gather f h xs = all_gather (λ x. Unit {0}) Q f (λ x _. h x) xs (of_members (λ x. Unit {0}) xs (λ x _. tt))
+
+  pub every_map : (f : A → B) → ((x : A) → Q (f x)) → (xs : List A) → All Q (map f xs)
+  every_map f h xs = all_map (λ x. Unit {0}) Q f (λ x _. h x) xs (of_members (λ x. Unit {0}) xs (λ x _. tt))
+
 -- what holds of a gathered list holds of each part
 pub all_parts : {A B : Type 0} (Q : B → Type 0) (f : A → List B) (xs : List A) → All Q (gather f xs) → All (λ x. All Q (f x)) xs
 unfolding gather

@@ -3,11 +3,15 @@
 use mathlib.Core.Path.{◌≡◌, refl, sym, ap, ◌∙◌}
 use mathlib.Core.Bool.{Bool, true, false, ◌&&◌}
 use mathlib.Core.List.{List, [], ◌∷◌, ◌++◌, append_assoc, map}
-use Prim.Native.Nat.{ℕ, suc, ◌+◌}
+use Prim.Native.Nat.{ℕ, suc, ◌+◌, ◌<◌}
 use native.Mathlib.Numerals.{add-one}
+use lib.ListN.{length, get_or}
 use Rattle.std.specs.Prelude.{Option, None, Some}
-use Rattle.std.specs.List.{filter_map, cons_option, enumerate_from}
+use Rattle.std.specs.List.{filter_map, cons_option, enumerate_from, slice_get}
+use Rattle.std.specs.Option.{option_map, unwrap_or}
 use Rattle.std.proofs.lemmas.List.{map-append}
+use Rattle.std.proofs.lemmas.Option.{slice_get-map, slice_get-get_or, unwrap_or-slice_get}
+use Rattle.std.proofs.Math.ListN.{get_or-map}
 use Rattle.spec.specs.Lists.{keep, gather, numbered, only_if}
 
 module _ {A : Type 0} (p : A → Bool) where
@@ -92,6 +96,17 @@ module _ {A B : Type 0} (p : A → Bool) (f : A → B) where
           ≡ map f (elim b as (λ (_ : Bool). List A) [ true ↦ x ∷ keep p xs | false ↦ keep p xs ])
       go true e = ap (λ (l : List B). f x ∷ l) e
       go false e = e
+
+  module _ (d : A) (xs : List A) (i : ℕ) where
+    -- the one at i of them
+    pub nth_picked : i < length (keep p xs) → slice_get (filter_map picked xs) i ≡ Some (f (get_or (keep p xs) i d))
+    nth_picked l =
+        ap (λ (ys : List B). slice_get ys i) (all_picked xs) ∙ slice_get-map f (keep p xs) i ∙ ap (option_map f) (slice_get-get_or (keep p xs) i d l)
+
+    -- and what f says of the default, where there is none
+    pub nth_picked_or : unwrap_or (slice_get (filter_map picked xs) i) (f d) ≡ f (get_or (keep p xs) i d)
+    nth_picked_or =
+        ap (λ (ys : List B). unwrap_or (slice_get ys i) (f d)) (all_picked xs) ∙ unwrap_or-slice_get (map f (keep p xs)) i (f d) ∙ get_or-map f (keep p xs) i d
 
 pub numbered_is : {A : Type 0} (i : ℕ) (xs : List A) → enumerate_from i xs ≡ numbered i xs
 unfolding numbered

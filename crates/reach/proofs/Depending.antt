@@ -29,11 +29,11 @@ use Rattle.named.specs.declared.Along.TheVariants.{Every}
 use Rattle.sheets.specs.Sheets.{Pair, Passed, count, groups}
 use Rattle.lanes.specs.Lanes.{words, Draws, own, via, entry_at, Other, SeedsFit, Least}
 use Rattle.lanes.proofs.Words.{words_all}
-use Rattle.reach.specs.Reach.{named_in, steps_of, outer_of}
+use Rattle.reach.specs.Reach.{named_in, steps_of, outer_of, Closed}
 
 -- ---- the seeds: 0 at d, none elsewhere
 
-abbrev pub seeded : ℕ → List ℕ
+abbrev seeded : ℕ → List ℕ
 seeded d = set (replicate 256 65535) d 0
 
 module _ (d : ℕ) (h : d < 256) where
@@ -56,7 +56,7 @@ module _ (d : ℕ) (h : d < 256) where
   fit outer n k m hk hm v = inl (ap (λ (i : ℕ). get_or (seeded d) i 65535) (only_seed (k * 256 + m) v) ∙ seed_zero)
 
   -- the bytes are written so
-  pub seeded_is : {s : List ℕ} → s ≡ set (words (replicate 512 255)) d 0 → s ≡ seeded d
+  seeded_is : {s : List ℕ} → s ≡ set (words (replicate 512 255)) d 0 → s ≡ seeded d
   seeded_is e = e ∙ ap (λ (w : List ℕ). set w d 0) (words_all 255 256)
 
   pub seeds_fit : (outer : ℕ → ℕ) (n : ℕ) {s : List ℕ} → s ≡ set (words (replicate 512 255)) d 0 → SeedsFit outer n 1 s
@@ -130,7 +130,7 @@ module _ (library user : List ℕ) (ok : form_refusal library user ≡ none) (fe
     unfolding Other
     unclassed c b = least.kept c (λ k m hk hm e. omega arith) ∙ seed_none d (omega arith) c (λ e. omega arith)
 
-    pub marked : (c : ℕ) → eqb (get_or s c 65535) 0 ≡ depends_on library user d c
+    marked : (c : ℕ) → eqb (get_or s c 65535) 0 ≡ depends_on library user d c
     unfolding depends_on
     marked c = go (ltb c (total library user)) refl
       where
@@ -139,7 +139,7 @@ module _ (library user : List ℕ) (ok : form_refusal library user ≡ none) (fe
         go false e = ne_eqb (get_or s c 65535) 0 (λ z. omega (arith, unclassed c (ltb-false c (total library user) e)))
 
 module _ {p : Pair} (x : Passed p) (ok : form_refusal p.library p.user ≡ none) {d : ℕ} (h : d < count p) {s s' : List ℕ} (put : s ≡ set (words (replicate 512 255)) d 0)
-    (l : Least (steps_of (groups p) Every) (outer_of (groups p)) (count p) 1 s s') where
+    (l : Closed p Every 1 s s') where
   abbrev depends : ℕ → Bool
   depends = depends_on p.library p.user d
 

@@ -5,7 +5,7 @@ use mathlib.Core.List.{List, Memᴰ}
 use Rattle.spec.specs.Lists.{any, gather, span}
 use Rattle.spec.specs.Record.{encloser}
 use Rattle.spec.specs.Sheet.{Group, class_record}
-use Rattle.lanes.specs.Lanes.{entry_at, Run, SettledAt, Enclosers}
+use Rattle.lanes.specs.Lanes.{entry_at, Run, SettledAt, AllSettled, Enclosers, Least}
 use Rattle.sheets.specs.Sheets.{Pair, count, groups}
 use Rattle.named.specs.declared.Along.{Along}
 use Rattle.named.specs.Named.{named_by}
@@ -39,3 +39,17 @@ pub record DrawnFrom (ts : List ℕ) (marks : List Bool) (n lanes m : ℕ) (s₀
 -- class t has in some lane a lower entry than m; a number that is no class has none
 unfoldable pub offers : List ℕ → ℕ → ℕ → ℕ → ℕ → Bool
 offers row n lanes m t = ltb t n && any (λ k. ltb (entry_at row k t) (entry_at row k m)) (span 0 lanes)
+
+-- ---- the search over two sheets, along some of their records
+
+-- class m draws from all that it names; nothing changes only where it has all that they have for it
+abbrev pub Visited : Pair → Along → ℕ → ℕ → ℕ → List ℕ → List ℕ → Bool → Type 0
+Visited p along n lanes m = Run (steps_of (groups p) along) (outer_of (groups p)) n lanes (SettledAt (steps_of (groups p) along) (outer_of (groups p)) n lanes m)
+
+-- so does each of the n classes
+abbrev pub Swept : Pair → Along → ℕ → ℕ → List ℕ → List ℕ → Bool → Type 0
+Swept p along n lanes = Run (steps_of (groups p) along) (outer_of (groups p)) n lanes (AllSettled (steps_of (groups p) along) (outer_of (groups p)) n lanes)
+
+-- until nothing is left to draw
+abbrev pub Closed : Pair → Along → ℕ → List ℕ → List ℕ → Type 0
+Closed p along lanes = Least (steps_of (groups p) along) (outer_of (groups p)) (count p) lanes

@@ -5,9 +5,9 @@ ghost use Rattle.std.specs.Prelude.{◌≡◌, true, [], ◌≤◌, ◌<◌, map
 ghost use Rattle.spec.specs.Lists.{any, span};
 ghost use Rattle.spec.specs.Verdicts.{depends_on};
 ghost use Rattle.sheets.specs.Sheets.{count, groups};
-ghost use Rattle.lanes.specs.Lanes.{words, Room, Enclosers, Run, SettledAt, AllSettled, SeedsFit, Least};
+ghost use Rattle.lanes.specs.Lanes.{words, Room, Enclosers, SeedsFit};
 ghost use Rattle.named.specs.Named.{named_by};
-ghost use Rattle.reach.specs.Reach.{named_in, steps_of, outer_of, nearest, Outers, DrawnFrom, offers};
+ghost use Rattle.reach.specs.Reach.{named_in, steps_of, outer_of, nearest, Outers, DrawnFrom, offers, Visited, Swept, Closed};
 
 use lanes::{ENTRY_BYTES, Extent, LANE, draw_lanes, entry, put, swept};
 use named::{Along, named_along};
@@ -155,8 +155,7 @@ fn visit(nest: &Nest, along: Along, extent: Extent, m: usize, row: &mut [u8]) ->
     requires count { extent.classes ≡ count nest.now.formed.now.sheets }
     requires room { Room extent.classes extent.lanes row.old }
     requires there { m < extent.classes }
-    ensures { Run (steps_of (groups nest.now.formed.now.sheets) along) (outer_of (groups nest.now.formed.now.sheets)) extent.classes extent.lanes
-        (SettledAt (steps_of (groups nest.now.formed.now.sheets) along) (outer_of (groups nest.now.formed.now.sheets)) extent.classes extent.lanes m) (words row.old) (words row.new) result }
+    ensures { Visited nest.now.formed.now.sheets along extent.classes extent.lanes m (words row.old) (words row.new) result }
 {
     if extent.lanes == 1 && entry(row, m) == 0 {
         return false;
@@ -176,8 +175,7 @@ fn visit(nest: &Nest, along: Along, extent: Extent, m: usize, row: &mut [u8]) ->
 fn sweep(nest: &Nest, along: Along, extent: Extent, up: bool, row: &mut [u8]) -> bool
     requires count { extent.classes ≡ count nest.now.formed.now.sheets }
     requires room { Room extent.classes extent.lanes row.old }
-    ensures { Run (steps_of (groups nest.now.formed.now.sheets) along) (outer_of (groups nest.now.formed.now.sheets)) extent.classes extent.lanes
-        (AllSettled (steps_of (groups nest.now.formed.now.sheets) along) (outer_of (groups nest.now.formed.now.sheets)) extent.classes extent.lanes) (words row.old) (words row.new) result }
+    ensures { Swept nest.now.formed.now.sheets along extent.classes extent.lanes (words row.old) (words row.new) result }
 {
     let mut added = false;
     for i in 0..extent.classes {
@@ -191,7 +189,7 @@ fn sweep(nest: &Nest, along: Along, extent: Extent, up: bool, row: &mut [u8]) ->
 pub fn close(nest: &Nest, along: Along, lanes: usize, row: &mut [u8])
     requires room { Room (count nest.now.formed.now.sheets) lanes row.old }
     requires seeds_fit { SeedsFit (outer_of (groups nest.now.formed.now.sheets)) (count nest.now.formed.now.sheets) lanes (words row.old) }
-    ensures { Least (steps_of (groups nest.now.formed.now.sheets) along) (outer_of (groups nest.now.formed.now.sheets)) (count nest.now.formed.now.sheets) lanes (words row.old) (words row.new) }
+    ensures { Closed nest.now.formed.now.sheets along lanes (words row.old) (words row.new) }
 {
     let classes = nest.formed.sheets.count();
     let extent = Extent { classes, lanes };

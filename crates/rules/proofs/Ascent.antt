@@ -49,10 +49,10 @@ module _ {nlib n : ℕ} {g : ℕ → Group} (w : Ground nlib n g) where
   sup t = superclass (class_record (g t))
 
   -- a superclass as the records have it
-  pub super_is : {t : ℕ} → Super g t → t < n → optional (sup t) ≡ Some (sup t)
+  super_is : {t : ℕ} → Super g t → t < n → optional (sup t) ≡ Some (sup t)
   super_is {t} u l = optional_is (sup t) (omega (arith, u.lower, w.few))
 
-  pub above_up : (t : ℕ) → nlib ≤ t → Super g t → above nlib g t ≡ t ∷ above nlib g (sup t)
+  above_up : (t : ℕ) → nlib ≤ t → Super g t → above nlib g t ≡ t ∷ above nlib g (sup t)
   unfolding above
   above_up t h u = ap₂ (λ (a b : List ℕ). a ++ b) (lineage_up nlib g w.falls t h u) (root_up nlib g w.falls t h u)
 
@@ -61,7 +61,7 @@ module _ {nlib n : ℕ} {g : ℕ → Group} (w : Ground nlib n g) where
   above_library t h = ap₂ (λ (a b : List ℕ). a ++ b) (lineage_library nlib g w.falls t t h) (root_library nlib g w.falls t t h)
 
   -- what is above a class, as the walk goes
-  pub above_from : (rule : LateRule) {t : ℕ} → t < n → T (not (is_interface (g t))) → above nlib g t ≡ classes_from nlib g (Late rule) (Some t)
+  above_from : (rule : LateRule) {t : ℕ} → t < n → T (not (is_interface (g t))) → above nlib g t ≡ classes_from nlib g (Late rule) (Some t)
   above_from rule {t} h k = go (decide (ltb t nlib))
     where
       go : T (ltb t nlib) ⊎ T (not (ltb t nlib)) → above nlib g t ≡ classes_from nlib g (Late rule) (Some t)
@@ -93,7 +93,7 @@ module _ {nlib n : ℕ} {g : ℕ → Group} (w : Ground nlib n g) where
 
   module _ {c : ℕ} (there : c < n) where
     -- a rule that asks slots asks no interface
-    pub asked_concrete : (rule : LateRule) → applies g (Late rule) c ≡ true → T (not (is_interface (g c)))
+    asked_concrete : (rule : LateRule) → applies g (Late rule) c ≡ true → T (not (is_interface (g c)))
     unfolding judged_for
     asked_concrete rule e = and_l (not (is_interface (g c))) (has_marker g (rule_marker rule) c) (true_t e)
 

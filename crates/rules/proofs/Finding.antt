@@ -18,7 +18,7 @@ use Rattle.spec.specs.Rules.{Fault, slot_fault, fault_if, faults_at, judged_for,
 use Rattle.spec.specs.Rules.{rule1, rule2, rule3, rule4, rule5, rule6, rule7, rule8, rule9, rule10, rules}
 use Rattle.spec.specs.Refusals.{one_class}
 use Rattle.laws.proofs.Bools.{and_l}
-use Rattle.laws.proofs.All.{All, all_if, keep_cong, keep_no, gather_cong, of_members}
+use Rattle.laws.proofs.All.{All, all_if, every_map, keep_cong, keep_no, gather_cong, of_members}
 use Rattle.laws.proofs.Lists.{keep_append, keep_keep, keep_map, keep_gather, keep_cons, map_only, map_gather, gather_append}
 use Rattle.laws.proofs.Sorted.{numbered_above, Lone, empty, single, lone_if, lone_map}
 use Rattle.theory.proofs.Groups.{superclasses_lone, enclosing_lone}
@@ -108,13 +108,10 @@ module _ {nlib n : ℕ} {g : ℕ → Group} (w : Ground nlib n g) where
       enclosers_are : map slot_fault (keep fails (encloser_slots g t)) ≡ only_if (encloser_breaks g rule t) (record { class = t; record_number = 0 } ∷ [])
       unfolding encloser_breaks encloser_slots slot_fault encloser_slot fails only_if
       enclosers_are =
+          let here : Slot → Type 0 = λ s. slot_fault s ≡ record { class = t; record_number = 0 } in
           map_lone slot_fault (record { class = t; record_number = 0 }) fails
-          (all_if (λ s. slot_fault s ≡ record { class = t; record_number = 0 }) (is_inner (g t)) (map (encloser_slot t) (enclosing (g t))) [] (all_told (enclosing (g t))) tt)
+          (all_if here (is_inner (g t)) (map (encloser_slot t) (enclosing (g t))) [] (every_map here (encloser_slot t) (λ e. refl) (enclosing (g t))) tt)
           (lone_if (is_inner (g t)) (lone_map (encloser_slot t) (enclosing_lone (g t) (w.alone t))))
-        where
-          all_told : (es : List ℕ) → All (λ s. slot_fault s ≡ record { class = t; record_number = 0 }) (map (encloser_slot t) es)
-          all_told [] = tt
-          all_told (e ∷ es) = (refl, all_told es)
 
       -- a CLASS record is no FIELD
       no_field : is_instance_field s.first ≡ false

@@ -5,9 +5,8 @@ use mathlib.Core.Bool.{not}
 use mathlib.Core.Option.{none}
 use Prim.Native.Nat.{ℕ, ◌≤◌, ◌<◌}
 use lib.Dec.{T}
-use Rattle.spec.specs.Sheet.{Group, is_interface}
 use Rattle.spec.specs.Record.{CLASS}
-use Rattle.spec.specs.Sheet.{of_kind}
+use Rattle.spec.specs.Sheet.{Group, is_interface, of_kind}
 use Rattle.spec.specs.Refusals.{one_class, form_refusal}
 use Rattle.laws.proofs.Sorted.{Lone}
 use Rattle.theory.proofs.Falls.{Falls}

@@ -23,7 +23,7 @@ use Rattle.breaks.specs.Beyond.{fault_at, first_fault, captured_at, base_at}
 use Rattle.rules.specs.Walk.{rule_at, applies, only_first, asked_of, asked, found_in, found, order, afterward, classes_from, last, next_class, walked}
 use Rattle.rules.proofs.Ground.{Ground}
 use Rattle.rules.proofs.Ascent.{Spot, rank, Onward, onward, first_spot, begins}
-use Rattle.rules.proofs.Verdicts.{none_found, first_found}
+use Rattle.rules.proofs.Verdicts.{verdict, none_found, first_found}
 
 -- no rule before number i finds anything
 pub record RuleAt (nlib : ℕ) (g : ℕ → Group) (c i : ℕ) : Type 0 where
@@ -57,7 +57,7 @@ module _ (nlib : ℕ) (g : ℕ → Group) (rule : Rule) (c : ℕ) where
   walked_hit a e = rw (a, walked, only_if) (ap (λ (fs : List Fault). fs ++ last nlib g rule c) e)
 
   -- after all classes rule 9's second part alone is left
-  pub walked_last : {n : ℕ} → ClassAt nlib n g c rule None → walked nlib g rule c ≡ last nlib g rule c
+  walked_last : {n : ℕ} → ClassAt nlib n g c rule None → walked nlib g rule c ≡ last nlib g rule c
   unfolding walked only_if gather
   walked_last k = rw (k.asks, walked, only_if) (ap (λ (fs : List Fault). fs ++ last nlib g rule c) k.rest)
 
@@ -67,7 +67,7 @@ module _ (nlib : ℕ) (g : ℕ → Group) (rule : Rule) (c : ℕ) where
 
 -- ---- rules
 
-pub rule_number_is : (i : ℕ) → i < 10 → number_of (rule_at i) ≡ i + 1
+rule_number_is : (i : ℕ) → i < 10 → number_of (rule_at i) ≡ i + 1
 rule_number_is zero h = refl
 rule_number_is (suc zero) h = refl
 rule_number_is (suc (suc zero)) h = refl
@@ -157,9 +157,8 @@ module _ {nlib n : ℕ} {g : ℕ → Group} (w : Ground nlib n g) {c : ℕ} (use
 
   -- the first that a rule finds is told
   pub rule_hit : {i : ℕ} → RuleAt nlib g c i → i < 10 → {f : Fault} {more : List Fault} → walked nlib g (rule_at i) c ≡ f ∷ more
-      → record { rule = number_of (rule_at i); record_number = f.record_number; class = f.class } ≡ verdict_of nlib g c
-  rule_hit {i} r l {f} e =
-      ap (λ (m : ℕ). record { rule = m; record_number = f.record_number; class = f.class }) (rule_number_is i l) ∙ sym (first_found w user there i l r.clear e)
+      → verdict (number_of (rule_at i)) f ≡ verdict_of nlib g c
+  rule_hit {i} r l {f} e = ap (λ (m : ℕ). verdict m f) (rule_number_is i l) ∙ sym (first_found w user there i l r.clear e)
 
   -- ---- classes
 

@@ -70,7 +70,8 @@ module _ {nlib : ℕ} {g : ℕ → Group} where
         go : (late : LateRule) (u : ℕ) → bit (rule_marker late) (get_or (set row t new) u 0) ≡ true → Dec (u ≡ t) → found nlib g (Late late) u ≡ []
         go late u one (no q) = k.is late u (ap (bit (rule_marker late)) (sym (get_or-set_other row t u new 0 q)) ∙ one)
         go late u one (yes q) =
-            let both = sym (bit_union (rule_marker late) (get_or row t 0) (2 ^ rule_marker rule)) ∙ ap (bit (rule_marker late)) (sym (get_or-set_same row t new 0 (omega (arith, h, k.long)))) ∙ rw q at one in
+            let written = sym (get_or-set_same row t new 0 (omega (arith, h, k.long))) in
+            let both = sym (bit_union (rule_marker late) (get_or row t 0) (2 ^ rule_marker rule)) ∙ ap (bit (rule_marker late)) written ∙ rw q at one in
             rw q (in_new late (or_cases (bit (rule_marker late) (get_or row t 0)) (bit (rule_marker late) (2 ^ rule_marker rule)) (true_t both)))
 
     -- where it is kept of a class, nothing is found in it

@@ -24,6 +24,14 @@ use Rattle.slots.proofs.Sets.{twice, passes_all, passes_as}
 
 -- ---- one field
 
+-- where a field stands in its class does not count
+pub anywhere : (g : ℕ → Group) (rule : Late) (t k : ℕ) (r : List ℕ) → field_breaks g rule 0 0 r ≡ field_breaks g rule t k r
+unfolding field_breaks field_slot
+anywhere g Immutable t k r = refl
+anywhere g Powerless t k r = refl
+anywhere g Selfless t k r = refl
+anywhere g DeepSelfless t k r = refl
+
 -- no field has no slot
 pub field_other : (g : ℕ → Group) (rule : Late) (t i : ℕ) (r : List ℕ) → is_kind FIELD r ≡ false → field_breaks g rule t i r ≡ false
 unfolding field_breaks is_instance_field

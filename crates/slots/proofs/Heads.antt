@@ -11,7 +11,7 @@ use native.Mathlib.Omega.{arith}
 use lib.Dec.{T, ltb, ltb→lt, nltb→le}
 use lib.ListN.{get_or}
 use borrow.Author.Tests.{lt-ltb, le-ltb}
-use Rattle.std.specs.Prelude.{is_some}
+use Rattle.std.specs.Prelude.{Option, None, Some, is_some}
 use Rattle.spec.specs.Lists.{any, all, keep, gather, numbered, only_if}
 use Rattle.spec.specs.Record.{bit, flags, encloser, unless_none, ty_references}
 use Rattle.spec.specs.Sheet.{Group, class_record, is_inner, is_instance_field}
@@ -19,7 +19,7 @@ use Rattle.spec.specs.Classes.{Slot, field_slot, encloser_slot, variable_slot, c
 use Rattle.spec.specs.Rules.{slot_fault}
 use Rattle.spec.specs.Refusals.{form_refusal}
 use Rattle.laws.proofs.Bools.{decide}
-use Rattle.laws.proofs.All.{All, all_append, all_if, any_cong}
+use Rattle.laws.proofs.All.{All, all_if, every_gather, every_map, any_cong}
 use Rattle.theory.proofs.Somewhere.{any_append, any_map, any_keep, any_numbered, any_never, any_same, some, some_keep}
 use Rattle.theory.proofs.Form.{one_record, group_one_class}
 use Rattle.records.specs.declared.record.Head.{Head}
@@ -28,15 +28,16 @@ use Rattle.sheets.specs.Sheets.{Pair, Passed, count, groups, library_count}
 use Rattle.lanes.specs.Lanes.{words, entry_at}
 use Rattle.overlay.specs.Types.{Known}
 use Rattle.captured.specs.declared.Lane.{Lane}
-use Rattle.captured.specs.declared.Lane.TheVariants as lane
 use Rattle.captured.specs.Captured.{lane_marker, lane_place, variable_of, Shown}
 use Rattle.captured.proofs.Firsts.{variable_none, variable_some, First, none, some as first}
 use Rattle.captured.proofs.Meaning.{first_slot}
 use Rattle.slots.specs.declared.Late.{Late}
 use Rattle.slots.specs.declared.Late.TheVariants.{Immutable, Powerless, Selfless, DeepSelfless}
-use Rattle.slots.specs.Slots.{rule_marker, slot_fits, captured_faults, encloser_breaks, field_breaks, slots_break, head_breaks, encloser_has, encloser_by, if_there, lane_shows, captured_by, HeadSet}
+use Rattle.slots.specs.Slots.{rule_marker, slot_fits, captured_faults, encloser_breaks, field_breaks, slots_break, head_breaks}
+use Rattle.slots.specs.Slots.{late_lane, encloser_has, encloser_by, if_there, lane_shows, captured_by, HeadSet}
 use Rattle.slots.proofs.Base.{asked}
-use Rattle.slots.proofs.Sets.{twice, late_cases}
+use Rattle.slots.proofs.Fields.{anywhere}
+use Rattle.slots.proofs.Sets.{twice}
 
 -- ---- slots that never change
 
@@ -44,24 +45,18 @@ pub record Still (s : Slot) : Type 0 where
   pub final : s.final ≡ true
   pub transient : s.transient ≡ false
 
-map_still : {A : Type 0} (f : A → Slot) → ((x : A) → Still (f x)) → (xs : List A) → All Still (map f xs)
-map_still f h [] = tt
-map_still f h (x ∷ xs) = (h x, map_still f h xs)
-
-gather_still : {A : Type 0} (f : A → List Slot) → ((x : A) → All Still (f x)) → (xs : List A) → All Still (gather f xs)
-unfolding gather
-gather_still f h [] = tt
-gather_still f h (x ∷ xs) = all_append Still (f x) (gather f xs) (h x) (gather_still f h xs)
-
 -- a test that asks their types alone passes where rule 9 does
 encloser_still : (g : ℕ → Group) (t : ℕ) → All Still (encloser_slots g t)
 unfolding encloser_slots only_if encloser_slot
-encloser_still g t = all_if Still (is_inner (g t)) (map (encloser_slot t) (enclosing (g t))) [] (map_still (encloser_slot t) (λ e. record { final = refl; transient = refl }) (enclosing (g t))) tt
+encloser_still g t =
+    all_if Still (is_inner (g t)) (map (encloser_slot t) (enclosing (g t))) []
+    (every_map Still (encloser_slot t) (λ e. record { final = refl; transient = refl }) (enclosing (g t))) tt
 
 captured_still : (g : ℕ → Group) (t : ℕ) → All Still (captured_slots g t)
 unfolding captured_slots variable_slot
 captured_still g t =
-    gather_still (λ v. map (variable_slot v.0) (local_at (g v.0) v.1)) (λ v. map_still (variable_slot v.0) (λ n. record { final = refl; transient = refl }) (local_at (g v.0) v.1)) (captured g t)
+    every_gather Still (λ v. map (variable_slot v.0) (local_at (g v.0) v.1))
+    (λ v. every_map Still (variable_slot v.0) (λ n. record { final = refl; transient = refl }) (local_at (g v.0) v.1)) (captured g t)
 
 module _ (g : ℕ → Group) where
   -- some of these slots fails the rule
@@ -76,8 +71,16 @@ module _ (g : ℕ → Group) where
   abbrev pub Asks : Late → ℕ → Type 0
   Asks rule k = (s : Slot) → s.final ≡ true → s.transient ≡ false → slot_fits g rule s ≡ satisfies g k s.type
 
-  pub asks_immutable : Asks Immutable 0
-  asks_immutable s f t = ap (λ (b : Bool). b && satisfies g 0 s.type) f
+  -- the rule asks for its lane's marker, or it is rule 9, which has no lane
+  pub data LaneOf (rule : Late) : Option Lane → Type 0 where
+    asks : {l : Lane} → Asks rule (lane_marker l) → LaneOf rule (Some l)
+    unasked : rule ≡ Selfless → LaneOf rule None
+
+  pub lane_asked : (rule : Late) → LaneOf rule (late_lane rule)
+  lane_asked Immutable = asks (λ s f t. ap (λ (b : Bool). b && satisfies g 0 s.type) f)
+  lane_asked Powerless = asks (λ s f t. refl)
+  lane_asked Selfless = unasked refl
+  lane_asked DeepSelfless = asks (λ s f t. refl)
 
   fails_by : (rule : Late) (k : ℕ) → Asks rule k → (ss : List Slot) → All Still ss → fails rule ss ≡ any (λ s. not (satisfies g k s.type)) ss
   fails_by rule k h ss w = any_cong Still (λ s. not (slot_fits g rule s)) (λ s. not (satisfies g k s.type)) (λ s w. ap not (h s w.final w.transient)) ss w
@@ -85,19 +88,13 @@ module _ (g : ℕ → Group) where
   -- ---- all slots of one class
 
   module _ (rule : Late) (t : ℕ) where
-    -- a field is asked the same wherever it stands
-    field_same : (n : ℕ × List ℕ) → slot_fits g rule (field_slot t n) ≡ slot_fits g rule (field_slot 0 (0, n.1))
-    unfolding field_slot
-    field_same n = late_cases (λ l. slot_fits g l (field_slot t n) ≡ slot_fits g l (field_slot 0 (0, n.1))) refl refl refl refl rule
-
     fields_are : fails rule (field_slots g t) ≡ any (field_breaks g rule 0 0) (g t)
     unfolding field_slots field_breaks
     fields_are =
         let ns : List (ℕ × List ℕ) = numbered 0 (g t) in
         any_map (λ s. not (slot_fits g rule s)) (field_slot t) (keep (λ (n : ℕ × List ℕ). is_instance_field n.1) ns)
         ∙ any_keep (λ (n : ℕ × List ℕ). not (slot_fits g rule (field_slot t n))) (λ n. is_instance_field n.1) ns
-        ∙ any_same (λ (n : ℕ × List ℕ). is_instance_field n.1 && not (slot_fits g rule (field_slot t n))) (λ n. field_breaks g rule 0 0 n.1)
-        (λ n. ap (λ (b : Bool). is_instance_field n.1 && not b) (field_same n)) ns
+        ∙ any_same (λ (n : ℕ × List ℕ). field_breaks g rule t n.0 n.1) (λ n. field_breaks g rule 0 0 n.1) (λ n. sym (anywhere g rule t n.0 n.1)) ns
         ∙ any_numbered (field_breaks g rule 0 0) 0 (g t)
 
     -- the encloser, the captured variables and the fields
@@ -164,10 +161,11 @@ module _ (p : Pair) {t : ℕ} (there : t < count p) where
 
     pub encloser_is : (rule : Late) → encloser_by head markers rule ≡ not (encloser_breaks g rule t)
     unfolding encloser_breaks
-    encloser_is Immutable = encloser_told Immutable 0 (asks_immutable g)
-    encloser_is Powerless = encloser_told Powerless 1 (λ s f t. refl)
-    encloser_is Selfless = ap not (sym (fails_selfless g (encloser_slots g t) (encloser_still g t)))
-    encloser_is DeepSelfless = encloser_told DeepSelfless 7 (λ s f t. refl)
+    encloser_is rule = go (lane_asked g rule)
+      where
+        go : {o : Option Lane} → LaneOf g rule o → elim o as (λ (_ : Option Lane). Bool) [ None ↦ true | Some l ↦ encloser_has head markers (lane_marker l) ] ≡ not (encloser_breaks g rule t)
+        go (asks {l} h) = encloser_told rule (lane_marker l) h
+        go (unasked e) = rw e (ap not (sym (fails_selfless g (encloser_slots g t) (encloser_still g t))))
 
     -- the set tells just what stands at record 0
     pub head_is : {set : ℕ} → HeadSet markers head (library_count p) t set → (rule : Late) → bit (rule_marker rule) set ≡ not (head_breaks (library_count p) g rule t)
@@ -195,7 +193,8 @@ module _ (p : Pair) {t : ℕ} (there : t < count p) where
         go (first e d i w q) = ap is_some (variable_some (λ z. omega (arith, there, x.few))) ∙ ap some (sym q)
 
     pub captured_is : (rule : Late) → captured_by lanes t rule ≡ not (fails g rule (captured_slots g t))
-    captured_is Immutable = lane_told Immutable lane.Immutable (asks_immutable g)
-    captured_is Powerless = lane_told Powerless lane.Powerless (λ s f t. refl)
-    captured_is Selfless = ap not (sym (fails_selfless g (captured_slots g t) (captured_still g t)))
-    captured_is DeepSelfless = lane_told DeepSelfless lane.DeepSelfless (λ s f t. refl)
+    captured_is rule = go (lane_asked g rule)
+      where
+        go : {o : Option Lane} → LaneOf g rule o → elim o as (λ (_ : Option Lane). Bool) [ None ↦ true | Some l ↦ not (lane_shows lanes t l) ] ≡ not (fails g rule (captured_slots g t))
+        go (asks {l} h) = lane_told rule l h
+        go (unasked e) = rw e (ap not (sym (fails_selfless g (captured_slots g t) (captured_still g t))))

@@ -96,30 +96,31 @@ pub record FieldsSet (row : List ℕ) (rs : Group) (set : ℕ) : Type 0 where
 pub record RootSet (row : List ℕ) (d set : ℕ) : Type 0 where
   pub is : (g : ℕ → Group) → Known g row → Passes (λ rule. not (root_breaks g rule d)) set
 
+-- Enclosers and captured variables never change, so rule 9 does not ask them; each other rule asks a marker, that of a lane.
+abbrev pub late_lane : Late → Option Lane
+late_lane Immutable = Some lane.Immutable
+late_lane Powerless = Some lane.Powerless
+late_lane Selfless = None
+late_lane DeepSelfless = Some lane.DeepSelfless
+
 -- a test of a class that there may be
 abbrev pub if_there : (ℕ → Bool) → Option ℕ → Bool
 if_there p None = true
 if_there p (Some c) = p c
 
--- the encloser of a class that is inner, which rule 9 does not ask; the class is given by what its CLASS record says
+-- the encloser of a class that is inner; the class is given by what its CLASS record says
 abbrev pub encloser_has : Head → List ℕ → ℕ → Bool
 encloser_has head row k = not (bit 1 head.flags) || if_there (λ e. bit k (get_or row e 0)) head.encloser
 
 abbrev pub encloser_by : Head → List ℕ → Late → Bool
-encloser_by head row Immutable = encloser_has head row marker.Immutable
-encloser_by head row Powerless = encloser_has head row marker.Powerless
-encloser_by head row Selfless = true
-encloser_by head row DeepSelfless = encloser_has head row marker.DeepSelfless
+encloser_by head row rule = elim (late_lane rule) [ None ↦ true | Some l ↦ encloser_has head row (lane_marker l) ]
 
--- the variables that class t captures, which rule 9 does not ask: a lane shows that one lacks the lane's marker
+-- the variables that class t captures: a lane shows that one lacks the lane's marker
 abbrev pub lane_shows : List ℕ → ℕ → Lane → Bool
 lane_shows row t lane = is_some (variable_of (entry_at (words row) (lane_place lane) t))
 
 abbrev pub captured_by : List ℕ → ℕ → Late → Bool
-captured_by row t Immutable = not (lane_shows row t lane.Immutable)
-captured_by row t Powerless = not (lane_shows row t lane.Powerless)
-captured_by row t Selfless = true
-captured_by row t DeepSelfless = not (lane_shows row t lane.DeepSelfless)
+captured_by row t rule = elim (late_lane rule) [ None ↦ true | Some l ↦ not (lane_shows row t l) ]
 
 -- by one lane alone, as a set
 unfoldable pub lane_by : List ℕ → ℕ → Lane → ℕ

@@ -4,7 +4,8 @@
 
 ghost use Rattle.std.specs.Prelude.{◌≡◌, ◌^◌, ◌<◌, ◌&&◌, not};
 ghost use Rattle.spec.specs.Record.{bit};
-ghost use Rattle.slots.specs.Slots.{rule_number, rule_marker, Passes, slot_by, FieldSet, FieldsSet, RootSet, encloser_by, lane_by, captured_by, HeadSet, base_by};
+ghost use Rattle.slots.specs.Slots.{rule_number, rule_marker, Passes, slot_by, FieldSet, FieldsSet, RootSet};
+ghost use Rattle.slots.specs.Slots.{encloser_by, lane_by, captured_by, HeadSet, base_by};
 
 use captured::{LANES, Lane, ROW_BYTES, first_lacking};
 use markers::{ALL, DEEP_SELFLESS, IMMUTABLE, POWERLESS, SELFLESS, common, has, union};

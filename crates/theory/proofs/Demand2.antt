@@ -98,11 +98,12 @@ module _ (nlib : ℕ) (g : ℕ → Group) (rel : Relations nlib g) (alone : (c :
       back : {w : List ℕ} {d k : ℕ} → Breaks nlib g c 1 w d k → Spot g c names w d k
       back (breaks1 {d} a m l n) = spot a (mem_any (forbidden nlib g) m ((forbidden_is d).1 (l, n)))
 
-  refers_is : (r : List ℕ) → T (is_kind REFERS r && not (member_allowed g (target r) (index r))) ↔ (T (is_kind REFERS r) × Not (Allowed (g (target r)) (index r)))
-  refers_is r = both (is_kind REFERS r) (not (member_allowed g (target r) (index r))) same (not_fails (member_allowed g (target r) (index r)) (member_is g (target r) (index r)))
-
   refers : List ℕ → Bool
   refers r = is_kind REFERS r && not (member_allowed g (target r) (index r))
+
+  refers_is : (r : List ℕ) → T (refers r) ↔ (T (is_kind REFERS r) × Not (Allowed (g (target r)) (index r)))
+  unfolding refers
+  refers_is r = both (is_kind REFERS r) (not (member_allowed g (target r) (index r))) same (not_fails (member_allowed g (target r) (index r)) (member_is g (target r) (index r)))
 
   finds2 : Finds (Breaks nlib g c 2) (rule2 nlib g c)
   unfolding rule2 refers
@@ -380,11 +381,11 @@ module _ (nlib : ℕ) (g : ℕ → Group) (rel : Relations nlib g) (alone : (c :
   within r w d k (breaks9 q h) = (omega arith, omega arith)
   within r w d k (breaks10 q h) = (omega arith, omega arith)
 
-  pub verdict_right : Right (Breaks nlib g c) (verdict_of nlib g c)
+  verdict_right : Right (Breaks nlib g c) (verdict_of nlib g c)
   unfolding verdict_of
   verdict_right = right (Breaks nlib g c) (rules nlib g c) told within
 
-  pub right_alone : (v : Verdict) → Right (Breaks nlib g c) v → v ≡ verdict_of nlib g c
+  right_alone : (v : Verdict) → Right (Breaks nlib g c) v → v ≡ verdict_of nlib g c
   right_alone v a = right_one (Breaks nlib g c) (one_at (Breaks nlib g c) (rules nlib g c) told within) v (verdict_of nlib g c) a verdict_right
 
 pub demand2 : Demand2

@@ -95,7 +95,7 @@ finds_if b c = finds_same (λ w d k. (there w d k, back)) (finds_lone (0 ∷ [])
 pub data Each (ds : List ℕ) (bad : ℕ → Bool) (class : ℕ → ℕ) (place : List ℕ) : List ℕ → ℕ → ℕ → Type 0 where
   each : {d : ℕ} → Memᴰ d ds → T (bad d) → Each ds bad class place place (class d) 0
 
-pub finds_each : {ds : List ℕ} (bad : ℕ → Bool) (class : ℕ → ℕ) (place : List ℕ) → Lone ds → Finds (Each ds bad class place) (gather (λ d. fault_if (bad d) (class d)) ds)
+finds_each : {ds : List ℕ} (bad : ℕ → Bool) (class : ℕ → ℕ) (place : List ℕ) → Lone ds → Finds (Each ds bad class place) (gather (λ d. fault_if (bad d) (class d)) ds)
 unfolding at_class
 finds_each {ds} bad class place l = finds_same (λ w d k. (there w d k, back)) (finds_lone place (lone_gather faults (λ d. if_lone (bad d) (class d)) l))
   where
@@ -120,7 +120,7 @@ module _ (nlib : ℕ) (g : ℕ → Group) (c : ℕ) (listed : Listed (Shows (Has
   pub data Slotted (Bad : SlotShape → Type 0) : List ℕ → ℕ → ℕ → Type 0 where
     slotted : {w : List ℕ} {d k : ℕ} {x : SlotShape} → HasSlot nlib g c w d k x → Bad x → Slotted Bad (0 ∷ w) d k
 
-  pub finds_slots : (ok : Slot → Bool) (Bad : SlotShape → Type 0) → ((d k : ℕ) (x : SlotShape) → T (not (ok (slot_of d k x))) ↔ Bad x) → Finds (Slotted Bad) (slot_faults nlib g ok c)
+  finds_slots : (ok : Slot → Bool) (Bad : SlotShape → Type 0) → ((d k : ℕ) (x : SlotShape) → T (not (ok (slot_of d k x))) ↔ Bad x) → Finds (Slotted Bad) (slot_faults nlib g ok c)
   unfolding slot_faults slot_fault
   finds_slots ok Bad e =
       listed_same (λ w f. (there w f, back f)) (listed_map (0 ∷ []) slot_fault (listed_keep (λ s. not (ok s)) listed))

@@ -21,7 +21,9 @@ module _ (library new : List ℕ) (cut : Cut) (c : ℕ) where
   -- one class alone
   pub touched_one : c < 256 → cut.from ≡ cut.used → set (replicate 256 false) c true ≡ map (touches library new cut c) (span 0 256)
   unfolding touches
-  touched_one few e = values_are (touches library new cut c) 256 false (length-set (replicate 256 false) c true) (λ d b. at d (ℕ_discrete d c) ∙ sym (rw (eq-eqb cut.from cut.used e, touches) refl))
+  touched_one few e =
+      values_are (touches library new cut c) 256 false (length-set (replicate 256 false) c true)
+      (λ d b. at d (ℕ_discrete d c) ∙ sym (rw (eq-eqb cut.from cut.used e, touches) refl))
     where
       at : (d : ℕ) → Dec (d ≡ c) → get_or (set (replicate 256 false) c true) d false ≡ eqb d c
       at d (yes q) = rw (q, get_or-set_same (replicate 256 false) c true false few) (sym (eq-eqb c c refl))
@@ -30,4 +32,6 @@ module _ (library new : List ℕ) (cut : Cut) (c : ℕ) where
   -- all that depend on it
   pub touched_all : (cut.from ≡ cut.used → ⊥) → map (depends_on library new c) (span 0 256) ≡ map (touches library new cut c) (span 0 256)
   unfolding touches
-  touched_all ne = values_are (touches library new cut c) 256 false (length_values (depends_on library new c) 256) (λ d b. get_or_values (depends_on library new c) 256 false d b ∙ sym (rw (ne_eqb cut.from cut.used ne, touches) refl))
+  touched_all ne =
+      values_are (touches library new cut c) 256 false (length_values (depends_on library new c) 256)
+      (λ d b. get_or_values (depends_on library new c) 256 false d b ∙ sym (rw (ne_eqb cut.from cut.used ne, touches) refl))

@@ -12,10 +12,12 @@ mod read;
 mod real;
 mod real_names;
 mod rings;
+mod sites;
 
 pub use groups::{broken_group, edited_group, fitting_group, shuffled_sets};
 pub use random::{damage, random_group, random_pair, varied_pair, Random};
 pub use read::{groups, is_in_order, is_of_set, kind, number, records};
+pub use sites::Site;
 
 use build::Pair;
 

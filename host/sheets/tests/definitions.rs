@@ -6,7 +6,7 @@ use std::ops::Range;
 
 use reference::{add, judge, replace, withdraw, Refusal, SCRATCH_BYTES, VERDICT_BYTES};
 use sheets::kinds::CLASS;
-use sheets::{damage, families, groups, kind, random_group, random_pair, records, Random};
+use sheets::{damage, families, groups, kind, random_group, random_pair, records, Random, Site};
 
 const NO_CLASS: u16 = 0xFFFF;
 const PAIRS: u64 = 40_000;
@@ -27,40 +27,6 @@ struct Slot {
     ty: Type,
     is_final: bool,
     is_transient: bool,
-}
-
-/// Where the fault of a line sits.
-#[derive(Clone, Copy, PartialEq, Eq, Hash, Debug)]
-enum Site {
-    /// In a record of the class itself; in the walk of rules 7 to 10 in a field.
-    Own,
-    /// In a field of a superclass.
-    Superclass,
-    /// In the encloser of the class itself.
-    Encloser,
-    /// In that of a superclass.
-    InheritedEncloser,
-    Variable,
-    Root,
-    /// Rule 9's.
-    SecondPart,
-}
-
-/// The sites where a fault of a rule can sit. Document 01 has rules 7, 8 and 10 ask every slot's
-/// type, and the root; rule 9 asks field slots alone.
-fn sites(rule: u8) -> &'static [Site] {
-    match rule {
-        1..=6 => &[Site::Own],
-        9 => &[Site::Own, Site::Superclass, Site::SecondPart],
-        _ => &[
-            Site::Own,
-            Site::Superclass,
-            Site::Encloser,
-            Site::InheritedEncloser,
-            Site::Variable,
-            Site::Root,
-        ],
-    }
 }
 
 enum Record {
@@ -403,21 +369,6 @@ impl Pair {
         users.flat_map(|class| self.line(class)).collect()
     }
 
-    fn site(&self, class: usize, line: &[u8]) -> Site {
-        let [rule, record, at] = [line[0], line[1], line[2]].map(usize::from);
-        let records = &self.classes[at].records;
-        let local = record > 0 && matches!(records[record - 1], Record::Local(_));
-        match rule {
-            7.. if !self.is_user(at) => Site::Root,
-            7.. if local => Site::Variable,
-            9 if (record, at) == (0, class) => Site::SecondPart,
-            7.. if (record, at) == (0, class) => Site::Encloser,
-            7.. if record == 0 => Site::InheritedEncloser,
-            _ if at == class => Site::Own,
-            _ => Site::Superclass,
-        }
-    }
-
     /// The classes that the records of a class name.
     fn named_by(&self, class: usize) -> Vec<usize> {
         let of = &self.classes[class];
@@ -497,12 +448,14 @@ struct Met {
 }
 
 impl Met {
-    fn note_lines(&mut self, pair: &Pair, lines: &[u8]) {
+    fn note_lines(&mut self, library: usize, users: &[&[u8]], lines: &[u8]) {
         self.accepted += 1;
-        for (class, line) in (pair.library..).zip(lines.chunks(VERDICT_BYTES)) {
+        for (class, line) in (library..).zip(lines.chunks(VERDICT_BYTES)) {
+            let line = [line[0], line[1], line[2]];
             if line[0] > 0 {
                 self.places.insert((line[0], line[1] > 0));
-                self.sites.insert((line[0], pair.site(class, line)));
+                let site = Site::of(line, class, library, users);
+                self.sites.insert((line[0], site));
             }
         }
     }
@@ -516,8 +469,8 @@ impl Met {
             assert!(!zero || met(false), "rule {rule}");
             assert!(!later || met(true), "rule {rule}");
         }
-        let each = (1..=10).flat_map(|rule| sites(rule).iter().map(move |&site| (rule, site)));
-        assert_eq!(self.sites, each.collect());
+        let of_rule = |rule| Site::of_rule(rule).iter().map(move |&site| (rule, site));
+        assert_eq!(self.sites, (1..=10).flat_map(of_rule).collect());
     }
 
     fn require_refusals(&self) {
@@ -538,7 +491,7 @@ fn random_pairs_get_the_lines_of_the_definitions() {
             Ok(lines) => {
                 let pair = Pair::parse(&library, &user);
                 assert_eq!(lines, pair.lines(), "seed {seed}");
-                met.note_lines(&pair, &lines);
+                met.note_lines(pair.library, &groups(&user), &lines);
             }
             Err(refusal) => {
                 met.refusals.insert((refusal.number, refusal.sheet));

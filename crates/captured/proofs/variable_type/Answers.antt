@@ -6,7 +6,7 @@ use borrow.Author.Tests.{tests}
 use Rattle.spec.specs.Record.{LOCAL, local_ty}
 use Rattle.spec.specs.Sheet.{of_kind}
 use Rattle.records.specs.Kinds.{ty_of}
-use Rattle.captured.proofs.Picking.{picked_of, nth_picked}
+use Rattle.captured.proofs.Picking.{picked_of, nth_of}
 use Rattle.captured.proofs.variable_type.Goals as goal
 use Rattle.captured.proofs.variable_type.Goals.{After-nth}
 
@@ -17,7 +17,7 @@ found c =
     (YieldsList-from_filter_map _ (picked_of LOCAL (λ r. ty_of (local_ty r)))
     (YieldsList-at c.filter_map.ensures.source (YieldsList-from_first (λ r. r) (λ rs. rs) c.args.group.now c.records.ensures.records))
     c.filter_map.ensures.closure (λ x r q k. search (rules, tests)))
-    ∙ nth_picked LOCAL (λ r. ty_of (local_ty r)) c.args.group.now c.args.i c.requires
+    ∙ nth_of LOCAL (λ r. ty_of (local_ty r)) c.args.group.now c.args.i c.requires
 
 pub unwrap-requires : goal.unwrap-requires
 unwrap-requires c = rw (found c) refl

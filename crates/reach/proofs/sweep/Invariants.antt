@@ -6,4 +6,6 @@ use Rattle.reach.specs.Reach.{steps_of, outer_of}
 use Rattle.reach.proofs.sweep.Given as goal
 
 abbrev pub invariant-loop-i : goal.invariant-loop-i
-invariant-loop-i l = SweepAt (steps_of (groups l.nest.formed.now.sheets) l.along) (outer_of (groups l.nest.formed.now.sheets)) l.extent.classes l.extent.lanes l.up (words l.fn.row) (words l.row) l.added l.i
+invariant-loop-i l =
+    let p = l.nest.formed.now.sheets in
+    SweepAt (steps_of (groups p) l.along) (outer_of (groups p)) l.extent.classes l.extent.lanes l.up (words l.fn.row) (words l.row) l.added l.i

@@ -8,9 +8,10 @@ use native.Mathlib.Omega.{arith}
 use lib.ListN.{length}
 use Rattle.std.specs.Prelude.{None}
 use Rattle.spec.specs.Sheet.{Group}
-use Rattle.sheets.specs.Sheets.{count, groups, library_count}
+use Rattle.sheets.specs.Sheets.{Pair, count, groups, library_count}
 use Rattle.sheets.proofs.Indexes.{indexed}
 use Rattle.groups.proofs.Few.{group_few}
+use Rattle.breaks.specs.declared.rule.Rule.{Rule}
 use Rattle.breaks.specs.Breaking.{asks_first}
 use Rattle.breaks.specs.Beyond.{captured_at}
 use Rattle.rules.specs.Walk.{rule_at, found, next_class}
@@ -81,8 +82,8 @@ loop-number-preserved c =
     ((tt, tt, inl (omega (arith, record_left next, record_few f s.0, group_few (indexed c.library_count-nlib.ensures.passed) c.in-Some.t))), tt, next)
 
 -- all records of the class are asked, or the first alone is; what is found in it is the captured variables'
-asked_all : (c : After-captured_site) → found (library_count c.args.self.now.judging.now.formed.now.sheets) (groups c.args.self.now.judging.now.formed.now.sheets) (rule_at c.loop-rule.rule-index) c.in-Some.t
-    ≡ captured_at (library_count c.args.self.now.judging.now.formed.now.sheets) (groups c.args.self.now.judging.now.formed.now.sheets) (rule_at c.loop-rule.rule-index) c.in-Some.t
+asked_all : (c : After-captured_site) → let p = c.args.self.now.judging.now.formed.now.sheets in let rule = rule_at c.loop-rule.rule-index in
+    found (library_count p) (groups p) rule c.in-Some.t ≡ captured_at (library_count p) (groups p) rule c.in-Some.t
 asked_all c = records_none _ _ _ _ (elim c.match-next-2.branch [
   | in-None w ↦ record_end c.loop-number.invariant.2 w.in-None.ensures.steps.0.0
   | in-Some-2+else-breaks+then-alone w ↦
@@ -92,8 +93,11 @@ asked_all c = records_none _ _ _ _ (elim c.match-next-2.branch [
       record_only f s.0 (sym w.breaks.ensures ∙ w.if-breaks.false) (sym alone ∙ w.if-alone.true)
 ])
 
--- nothing is found in it
-none_found : (c : After-captured_site) → c.captured_site.result ≡ None → found (library_count c.args.self.now.judging.now.formed.now.sheets) (groups c.args.self.now.judging.now.formed.now.sheets) (rule_at c.loop-rule.rule-index) c.in-Some.t ≡ []
+-- nothing is found in class t
+abbrev NoneIn : Pair → Rule → ℕ → Type 0
+NoneIn p rule t = found (library_count p) (groups p) rule t ≡ []
+
+none_found : (c : After-captured_site) → c.captured_site.result ≡ None → NoneIn c.args.self.now.judging.now.formed.now.sheets (rule_at c.loop-rule.rule-index) c.in-Some.t
 none_found c n = asked_all c ∙ first_none _ c.captured_site.ensures n
 
 pub keep-requires : goal.keep-requires
@@ -102,8 +106,8 @@ keep-requires c =
     (omega (arith, k.spot.there, c.library_count-nlib.ensures.passed.few), rw c.loop-next.invariant.0 (none_found (goal.at.keep-requires c).After-captured_site c.in_default-captured_site.is))
 
 -- so the walk goes to the next one
-upward : (c : After-sound) → found (library_count c.args.self.now.judging.now.formed.now.sheets) (groups c.args.self.now.judging.now.formed.now.sheets) (rule_at c.loop-rule.rule-index) c.in-Some.t ≡ []
-    → ClassAt (library_count c.args.self.now.judging.now.formed.now.sheets) (count c.args.self.now.judging.now.formed.now.sheets) (groups c.args.self.now.judging.now.formed.now.sheets) c.args.c (rule_at c.loop-rule.rule-index) c.next_class-next.result × (rank c.next_class-next.result < suc c.in-Some.t)
+upward : (c : After-sound) → let p = c.args.self.now.judging.now.formed.now.sheets in let rule = rule_at c.loop-rule.rule-index in let next = c.next_class-next.result in
+    NoneIn p rule c.in-Some.t → ClassAt (library_count p) (count p) (groups p) c.args.c rule next × (rank next < suc c.in-Some.t)
 upward c z =
     let w = ground c.library_count-nlib.ensures.passed c.args.self.now.judging.now.formed.now.formed in
     let k = rw c.in-Some.is at c.loop-next.invariant.1 in
@@ -111,7 +115,7 @@ upward c z =
     class_next w c.requires.user_class c.requires.there k z e
 
 -- where an earlier one found nothing
-passed_by : (c : After-sound) → c.sound.result ≡ true → found (library_count c.args.self.now.judging.now.formed.now.sheets) (groups c.args.self.now.judging.now.formed.now.sheets) (rule_at c.loop-rule.rule-index) c.in-Some.t ≡ []
+passed_by : (c : After-sound) → c.sound.result ≡ true → NoneIn c.args.self.now.judging.now.formed.now.sheets (rule_at c.loop-rule.rule-index) c.in-Some.t
 passed_by c s = sound_none (rw c.loop-next.invariant.0 at c.loop-next.self.is_kept) _ _ c.sound.ensures s
 
 pub loop-next-smaller-then-sound : goal.loop-next-smaller-then-sound

@@ -5,7 +5,7 @@ use Rattle.records.proofs.Bodies.{reads_kind, is_not, not_class, not_field}
 use Rattle.sheets.specs.Sheets.{groups}
 use Rattle.theory.proofs.Form.{group_one_class}
 use Rattle.slots.proofs.Fields.{field_other}
-use Rattle.breaks.proofs.Heads.{field_told}
+use Rattle.breaks.proofs.Fields.{field_told}
 use Rattle.breaks.proofs.Places.{first_is, first_class, class_first, rule_head, rule_field}
 use Rattle.breaks.proofs.judging.Judging.late_breaks.Goals as goal
 

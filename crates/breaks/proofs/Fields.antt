@@ -1,29 +1,20 @@
 -- Rules 7 to 10 by sets of markers: an instance field.
 -- Assumes nothing.
-use mathlib.Core.Path.{◌≡◌, refl, ap, ◌∙◌}
+use mathlib.Core.Path.{◌≡◌, ap, ◌∙◌}
 use mathlib.Core.Bool.{Bool, not}
 use mathlib.Core.List.{List}
 use Prim.Native.Nat.{ℕ, ◌/◌, ◌%◌, ◌^◌}
 use lib.Dec.{eqb}
 use Rattle.spec.specs.Sheet.{Group}
-use Rattle.spec.specs.Classes.{field_slot}
 use Rattle.records.specs.declared.record.Ty.{Ty}
 use Rattle.records.specs.declared.record.Body.TheVariants.{Field}
 use Rattle.records.specs.Kinds.{Reads}
 use Rattle.markers.proofs.Having.{has_is}
 use Rattle.overlay.specs.Types.{Known}
 use Rattle.slots.specs.declared.Late.{Late}
-use Rattle.slots.specs.declared.Late.TheVariants.{Immutable, Powerless, Selfless, DeepSelfless}
 use Rattle.slots.specs.Slots.{rule_marker, field_breaks, FieldSet}
 use Rattle.slots.proofs.Sets.{twice}
-
--- where a field stands in its class does not count
-pub anywhere : (g : ℕ → Group) (rule : Late) (t k : ℕ) (r : List ℕ) → field_breaks g rule 0 0 r ≡ field_breaks g rule t k r
-unfolding field_breaks field_slot
-anywhere g Immutable t k r = refl
-anywhere g Powerless t k r = refl
-anywhere g Selfless t k r = refl
-anywhere g DeepSelfless t k r = refl
+use Rattle.slots.proofs.Fields.{anywhere}
 
 pub field_told : (g : ℕ → Group) {row : List ℕ} → Known g row → (rule : Late) (t k : ℕ) (r : List ℕ) {f : ℕ} {ty : Ty} → Reads r (Field f ty) → {set : ℕ} → FieldSet row f ty set
     → {s : ℕ} → s ≡ 2 ^ rule_marker rule → {b : Bool} → b ≡ eqb (set / s % 2) 1 → not b ≡ field_breaks g rule t k r
