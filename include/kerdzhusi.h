@@ -29,6 +29,9 @@
  *                           are left at the end belong to no verdict
  *   scratch, scratch_len    KZ_SCRATCH_BYTES to work in, of any content; more is allowed
  *   out, out_len            a buffer that the call writes from its start on
+ *   name, name_len          a name to look for or to fingerprint: any bytes, however many
+ *   places, places_len      a row of uint16_t (aligned as such): a class number in each place, or
+ *                           65,535 in an empty one. KZ_INDEX_PLACES of any content; more is allowed
  *
  * A pointer may be NULL where its length is 0: so the archive behaves, and the host's tests call it
  * so; the proofs speak of buffers that are there. `used` of kz_add, kz_replace and kz_withdraw is
@@ -62,8 +65,9 @@
  *   9   the record names a class, LOCAL or MEMBER that is not there
  *   10  a class name was met before, in either sheet
  *   11  a library class's markers clash, or class 0 has a marker; at its CLASS record
- *   12  too few verdicts or too little scratch
- *   13  no class has this number; for a replacement, no user class; for a withdrawal, there is none
+ *   12  too few verdicts, too little scratch or too few places
+ *   13  no class has this number, or this name; for a replacement, no user class; for a withdrawal,
+ *       there is none
  *   14  the group is not whole records with one CLASS, its first
  *   15  the new user sheet is over its buffer or over KZ_SHEET_BYTES; or the output buffer is
  *       shorter than what would be written
@@ -75,7 +79,8 @@
  *
  *   1; then record by record, the library's first, 2, 3, 4, 6, 5, 7, 16; then again record by
  *   record 9, 8, 10; then 11; then 13, 14, 15, 17; then 3 to 11 and 16, in the same order, in the
- *   new user sheet of an addition or a replacement, with the byte in it; then 12.
+ *   new user sheet of an addition or a replacement, with the byte in it; then 12. But kz_lookup
+ *   looks for 12 before 13.
  *
  *   kz_judge           1 to 12, 16
  *   kz_add             1 to 12, 14 to 16
@@ -83,6 +88,9 @@
  *   kz_withdraw        1 to 13, 16, 17
  *   kz_name, kz_marks  1 to 11, 13, 16
  *   kz_canonical       1 to 11, 15, 16
+ *   kz_index           1 to 12, 16
+ *   kz_lookup          1 to 13, 16
+ *   kz_fingerprint     none
  */
 #ifndef KERDZHUSI_H
 #define KERDZHUSI_H
@@ -100,6 +108,8 @@ extern "C" {
 #define KZ_SCRATCH_BYTES 65536
 /* The most bytes of a sheet. */
 #define KZ_SHEET_BYTES 32768
+/* The places of an index: kz_index and kz_lookup ask for them and fill them. */
+#define KZ_INDEX_PLACES 512
 
 typedef struct {
     uint64_t status;
@@ -197,6 +207,44 @@ kz_answer kz_marks(const uint8_t *library, size_t library_len,
 kz_answer kz_canonical(const uint8_t *library, size_t library_len,
                        const uint8_t *user, size_t user_len, size_t used,
                        uint8_t *out, size_t out_len);
+
+/*
+ * Fills an index of class names. The classes of both sheets enter in class order: each takes the
+ * place that is its name's fingerprint modulo KZ_INDEX_PLACES or, where that is taken, the next one
+ * that is free, place 0 coming after the last.
+ *
+ * The fingerprint has no key, so whoever chooses the names can make them collide. This changes no
+ * answer; it only costs time. At most, where 256 names have one place, filling an index passes
+ * 32,640 taken places. The check for 10 fills one too and passes as many places again, comparing
+ * names of up to 100 bytes at each; every call over sheets makes it, kz_add and kz_replace twice.
+ *
+ * value     how many classes entered: all of both sheets
+ * places    the first KZ_INDEX_PLACES are filled anew; those after them are untouched
+ */
+kz_answer kz_index(const uint8_t *library, size_t library_len,
+                   const uint8_t *user, size_t user_len, size_t used,
+                   uint16_t *places, size_t places_len);
+
+/*
+ * Finds the class that has a name, through an index. A name that no class can have, empty, over 100
+ * bytes or with a byte outside 33 to 126, is refused like any other that is not there (13).
+ *
+ * value     the class's number
+ * places    as kz_index leaves them
+ */
+kz_answer kz_lookup(const uint8_t *library, size_t library_len,
+                    const uint8_t *user, size_t user_len, size_t used,
+                    const uint8_t *name, size_t name_len,
+                    uint16_t *places, size_t places_len);
+
+/*
+ * Gives the fingerprint of a name, 32-bit FNV-1a: it starts at 2,166,136,261; for each byte,
+ * exclusive-or, then multiply by 16,777,619 and keep the low 32 bits. It is never refused, and
+ * writes nothing.
+ *
+ * value     the fingerprint
+ */
+kz_answer kz_fingerprint(const uint8_t *name, size_t name_len);
 
 /* The number of a refusal, 0 for a call that was accepted. */
 static inline unsigned kz_refusal_number(uint64_t status) { return (unsigned)(status & 0xFF); }

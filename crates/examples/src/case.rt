@@ -1,4 +1,5 @@
 // A case: its sheets, how much is lent and what is expected, as the commands before have set them.
+use crate::by_name::PLACES;
 use crate::judging::{ROW, SCRATCH};
 use crate::sheet::{spelled, verdicts};
 use arrayvec::ArrayVec;
@@ -21,6 +22,8 @@ pub(crate) struct Case {
     // How many bytes of the row and of the scratch are lent.
     pub(crate) row: usize,
     pub(crate) scratch: usize,
+    // How many places of a row of class numbers are lent.
+    pub(crate) places: usize,
     pub(crate) expected: ArrayVec<u8, ROW>,
 }
 
@@ -33,6 +36,7 @@ impl Case {
             begun: Begun::Library,
             row: ROW,
             scratch: SCRATCH,
+            places: PLACES,
             expected: ArrayVec::new(),
         }
     }
@@ -41,6 +45,7 @@ impl Case {
     pub(crate) fn begin(&mut self) {
         self.row = ROW;
         self.scratch = SCRATCH;
+        self.places = PLACES;
         self.expected.clear();
     }
 

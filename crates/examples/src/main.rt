@@ -1,6 +1,7 @@
 // Runs the interface on real bytes. The cases are in the files of data/, a command a line: script.rt says which commands there are.
 #![tactic(auto)]
 
+mod by_name;
 mod case;
 mod judging;
 mod line;
@@ -28,13 +29,14 @@ fn run<R: Files + Print + Eprint>(rt: &R, path: &str) -> io::Result<()> {
     script::run(rt, &text[..n])
 }
 
-const FILES: [&str; 6] = [
+const FILES: [&str; 7] = [
     "questions.txt",
     "judgings.txt",
     "limits.txt",
     "week.txt",
     "interfaces.txt",
     "papers.txt",
+    "names.txt",
 ];
 
 fn main(rt: HostRuntime) -> io::Result<()> {

@@ -8,6 +8,7 @@
 //   used N             the used length, where it is not the whole user buffer
 //   row N              how many bytes of the row are lent
 //   scratch N          how many bytes of scratch are lent
+//   places N           how many places of a row of class numbers are lent
 //   expect R K C | ..  the verdicts that the case must have
 //   ask C              writes what `marks`, `name_place` and `name` answer of class C
 //   record N           writes what a reader of the user sheet finds as record N
@@ -17,12 +18,15 @@
 //   add BYTES          writes what `add` answers of that group, the used length and the kept row after it
 //   replace C BYTES    writes the same of `replace` in the place of class C
 //   withdraw           writes the same of `withdraw`
+//   index              writes what `index` answers, and each taken place with its class
+//   lookup BYTES       writes the same of `lookup` of that name
+//   fingerprint BYTES  writes the fingerprint of those bytes
 use crate::case::Case;
 use crate::judging::{KEPT, ROW, judging, start};
 use crate::line::{number, split_word};
-use crate::say;
 use crate::sheet::{repeated, spelled};
 use crate::week::{Call, Week};
+use crate::{by_name, say};
 use std::io;
 
 // A judging from nothing: its row is its own.
@@ -58,6 +62,9 @@ fn said(
             week.change(rt, case, Call::Replace(number(class), group))
         }
         b"withdraw" => week.change(rt, case, Call::Withdraw),
+        b"index" => by_name::say_index(rt, case),
+        b"lookup" => by_name::say_lookup(rt, case, words),
+        b"fingerprint" => by_name::say_fingerprint(rt, words),
         _ => unknown(rt, verb),
     }
 }
@@ -76,6 +83,7 @@ fn command(rt: &impl Print, line: &[u8], case: &mut Case, week: &mut Week) -> io
         b"used" => case.used = number(words),
         b"row" => case.row = number(words),
         b"scratch" => case.scratch = number(words),
+        b"places" => case.places = number(words),
         b"expect" => case.expect(words),
         _ => said(rt, verb, words, case, week)?,
     }

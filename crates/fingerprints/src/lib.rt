@@ -1,48 +1,33 @@
-// Fingerprints of class names: whether a name is new is asked of a row of numbers.
+// Fingerprints of names: 32-bit FNV-1a.
 #![tactic(auto)]
 
-ghost use Rattle.std.specs.Prelude.{◌≡◌};
-ghost use Rattle.spec.specs.Lists.{elem};
-ghost use Rattle.sheets.specs.Sheets.{count, groups};
-ghost use Rattle.fingerprints.specs.Fingerprints.{print_with, print_of, Printed};
+ghost use Rattle.std.specs.Prelude.{◌≡◌, ◌*◌, ◌%◌, ◌^◌};
+ghost use Rattle.spec.specs.Index.{fingerprint_with, fingerprint};
 
-use records::CLASS_LIMIT;
-use sheets::Sheets;
+const START: u32 = 2166136261;
+
+const PRIME: u32 = 16777619;
+
+// The product's low 32 bits.
+fn times_prime(a: u32) -> u32
+    ensures { result ≡ a * 16777619 % 2 ^ 32 }
+{
+    a.wrapping_mul(PRIME)
+}
 
 // The fingerprint after one byte more.
-fn print_with(print: u16, byte: u8) -> u16
-    ensures { result ≡ print_with print byte }
+#[tactic(auto, unfolding(spec::specs::Index::fingerprint_with))]
+fn fingerprint_with(print: u32, byte: u8) -> u32
+    ensures { result ≡ fingerprint_with print byte }
 {
-    print.wrapping_mul(31).wrapping_add(u16::from(byte))
+    times_prime(print ^ u32::from(byte))
 }
 
-// The fingerprint of a name.
-fn print_of(name: &[u8]) -> u16
-    ensures { result ≡ print_of name.now }
+/// The fingerprint of a name, or of any bytes.
+#[tactic(auto, unfolding(spec::specs::Index::fingerprint))]
+pub fn fingerprint(name: &[u8]) -> u32
+    ensures { result ≡ fingerprint name.now }
 {
-    name.iter().fold(0, |print, byte| print_with(print, *byte))
-}
-
-/// The fingerprint of each class's name.
-pub fn prints(sheets: &Sheets) -> [u16; CLASS_LIMIT]
-    ensures { Printed (groups sheets.now) (count sheets.now) result }
-{
-    let mut row = [0; CLASS_LIMIT];
-    for (c, print) in row[..sheets.count()].iter_mut().enumerate() {
-        *print = print_of(sheets.group(c).name());
-    }
-    row
-}
-
-/// Whether an entry is `print`. All are read, so that many are compared at once; as a fold it is slower.
-pub fn met(row: &[u16], print: u16) -> bool
-    ensures { result ≡ elem print row.now }
-{
-    let mut found = false;
-    for entry in row {
-        if *entry == print {
-            found = true;
-        }
-    }
-    found
+    name.iter()
+        .fold(START, |print, byte| fingerprint_with(print, *byte))
 }

@@ -6,7 +6,7 @@ use mathlib.Core.List.{List, []}
 use mathlib.Core.Option.{Option, none, some}
 use Prim.Native.Nat.{ℕ}
 use lib.ListN.{length, take}
-use Rattle.spec.specs.Refusals.{Refusal, judge_refusal, query_refusal}
+use Rattle.spec.specs.Refusals.{Refusal, judge_refusal, query_refusal, index_refusal, lookup_refusal}
 use Rattle.spec.specs.Verdicts.{VerdictRow}
 use Rattle.spec.specs.Promises.{accepted, State, Changes, bytes_at, no_part, Names}
 use Rattle.theory.specs.Claims.{InOrder}
@@ -45,7 +45,7 @@ module _ (library user : List ℕ) (used c : ℕ) where
       go (some r) e = absurd (filled (p.answered ∙ ap (bytes_at library user) (sym (kept_refused no_part _ e))))
 
 pub reads_in_order : (row : VerdictRow) → ReadsInOrder row
-unfolding judge_refusal
+unfolding judge_refusal index_refusal lookup_refusal
 reads_in_order row = record {
   judge = λ library user used after a.
       order_holds library user used
@@ -54,4 +54,8 @@ reads_in_order row = record {
   marks = λ library user used c m p. asked_in_order library user used c (told_fine (query_refusal library user used c) _ p.answered).0;
   place = λ library user used c m p. asked_in_order library user used c (told_fine (query_refusal library user used c) _ p.answered).0;
   name = named_in_order;
+  index = λ library user used n places places' p.
+      order_holds library user used (first_none _ (told_fine (index_refusal library user used (length places)) _ p.answered).0).0;
+  lookup = λ library user used c name places places' p.
+      order_holds library user used (first_none _ (told_fine (lookup_refusal library user used name (length places)) _ p.answered).0).0;
 }

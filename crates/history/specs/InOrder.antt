@@ -2,7 +2,7 @@
 -- Assumes nothing.
 use Rattle.std.specs.Prelude.{◌≡◌, ◌≢◌, List, [], ℕ, take}
 use Rattle.spec.specs.Verdicts.{VerdictRow}
-use Rattle.spec.specs.Promises.{accepted, State, Marks, Part, Places, Names}
+use Rattle.spec.specs.Promises.{accepted, State, Marks, Part, Places, Names, Indexes, Finds}
 use Rattle.theory.specs.Claims.{InOrder}
 use Rattle.history.specs.Judged.{Accepts}
 use Rattle.history.specs.Demand3.{Done, Promised}
@@ -21,3 +21,6 @@ module _ (row : VerdictRow) where
     pub place : (library user : List ℕ) (used c : ℕ) (p : Part) → Places library user used c (accepted p) → InOrder library (take used user)
     -- the bytes of a name; those of a refused one are none
     pub name : (library user : List ℕ) (used c : ℕ) (bytes : List ℕ) → Names library user used c bytes → bytes ≢ [] → InOrder library (take used user)
+    -- document 02, C-17: the places of the row before and after
+    pub index : (library user : List ℕ) (used n : ℕ) (places places' : List ℕ) → Indexes library user used places (accepted n) places' → InOrder library (take used user)
+    pub lookup : (library user : List ℕ) (used c : ℕ) (name places places' : List ℕ) → Finds library user used name places (accepted c) places' → InOrder library (take used user)

@@ -12,8 +12,8 @@ use Rattle.spec.specs.Lists.{count, span, first_of}
 use Rattle.spec.specs.Sheet.{records_of, whole_end, class_count, total}
 use Rattle.spec.specs.Verdicts.{faulted, faulted_count, flat}
 use Rattle.spec.specs.Refusals.{Refusal, refuse_plain, size_refusal, sheet_refusal, present_refusal, no_user_refusal, group_refusal, room_refusal, added_sheet, replaced_sheet, judge_refusal}
-use Rattle.spec.specs.Refusals.{add_refusal, replace_refusal, withdraw_refusal, query_refusal}
-use Rattle.spec.specs.Promises.{Answer, refused, accepted, answer_of, Counts, counts_of, Judges, State, addition, replacement, withdrawal, Adds, Replaces, Withdraws}
+use Rattle.spec.specs.Refusals.{add_refusal, replace_refusal, withdraw_refusal, query_refusal, index_refusal, lookup_refusal}
+use Rattle.spec.specs.Promises.{Answer, refused, accepted, answer_of, Counts, counts_of, Judges, State, addition, replacement, withdrawal, Adds, Replaces, Withdraws, Indexes, Finds}
 use Rattle.theory.specs.Claims.{sheet_of, Blames, size, torn, at, no_class, plain, BlamesEdit, present, made}
 use Rattle.laws.proofs.Bools.{not_or_l, not_or_r}
 use Rattle.laws.proofs.All.{All}
@@ -124,6 +124,15 @@ pub canonical_low : {library user : List ℕ} {used : ℕ} {out : List ℕ} {a :
     → a ≡ refused r → r.byte ≤ 32768
 unfolding canonical_refusal
 canonical_low p f = told_low _ _ _ _ _ p.answered (canonical_refuses _ _ _ _).place f
+
+module _ {library user : List ℕ} {used : ℕ} {row row' : List ℕ} {a : Answer ℕ} {r : Refusal} where
+  pub index_low : Indexes library user used row a row' → a ≡ refused r → r.byte ≤ 32768
+  unfolding index_refusal
+  index_low p f = told_low _ _ _ _ _ p.answered ((refusals_hold _ _ _).index _).place f
+
+  pub lookup_low : {name : List ℕ} → Finds library user used name row a row' → a ≡ refused r → r.byte ≤ 32768
+  unfolding lookup_refusal
+  lookup_low p f = told_low _ _ _ _ _ p.answered ((refusals_hold _ _ _).lookup _ _).place f
 
 module _ (library g : List ℕ) {before : State flat} {scratch : List ℕ} {a : Answer ℕ} {after : State flat} {scratch' : List ℕ} {r : Refusal} where
   pub adds_low : Adds flat library g before scratch a after scratch' → a ≡ refused r → r.byte ≤ 32768

@@ -2,7 +2,8 @@
 #![tactic(auto)]
 
 ghost use Rattle.std.specs.Prelude.{◌≡◌, ◌+◌, ◌≤◌};
-ghost use Rattle.spec.specs.Promises.{Judges, Adds, Replaces, Withdraws, Marks, Places};
+ghost use Rattle.spec.specs.Index.{fingerprint};
+ghost use Rattle.spec.specs.Promises.{accepted, Judges, Adds, Replaces, Withdraws, Marks, Places, Indexes, Finds};
 ghost use Rattle.spec.specs.Verdicts.{flat};
 ghost use Rattle.meaning.specs.Canonical.{WritesCanonical};
 ghost use Rattle.refusals.specs.Refusals.{answer_in, refusal_of};
@@ -172,4 +173,39 @@ pub extern "C" fn kz_canonical<'a>(
 {
     let answer = verifier::canonical(library, user, used, out);
     Reply::of(answer.map(plain_value))
+}
+
+#[unsafe(no_mangle)]
+pub extern "C" fn kz_index<'a>(
+    library: &'a [u8],
+    user: &'a [u8],
+    used: usize,
+    places: &mut [u16],
+) -> Reply
+    ensures { Replies plain_value (λ a. Indexes library.now user.now used places.old a places.new) result }
+{
+    let answer = verifier::index(library, user, used, places);
+    Reply::of(answer.map(plain_value))
+}
+
+#[unsafe(no_mangle)]
+pub extern "C" fn kz_lookup<'a>(
+    library: &'a [u8],
+    user: &'a [u8],
+    used: usize,
+    name: &'a [u8],
+    places: &mut [u16],
+) -> Reply
+    ensures { Replies plain_value (λ a. Finds library.now user.now used name.now places.old a places.new) result }
+{
+    let answer = verifier::lookup(library, user, used, name, places);
+    Reply::of(answer.map(plain_value))
+}
+
+#[unsafe(no_mangle)]
+pub extern "C" fn kz_fingerprint<'a>(name: &'a [u8]) -> Reply
+    ensures { result ≡ reply_of plain_value (accepted (fingerprint name.now)) }
+{
+    let print = verifier::fingerprint(name);
+    Reply::of(Ok(u64::from(print)))
 }

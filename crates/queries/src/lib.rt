@@ -1,5 +1,7 @@
-// What is asked of one class: its overlay markers and its name.
+// What is asked of accepted sheets: a class's overlay markers, its name, and in `index` the classes by their names.
 #![tactic(auto)]
+
+pub mod index;
 
 ghost use Rattle.std.specs.Prelude.{◌≡◌, ◌<◌, take, replicate, None};
 ghost use Rattle.spec.specs.Refusals.{query_refusal};

@@ -45,9 +45,9 @@ pub enum Reason {
     NameTwice = 10,
     /// Library markers that contradict each other, or a marked class 0.
     Deemed = 11,
-    /// A verdict row or scratch that is too short.
+    /// A verdict row, a scratch or a row of places that is too short.
     TooShort = 12,
-    /// No such class.
+    /// No such class, by its number or its name.
     NoSuchClass = 13,
     /// A group that is not one class with its records.
     NoGroup = 14,

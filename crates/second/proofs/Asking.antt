@@ -22,7 +22,7 @@ use Rattle.refusals.specs.declared.Side.{Side}
 use Rattle.refusals.specs.declared.Side.TheVariants.{Library, User}
 use Rattle.refusals.specs.Refusals.{sheet_number as side_number}
 use Rattle.sheets.specs.Sheets.{Pair, Passed, count, groups, library_count}
-use Rattle.second.specs.declared.lookup.Asked.{Asked}
+use Rattle.second.specs.declared.register.Asked.{Asked}
 use Rattle.second.specs.Second.{indexed_kind, indexed_number, asked_of, Heads}
 use Rattle.sheets.proofs.Indexes.{indexed}
 

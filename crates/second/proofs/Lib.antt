@@ -1,6 +1,5 @@
 pub mod Asking
 pub mod ByKind
 pub mod Enclosing
-pub mod Names
 pub mod Classes
 pub mod Passing

@@ -18,7 +18,7 @@ use Rattle.records.specs.Kinds.{spec_ty}
 use Rattle.records.specs.declared.kind.Kind.{Kind}
 use Rattle.records.specs.declared.kind.Kind.TheVariants.{Local, Member}
 use Rattle.sheets.specs.Sheets.{Pair, count, groups, library_count}
-use Rattle.second.specs.declared.lookup.Asked.{Asked}
+use Rattle.second.specs.declared.register.Asked.{Asked}
 
 -- ---- numbered tests
 

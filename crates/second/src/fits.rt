@@ -9,31 +9,19 @@ ghost use Rattle.second.specs.Second.{Enclosing, indexed_kind, first_met, number
 ghost use Rattle.second.specs.Second.{absent, superclass_ok, encloser_ok, class_tests, target_tests, type_tests};
 ghost use Rattle.second.specs.Second.{implements_tests, field_tests, index_tests, uses_tests};
 
-use crate::lookup::Lookup;
-use fingerprints::met;
+use crate::register::Register;
 use records::kind::Kind;
 use records::record::{Body, Head, Record, Ty};
 use records::{CLASS_LIMIT, INNER, STATIC, has_flag};
 use refusals::{Reason, Side};
 
-impl<'a> Lookup<'a> {
-    // Whether the name of class c is that of a class below it. Only names with the same fingerprint are compared.
+impl<'a> Register<'a> {
+    // Whether the name of class c is that of a class below it.
     fn name_met(&self, c: usize) -> bool
         requires { c < count self.now.sheets.now }
         ensures { result ≡ name_met (groups self.now.sheets.now) c (class_record (groups self.now.sheets.now c)) }
     {
-        let print = self.prints[c];
-        if !met(&self.prints[..c], print) {
-            return false;
-        }
-        let sheets = self.sheets;
-        let name = sheets.group(c).name();
-        for d in 0..c {
-            if self.prints[d] == print && sheets.group(d).name() == name {
-                return true;
-            }
-        }
-        false
+        self.met[c]
     }
 
     // Whether a class is named that isn't there.

@@ -8,22 +8,22 @@ ghost use Rattle.sheets.specs.Sheets.{count};
 ghost use Rattle.second.specs.Second.{class_refusal};
 
 mod fits;
-mod lookup;
+mod register;
 
-use lookup::Lookup;
 use refusals::Refusal;
+use register::Register;
 use sheets::Sheets;
 
 // The records of class c.
-fn class_pass(lookup: &Lookup, c: usize) -> Result<(), Refusal>
-    requires { c < count lookup.now.sheets.now }
-    ensures { Answers (class_refusal lookup.now.sheets.now c) result (λ _. Unit {0}) }
+fn class_pass(register: &Register, c: usize) -> Result<(), Refusal>
+    requires { c < count register.now.sheets.now }
+    ensures { Answers (class_refusal register.now.sheets.now c) result (λ _. Unit {0}) }
 {
-    let sheets = lookup.sheets;
-    let marks = lookup.enclosing(c);
+    let sheets = register.sheets;
+    let marks = register.enclosing(c);
     let mut byte = sheets.start(c);
     for record in sheets.group(c).records() {
-        if let Err(reason) = lookup.record_fits(c, &marks, &record) {
+        if let Err(reason) = register.record_fits(c, &marks, &record) {
             return Err(Refusal {
                 reason,
                 sheet: sheets.side(c),
@@ -40,9 +40,9 @@ pub fn second_pass(sheets: &Sheets) -> Result<(), Refusal>
     ensures { Answers (form_refusal sheets.now.library sheets.now.user) result (λ _. Unit {0}) }
 {
     let n = sheets.count();
-    let lookup = Lookup::new(sheets);
+    let register = Register::new(sheets);
     for c in 0..n {
-        class_pass(&lookup, c)?;
+        class_pass(&register, c)?;
     }
     Ok(())
 }

@@ -1,7 +1,7 @@
 -- What the requests of document 02 say, as one list of small examples. All use document 01's library L.
 -- Assumes nothing.
 use Rattle.std.specs.Prelude.{List, [], ◌∷◌, ◌++◌, ℕ, replicate}
-use Rattle.spec.specs.Examples.{Claim, judges, refuses, withdraws, keeps, none², number, class, x, v, uses, builds}
+use Rattle.spec.specs.Examples.{Claim, judges, refuses, withdraws, keeps, indexes, finds, misses, named, none², number, class, x, v, uses, builds}
 
 -- class 1 with own markers, and class 2 with fields
 abbrev pub static : ℕ → List ℕ → List ℕ
@@ -32,6 +32,19 @@ inner markers super outer name = 13 ∷ 0 ∷ 1 ∷ 0 ∷ 2 ∷ 0 ∷ markers �
 -- a primitive LOCAL
 abbrev pub primitive : List ℕ
 primitive = 9 ∷ 0 ∷ 4 ∷ 0 ∷ 0 ∷ 4 ∷ 0 ∷ 0 ∷ 0x76 ∷ []
+
+-- three names of one home, and their classes
+abbrev pub SG : List ℕ
+SG = 0x53 ∷ 0x47 ∷ []
+
+abbrev pub aI : List ℕ
+aI = 0x61 ∷ 0x49 ∷ []
+
+abbrev pub ln : List ℕ
+ln = 0x6C ∷ 0x6E ∷ []
+
+abbrev pub three_511 : List ℕ
+three_511 = named 0 0 none² SG ++ (named 0 0 none² aI ++ named 0 0 none² ln)
 
 unfoldable pub changes : List Claim
 changes =
@@ -87,4 +100,14 @@ changes =
     ∷ judges (class 128 0 none² 0x41 ++ x 0 0 4 0) 1 1 (9 ∷ 1 ∷ 1 ∷ [])
     ∷ judges (A ++ (x 0 0 4 0 ++ class 128 1 none² 0x42)) 2 1 (clear ++ (9 ∷ 1 ∷ 1 ∷ []))
     ∷ judges (A ++ class 128 1 none² 0x42) 2 1 (clear ++ (9 ∷ 0 ∷ 2 ∷ []))
+    -- C-17, "each at its fingerprint's remainder by 512": of the name Object 218, of A 204; "and leaves places past 512"
+    ∷ indexes A 2 ((204, 1) ∷ (218, 0) ∷ (512, 7) ∷ [])
+    -- "or the next free place after it, going round": SG, aI and ln have the remainder 511
+    ∷ indexes three_511 4 ((0, 2) ∷ (1, 3) ∷ (218, 0) ∷ (511, 1) ∷ (512, 7) ∷ [])
+    ∷ finds three_511 ln 3
+    ∷ finds three_511 (0x4F ∷ 0x62 ∷ 0x6A ∷ 0x65 ∷ 0x63 ∷ 0x74 ∷ []) 0
+    -- "13 for a name not there": rp has that remainder too; no byte, and one that no name has. "12 for a row under 512" comes first
+    ∷ misses three_511 (0x72 ∷ 0x70 ∷ []) 512 (record { number = 13; sheet = 0; byte = 0 })
+    ∷ misses A [] 512 (record { number = 13; sheet = 0; byte = 0 })
+    ∷ misses A (255 ∷ []) 511 (record { number = 12; sheet = 0; byte = 0 })
     ∷ []

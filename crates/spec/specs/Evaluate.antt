@@ -15,9 +15,12 @@ use Rattle.spec.specs.Refusals.{refuse_if, refuse_plain, refuse_record, size_ref
 use Rattle.spec.specs.Refusals.{superclass_fits, implements_fits, uses_fits, name_met, form_tests, deemed_tests, form_refusal, deemed_refusal, sheet_refusal, new_refusal, present_refusal}
 use Rattle.spec.specs.Refusals.{short_refusal, no_user_refusal, unused_refusal, one_class, whole_group, group_refusal, room_refusal, added_sheet, replaced_sheet, judge_refusal, add_refusal}
 use Rattle.spec.specs.Refusals.{replace_refusal, query_refusal, judge_numbers, empty_refusal, last_class, named_refusal, few_lines_refusal, withdrawn_sheet, withdraw_refusal, record_numbers}
-use Rattle.spec.specs.Refusals.{plain_numbers, present_numbers, add_numbers, replace_numbers, withdraw_numbers, query_numbers}
+use Rattle.spec.specs.Refusals.{few_places_refusal, no_name_refusal, index_refusal, lookup_refusal}
+use Rattle.spec.specs.Refusals.{plain_numbers, present_numbers, add_numbers, replace_numbers, withdraw_numbers, query_numbers, index_numbers, lookup_numbers}
 use Rattle.spec.specs.Verdicts.{verdict_at, user_verdict, faulted, faulted_count, depends_on, dependent_count, flat_lines, flat_at, bytes_of, map_from, flat_byte, flat_rewritten}
-use Rattle.spec.specs.Promises.{answer_of, afterwards, cleared, counts_of, judged_row, buffer_with, edited, addition, replacement, withdrawal, bytes_at, name_part}
+use Rattle.spec.specs.Index.{fingerprint_with, fingerprint, home, is_free, next_place, free_from, entered, name_of, has_name, index_of, found_from, found_in, lowest_named, met_through}
+use Rattle.spec.specs.Index.{names_index, class_named}
+use Rattle.spec.specs.Promises.{answer_of, afterwards, cleared, counts_of, judged_row, buffer_with, edited, addition, replacement, withdrawal, bytes_at, name_part, indexed}
 
 unfoldable pub evaluation : Unit {0}
 unfolding any all keep concat count numbered only_if first_of gather elem same_list span ascending fresh rounds reach u8 u16 bit kind by_kind flags own_markers zero_byte
@@ -32,5 +35,6 @@ unfolding any all keep concat count numbered only_if first_of gather elem same_l
     room_refusal empty_refusal last_class named_refusal few_lines_refusal added_sheet replaced_sheet withdrawn_sheet judge_refusal add_refusal replace_refusal withdraw_refusal query_refusal
     record_numbers plain_numbers present_numbers judge_numbers add_numbers replace_numbers withdraw_numbers query_numbers verdict_at user_verdict faulted faulted_count depends_on
     dependent_count flat_lines flat_at bytes_of map_from flat_byte flat_rewritten answer_of afterwards cleared counts_of judged_row buffer_with edited addition replacement withdrawal
-    bytes_at name_part
+    bytes_at name_part few_places_refusal no_name_refusal index_refusal lookup_refusal index_numbers lookup_numbers fingerprint_with fingerprint home is_free next_place free_from entered
+    name_of has_name index_of found_from found_in lowest_named met_through names_index class_named indexed
 evaluation = tt

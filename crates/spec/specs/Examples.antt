@@ -1,10 +1,14 @@
 -- The starred examples of document 01, as one list of claims about the definitions. All use its library L.
 -- Assumes nothing.
-use Rattle.std.specs.Prelude.{◌≡◌, List, [], ◌∷◌, ◌++◌, ℕ, ◌*◌, length, replicate}
+use Rattle.std.specs.Prelude.{◌≡◌, not, Some, List, [], ◌∷◌, ◌++◌, ℕ, ◌+◌, ◌*◌, eqb, length, replicate, unwrap_or}
+use Rattle.spec.specs.Lists.{keep, numbered}
+use Rattle.spec.specs.Record.{none16}
+use Rattle.spec.specs.Sheet.{total, group}
 use Rattle.spec.specs.Markers.{closure}
-use Rattle.spec.specs.Refusals.{Refusal, scratch_length, replaced_sheet, judge_refusal}
+use Rattle.spec.specs.Refusals.{Refusal, scratch_length, replaced_sheet, judge_refusal, index_refusal, lookup_refusal}
+use Rattle.spec.specs.Index.{names_index, found_in, class_named}
 use Rattle.spec.specs.Verdicts.{verdict_bytes, flat}
-use Rattle.spec.specs.Promises.{Answer, refused, accepted, answer_of, afterwards, Counts, counts_of, judged_row, State, Edit, edited, replacement, withdrawal}
+use Rattle.spec.specs.Promises.{Answer, refused, accepted, answer_of, afterwards, Counts, counts_of, judged_row, State, Edit, edited, replacement, withdrawal, indexed}
 
 -- ---- Judge over a library, with scratch enough
 
@@ -45,6 +49,18 @@ module _ (library user : List ℕ) (used : ℕ) (row : List ℕ) where
   abbrev pub withdraw_over : Edit
   withdraw_over = withdrawal flat library (holding user used row)
 
+-- ---- Index and Lookup over a library, by how many places the row has
+
+unfoldable pub index_over : List ℕ → ℕ → Answer ℕ
+index_over user places = answer_of (index_refusal L user (length user) places) (total L user)
+
+unfoldable pub lookup_over : List ℕ → List ℕ → ℕ → Answer ℕ
+lookup_over user name places = answer_of (lookup_refusal L user (length user) name places) (unwrap_or (class_named L user name) none16)
+
+-- the places of a row that are not empty, with what they hold
+unfoldable pub taken_places : List ℕ → List (ℕ × ℕ)
+taken_places row = keep (λ p. not (eqb p.1 none16)) (numbered 0 row)
+
 -- ---- the claims
 
 pub data Claim : Type 0 where
@@ -60,6 +76,12 @@ pub data Claim : Type 0 where
   withdraws : List ℕ → ℕ → List ℕ → ℕ → List ℕ → ℕ → List ℕ → Claim
   -- user buffer, used length, bytes of the row; the refusal of the withdrawal, which leaves them so
   keeps : List ℕ → ℕ → List ℕ → Refusal → Claim
+  -- user sheet; how many classes enter the index, and the places that are not empty then, each with what it holds: past the 512 places of the index is one more, with a 7
+  indexes : List ℕ → ℕ → List (ℕ × ℕ) → Claim
+  -- user sheet, name; the class that a lookup answers, and that is found through the index
+  finds : List ℕ → List ℕ → ℕ → Claim
+  -- user sheet, name, how many places the row has; the refusal of the lookup
+  misses : List ℕ → List ℕ → ℕ → Refusal → Claim
 
 abbrev pub Holds : Claim → Type 0
 Holds (judges user n f row) = (answer_over L user (row_for n) ≡ accepted (record { classes = n; faulted = f })) × (row_over L user (row_for n) ≡ row ++ past)
@@ -72,6 +94,9 @@ Holds (replaces user row c g n buffer row_after) =
 Holds (withdraws user used row n buffer used_after row_after) =
     (answer_to (withdraw_over L user used row) ≡ accepted n) × (state_to (withdraw_over L user used row) (holding user used row) ≡ holding buffer used_after row_after)
 Holds (keeps user used row r) = (answer_to (withdraw_over L user used row) ≡ refused r) × (state_to (withdraw_over L user used row) (holding user used row) ≡ holding user used row)
+Holds (indexes user n places) = (index_over user 513 ≡ accepted n) × (taken_places (indexed L user (length user) (replicate 513 7)) ≡ places)
+Holds (finds user name c) = (lookup_over user name 512 ≡ accepted c) × (found_in (group L user) (names_index L user) name ≡ Some c)
+Holds (misses user name places r) = lookup_over user name places ≡ refused r
 
 abbrev pub AllHold : List Claim → Type 0
 AllHold [] = Unit {0}
@@ -94,9 +119,12 @@ Pt flags markers = 14 ∷ 0 ∷ 1 ∷ 0 ∷ flags ∷ 0 ∷ markers ∷ 0 ∷ 0 
 abbrev pub x : ℕ → ℕ → ℕ → ℕ → List ℕ
 x flags dims code class = 11 ∷ 0 ∷ 3 ∷ 0 ∷ flags ∷ 0 ∷ dims ∷ code ∷ class ∷ 0 ∷ 0x78 ∷ []
 
--- CLASS with a name of one byte: own markers, superclass, encloser, name
+-- CLASS: own markers, superclass, encloser, name; and with a name of one byte
+abbrev pub named : ℕ → ℕ → List ℕ → List ℕ → List ℕ
+named markers super outer name = (12 + length name) ∷ 0 ∷ 1 ∷ 0 ∷ 0 ∷ 0 ∷ markers ∷ 0 ∷ number super ++ (outer ++ name)
+
 abbrev pub class : ℕ → ℕ → List ℕ → ℕ → List ℕ
-class markers super outer name = 13 ∷ 0 ∷ 1 ∷ 0 ∷ 0 ∷ 0 ∷ markers ∷ 0 ∷ number super ++ (outer ++ (name ∷ []))
+class markers super outer name = named markers super outer (name ∷ [])
 
 -- LOCAL v of a class, USES, BUILDS
 abbrev pub v : ℕ → List ℕ

@@ -6,6 +6,7 @@ pub mod Classes
 pub mod Rules
 pub mod Relations
 pub mod Breaks
+pub mod Index
 pub mod Refusals
 pub mod Verdicts
 pub mod Promises

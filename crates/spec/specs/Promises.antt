@@ -1,13 +1,15 @@
 -- What each operation promises of its answer and of every buffer that it is lent, on refusals too (document 01, "The operations and what they turn away").
 -- A promise is a record of equations between the values at entry and at exit; the contracts of the program are these propositions.
 -- Assumes nothing.
-use Rattle.std.specs.Prelude.{◌≡◌, Bool, true, false, List, ◌++◌, ℕ, ◌+◌, ◌-◌, eqb, ltb, length, take, drop, replicate}
+use Rattle.std.specs.Prelude.{◌≡◌, Bool, true, false, List, ◌++◌, ℕ, ◌+◌, ◌-◌, eqb, ltb, length, take, drop, replicate, unwrap_or}
 use Rattle.std.proofs.Math.Option.{Option, none, some}
-use Rattle.spec.specs.Record.{name_start}
+use Rattle.spec.specs.Record.{none16, name_start}
 use Rattle.spec.specs.Sheet.{class_count, total, group, group_start, class_record}
 use Rattle.spec.specs.Classes.{overlay}
 use Rattle.spec.specs.Rules.{Verdict, clean}
-use Rattle.spec.specs.Refusals.{Refusal, scratch_length, added_sheet, replaced_sheet, withdrawn_sheet, last_class, judge_refusal, add_refusal, replace_refusal, withdraw_refusal, query_refusal}
+use Rattle.spec.specs.Index.{index_places, names_index, class_named}
+use Rattle.spec.specs.Refusals.{Refusal, scratch_length, added_sheet, replaced_sheet, withdrawn_sheet, last_class, judge_refusal, add_refusal, replace_refusal, withdraw_refusal}
+use Rattle.spec.specs.Refusals.{query_refusal, index_refusal, lookup_refusal}
 use Rattle.spec.specs.Verdicts.{user_verdict, faulted_count, depends_on, dependent_count, VerdictRow}
 
 -- an operation's answer: a refusal, or its values
@@ -169,3 +171,20 @@ module _ (library user : List ℕ) (used : ℕ) (c : ℕ) where
   -- the name's bytes
   pub record Names (bytes : List ℕ) : Type 0 where
     pub answered : bytes ≡ bytes_at library user (afterwards (query_refusal library user used c) no_part (name_part library (take used user) c))
+
+-- ---- Index and Lookup (document 02, C-17)
+
+module _ (library user : List ℕ) (used : ℕ) where
+  -- "each, when accepted, fills the row anew and leaves places past 512"
+  unfoldable pub indexed : List ℕ → List ℕ
+  indexed row = names_index library (take used user) ++ drop index_places row
+
+  -- "Indexing answers how many entered"
+  pub record Indexes (row : List ℕ) (answer : Answer ℕ) (row_after : List ℕ) : Type 0 where
+    pub answered : answer ≡ answer_of (index_refusal library user used (length row)) (total library (take used user))
+    pub row_is : row_after ≡ afterwards (index_refusal library user used (length row)) row (indexed row)
+
+  -- "lookup the class number", as the walk finds it. The index is only the way there
+  pub record Finds (name row : List ℕ) (answer : Answer ℕ) (row_after : List ℕ) : Type 0 where
+    pub answered : answer ≡ answer_of (lookup_refusal library user used name (length row)) (unwrap_or (class_named library (take used user) name) none16)
+    pub row_is : row_after ≡ afterwards (lookup_refusal library user used name (length row)) row (indexed row)

@@ -1,6 +1,7 @@
 -- Why a call is refused, in the order decided: number, sheet and byte (document 01, "The operations and what they turn away").
 -- Assumes nothing.
 use Rattle.std.specs.Prelude.{◌≡◌, Bool, true, false, not, ◌&&◌, ◌||◌, List, [], ◌∷◌, ◌++◌, map, ℕ, ◌-◌, eqb, leb, ltb, length, take, set}
+use Rattle.std.specs.Option.{is_some}
 use Rattle.std.proofs.Math.Option.{Option, none, some}
 use Rattle.spec.specs.Lists.{any, concat, first_of, elem, same_list, span}
 use Rattle.spec.specs.Record.{Bytes, bit, none16, kind, is_kind, is_class, IMPLEMENTS, LOCAL, USES, MEMBER, REFERS, flags, superclass, encloser, class_name, target, index, references, kind_fits}
@@ -8,6 +9,7 @@ use Rattle.spec.specs.Record.{length_fits, body_fits}
 use Rattle.spec.specs.Sheet.{Group, records_of, whole_end, groups_of, class_count, total, group, class_record, group_references, of_kind, is_interface, is_instance_field, Located, located_in, located}
 use Rattle.spec.specs.Markers.{clash}
 use Rattle.spec.specs.Classes.{overlay, enclosers}
+use Rattle.spec.specs.Index.{index_places, class_named}
 
 -- "A refusal gives number, sheet (0 library, 1 user), byte where its record begins"
 pub record Refusal : Type 0 where
@@ -214,6 +216,16 @@ named_refusal library user =
 unfoldable pub few_lines_refusal : ℕ → ℕ → Option Refusal
 few_lines_refusal needed lines = refuse_plain (ltb lines needed) 12
 
+-- ---- document 02, C-17: 12 and 13 of an index and a lookup
+
+-- 12: "for a row under 512"
+unfoldable pub few_places_refusal : ℕ → Option Refusal
+few_places_refusal places = refuse_plain (ltb places index_places) 12
+
+-- 13: "for a name not there"
+unfoldable pub no_name_refusal : List ℕ → List ℕ → List ℕ → Option Refusal
+no_name_refusal library user name = refuse_plain (not (is_some (class_named library user name))) 13
+
 -- ---- the operations
 
 -- the user sheet that an Add, or a Replace of class c, would make
@@ -275,6 +287,13 @@ module _ (library user : List ℕ) (used : ℕ) where
   unfoldable pub query_refusal : ℕ → Option Refusal
   query_refusal c = first_of (present_refusal library user used ∷ unused_refusal library (take used user) c ∷ [])
 
+  -- Index and Lookup (document 02, C-17): "after 1 to 11 and 16 comes 12 .., then from the lookup 13"
+  unfoldable pub index_refusal : ℕ → Option Refusal
+  index_refusal places = first_of (present_refusal library user used ∷ few_places_refusal places ∷ [])
+
+  unfoldable pub lookup_refusal : List ℕ → ℕ → Option Refusal
+  lookup_refusal name places = first_of (present_refusal library user used ∷ few_places_refusal places ∷ no_name_refusal library (take used user) name ∷ [])
+
 -- ---- which numbers each operation can give: "Each occurs only as said"; document 02, C-12: "new numbers join the fifteen"
 
 -- those that blame a record, by its sheet and byte
@@ -303,3 +322,9 @@ withdraw_numbers = present_numbers ++ (12 ∷ 13 ∷ 17 ∷ [])
 
 unfoldable pub query_numbers : List ℕ
 query_numbers = present_numbers ++ (13 ∷ [])
+
+unfoldable pub index_numbers : List ℕ
+index_numbers = present_numbers ++ (12 ∷ [])
+
+unfoldable pub lookup_numbers : List ℕ
+lookup_numbers = present_numbers ++ (12 ∷ 13 ∷ [])

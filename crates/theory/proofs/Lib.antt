@@ -14,6 +14,7 @@ pub mod Capture
 pub mod CapturedOrder
 pub mod Listed
 pub mod Form
+pub mod Indexing
 pub mod Few
 pub mod Alike
 pub mod Slots

@@ -16,6 +16,7 @@ use Rattle.spec.specs.Sheet.{records_of, whole_end, class_count, total, group, L
 use Rattle.spec.specs.Refusals.{Refusal, refuse_if, refuse_plain, refuse_record, size_refusal, torn_refusal, record_tests, record_refusal, no_class_refusal, form_tests, deemed_tests, form_refusal}
 use Rattle.spec.specs.Refusals.{deemed_refusal, sheet_refusal, new_refusal, present_refusal, short_refusal, no_user_refusal, unused_refusal, group_refusal, room_refusal, added_sheet}
 use Rattle.spec.specs.Refusals.{replaced_sheet, empty_refusal, named_refusal, few_lines_refusal, judge_refusal, add_refusal, replace_refusal, withdraw_refusal, query_refusal}
+use Rattle.spec.specs.Refusals.{few_places_refusal, no_name_refusal, index_refusal, lookup_refusal, index_numbers, lookup_numbers}
 use Rattle.spec.specs.Refusals.{record_numbers, plain_numbers, present_numbers, judge_numbers, add_numbers, replace_numbers, withdraw_numbers, query_numbers}
 use Rattle.theory.specs.Claims.{sheet_of, Begins, Blames, size, torn, at, no_class, plain, BlamesEdit, present, made, Refuses, RefusalsHold}
 use Rattle.laws.proofs.All.{All, all_append, all_if, weaken, all_true}
@@ -230,7 +231,8 @@ module _ (numbers : List ℕ) (among : T (all (λ n. elem n numbers) present_num
 
 pub refusals_hold : RefusalsHold
 unfolding judge_refusal add_refusal replace_refusal withdraw_refusal query_refusal short_refusal no_user_refusal unused_refusal group_refusal room_refusal empty_refusal named_refusal
-    few_lines_refusal record_numbers plain_numbers present_numbers judge_numbers add_numbers replace_numbers withdraw_numbers query_numbers elem any all
+    few_lines_refusal record_numbers plain_numbers present_numbers judge_numbers add_numbers replace_numbers withdraw_numbers query_numbers index_refusal lookup_refusal
+    few_places_refusal no_name_refusal index_numbers lookup_numbers elem any all
 refusals_hold library user used =
     let now : List ℕ = take used user in
     record {
@@ -256,4 +258,9 @@ refusals_hold library user used =
           (plain_says library now withdraw_numbers _ 13 tt tt, (plain_says library now withdraw_numbers _ 17 tt tt, (plain_says library now withdraw_numbers _ 12 tt tt, tt)));
       query = λ c.
           refuses query_numbers tt library user used now (Blames library now) (λ r e h. h) (λ r e h. h.1) _ (plain_says library now query_numbers _ 13 tt tt, tt);
+      index = λ places.
+          refuses index_numbers tt library user used now (Blames library now) (λ r e h. h) (λ r e h. h.1) _ (plain_says library now index_numbers _ 12 tt tt, tt);
+      lookup = λ name places.
+          refuses lookup_numbers tt library user used now (Blames library now) (λ r e h. h) (λ r e h. h.1) _
+          (plain_says library now lookup_numbers _ 12 tt tt, (plain_says library now lookup_numbers _ 13 tt tt, tt));
     }

@@ -1,19 +1,21 @@
 -- What is claimed of the definitions, from acceptance alone. Each claim is proved in `proofs/`.
 -- Assumes nothing.
-use Rattle.std.specs.Prelude.{◌≡◌, ◌↔◌, ◌≢◌, ◌⊎◌, true, false, ℕ, zero, suc, ◌+◌, ◌≤◌, ◌<◌, T, eqb, length, get_or, take, drop}
+use Rattle.std.specs.Prelude.{◌≡◌, ◌↔◌, ◌≢◌, ◌⊎◌, true, false, ℕ, zero, suc, ◌+◌, ◌≤◌, ◌<◌, ◌%◌, T, Some, false, eqb, length, get_or, take, drop}
 use mathlib.Core.List.{List, [], ◌∷◌, Memᴰ}
 use Rattle.std.proofs.Math.Option.{Option, none, some}
 use Rattle.spec.specs.Lists.{concat, elem, reach}
-use Rattle.spec.specs.Record.{FIELD, is_kind, is_static, field_ty}
-use Rattle.spec.specs.Sheet.{Group, records_of, whole_end, groups_of, class_count, group_start, total, group}
+use Rattle.spec.specs.Record.{none16, FIELD, is_kind, is_static, field_ty}
+use Rattle.spec.specs.Sheet.{Group, records_of, whole_end, groups_of, class_count, group_start, total, group, class_record}
 use Rattle.spec.specs.Markers.{Token}
 use Rattle.spec.specs.Classes.{has_marker, inside, lineage, root, builds_inside, captured}
 use Rattle.spec.specs.Rules.{Verdict, clean, dependencies}
 use Rattle.spec.specs.Relations.{At, Before, Rising, Superclass, Encloser, Implements, References, Depends, Marked, Lineage, Root, Inside, Chain, Captures}
 use Rattle.spec.specs.Breaks.{Not, Flag, Breaks}
 use Rattle.spec.specs.Refusals.{Refusal, Accepted, added_sheet, replaced_sheet, withdrawn_sheet, last_class, record_numbers, plain_numbers, judge_numbers, add_numbers, replace_numbers}
-use Rattle.spec.specs.Refusals.{withdraw_numbers, query_numbers, judge_refusal, add_refusal, replace_refusal, withdraw_refusal, query_refusal, sheet_refusal, new_refusal, present_refusal}
-use Rattle.spec.specs.Refusals.{empty_refusal, named_refusal, whole_group}
+use Rattle.spec.specs.Refusals.{withdraw_numbers, query_numbers, index_numbers, lookup_numbers, judge_refusal, add_refusal, replace_refusal, withdraw_refusal}
+use Rattle.spec.specs.Refusals.{query_refusal, index_refusal, lookup_refusal, sheet_refusal, new_refusal, present_refusal}
+use Rattle.spec.specs.Refusals.{empty_refusal, named_refusal, whole_group, record_refusal, torn_refusal, no_class_refusal, name_met}
+use Rattle.spec.specs.Index.{index_places, home, name_of, found_in, met_through, names_index, class_named}
 use Rattle.spec.specs.Verdicts.{verdict_at}
 
 -- ---- the computed definitions are document 01's relations
@@ -149,6 +151,8 @@ pub record Refusals (library user : List ℕ) (used : ℕ) : Type 0 where
       → Refuses replace_numbers (BlamesEdit library user used (replaced_sheet library (take used user) c g)) (replace_refusal library user used c g lines scratch)
   pub withdraw : (lines : ℕ) → Refuses withdraw_numbers (Blames library (take used user)) (withdraw_refusal library user used lines)
   pub query : (c : ℕ) → Refuses query_numbers (Blames library (take used user)) (query_refusal library user used c)
+  pub index : (places : ℕ) → Refuses index_numbers (Blames library (take used user)) (index_refusal library user used places)
+  pub lookup : (name : List ℕ) (places : ℕ) → Refuses lookup_numbers (Blames library (take used user)) (lookup_refusal library user used name places)
 
 abbrev pub RefusalsHold : Type 0
 RefusalsHold = (library user : List ℕ) (used : ℕ) → Refusals library user used
@@ -210,3 +214,54 @@ pub record Carried (user : List ℕ) (used : ℕ) : Type 0 where
 
 abbrev pub RunningHolds : Type 0
 RunningHolds = (library user : List ℕ) (used : ℕ) → present_refusal library user used ≡ none → Carried (take used user) used
+
+-- ---- document 02, C-17: the index of class names, over sheets with equal names too
+
+-- each of 512 places is empty or holds one of n classes
+pub record Held (n : ℕ) (row : List ℕ) : Type 0 where
+  pub long : length row ≡ index_places
+  pub holds : (p : ℕ) → (get_or row p none16 ≡ none16) ⊎ (get_or row p none16 < n)
+
+-- so many steps from the home of class c, "going round"
+abbrev pub at_step : (ℕ → Group) → ℕ → ℕ → ℕ
+at_step g c i = (home (name_of g c) + i) % index_places
+
+-- class c stands some steps from its home, and nowhere else; from its home up to there lower classes stand
+pub record Stands (g : ℕ → Group) (row : List ℕ) (c : ℕ) : Type 0 where
+  pub steps : ℕ
+  pub few : steps < index_places
+  pub holds : get_or row (at_step g c steps) none16 ≡ c
+  pub only : (p : ℕ) → get_or row p none16 ≡ c → p ≡ at_step g c steps
+  pub lower : (i : ℕ) → i < steps → get_or row (at_step g c i) none16 < c
+
+-- each of n classes stands so, and the row holds nothing else
+pub record Placed (g : ℕ → Group) (n : ℕ) (row : List ℕ) : Type 0 where
+  pub held : Held n row
+  pub each : (c : ℕ) → c < n → Stands g row c
+
+pub record NamesAgree (library user : List ℕ) : Type 0 where
+  pub placed : Placed (group library user) (total library user) (names_index library user)
+  -- "a new lookup .. finds it whenever it is there": as the walk does, whatever the name
+  pub found : (name : List ℕ) → found_in (group library user) (names_index library user) name ≡ class_named library user name
+  -- "The duplicate test through the index must agree with the walk"
+  pub duplicates : (c : ℕ) → c < total library user → met_through (group library user) c ≡ name_met (group library user) c (class_record (group library user c))
+  -- so of the whole index too: a class is found by its own name exactly if the name was not met before it
+  pub own : (c : ℕ) → c < total library user → let g = group library user in
+      (found_in g (names_index library user) (name_of g c) ≡ Some c) ↔ (name_met g c (class_record (g c)) ≡ false)
+
+-- the sheets pass the first pass: 2 to 7 and 16
+pub record FirstPassed (library user : List ℕ) : Type 0 where
+  pub library_records : record_refusal 0 0 library ≡ none
+  pub library_whole : torn_refusal 0 library ≡ none
+  pub library_some : no_class_refusal library ≡ none
+  pub user_records : record_refusal 1 (class_count library) user ≡ none
+  pub user_whole : torn_refusal 1 user ≡ none
+
+abbrev pub IndexAgrees : Type 0
+IndexAgrees = (library user : List ℕ) → FirstPassed library user → NamesAgree library user
+
+-- and in accepted sheets the name of each class is found as that class
+abbrev pub LookupFinds : Type 0
+LookupFinds =
+    (library user : List ℕ) (used : ℕ) → Accepted library user used → (c : ℕ) → c < total library (take used user)
+    → let g = group library (take used user) in found_in g (names_index library (take used user)) (name_of g c) ≡ Some c

@@ -94,6 +94,10 @@ fn time_others(family: &Family, full: Option<f64>) {
     print_row(family, "withdraw", times, None);
     let times = measure(|verifier| operations::canonical(verifier, family));
     print_row(family, "canonical", times, full);
+    let times = measure(|verifier| operations::index(verifier, family));
+    print_row(family, "index", times, full);
+    let times = measure(|verifier| operations::lookup(verifier, family));
+    print_row(family, "lookup", times, full);
     let times = measure(|verifier| operations::name(verifier, family));
     print_row(family, "name", times, None);
     let times = measure(|verifier| operations::marks(verifier, family));

@@ -2,7 +2,7 @@
 
 use std::time::Duration;
 
-use calls::{own_group, Desk, Verifier};
+use calls::{last_name, own_group, Desk, Verifier};
 use sheets::Family;
 
 use crate::measure::timed;
@@ -37,6 +37,18 @@ pub fn withdraw<'a>(verifier: &'a Verifier, family: &'a Family) -> Calls<'a> {
 pub fn canonical<'a>(verifier: &'a Verifier, family: &'a Family) -> Calls<'a> {
     let mut desk = Desk::judged(verifier, family);
     repeated(move || desk.canonical())
+}
+
+pub fn index<'a>(verifier: &'a Verifier, family: &'a Family) -> Calls<'a> {
+    let mut desk = Desk::judged(verifier, family);
+    repeated(move || desk.index())
+}
+
+/// Looks for the last class's name.
+pub fn lookup<'a>(verifier: &'a Verifier, family: &'a Family) -> Calls<'a> {
+    let mut desk = Desk::judged(verifier, family);
+    let name = last_name(family);
+    repeated(move || desk.lookup(name))
 }
 
 /// Asks for the last class.

@@ -1,6 +1,6 @@
 //! What the calls of one verifier borrow.
 
-use kerdzhusi::{SCRATCH_BYTES, VERDICT_BYTES};
+use kerdzhusi::{INDEX_PLACES, SCRATCH_BYTES, VERDICT_BYTES};
 use sheets::build::CLASS_LIMIT;
 use sheets::Family;
 
@@ -18,6 +18,7 @@ pub struct Desk<'a> {
     scratch: Vec<u8>,
     /// As long as the user sheet, so that its canonical form fits.
     out: Vec<u8>,
+    places: [u16; INDEX_PLACES],
 }
 
 impl<'a> Desk<'a> {
@@ -54,6 +55,7 @@ impl<'a> Desk<'a> {
             verdicts,
             scratch,
             out: vec![0; used],
+            places: [0; INDEX_PLACES],
         }
     }
 
@@ -120,6 +122,25 @@ impl<'a> Desk<'a> {
             &self.user,
             self.used,
             &mut self.out,
+        ));
+    }
+
+    pub fn index(&mut self) {
+        accepted((self.verifier.index)(
+            self.library,
+            &self.user,
+            self.used,
+            &mut self.places,
+        ));
+    }
+
+    pub fn lookup(&mut self, name: &[u8]) {
+        accepted((self.verifier.lookup)(
+            self.library,
+            &self.user,
+            self.used,
+            name,
+            &mut self.places,
         ));
     }
 

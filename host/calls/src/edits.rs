@@ -3,7 +3,7 @@
 use kerdzhusi::{SCRATCH_BYTES, VERDICT_BYTES};
 use sheets::build::CLASS_LIMIT;
 use sheets::kinds::{BUILDS, FIELD, LOCAL};
-use sheets::{groups, kind, number, records, Family};
+use sheets::{class_name, groups, kind, number, records, Family};
 
 /// The user sheet without its last class, and that class's group. Only types and BUILDS of lower
 /// classes can name it; they name their own class instead.
@@ -41,6 +41,11 @@ fn renamed(record: &[u8], old: u16, new: u16) -> Vec<u8> {
 pub fn own_group(family: &Family, class: usize) -> &[u8] {
     let present = groups(&family.user);
     present[class - (family.classes - present.len())]
+}
+
+/// The name of the last class.
+pub fn last_name(family: &Family) -> &[u8] {
+    class_name(own_group(family, family.classes - 1))
 }
 
 /// The user class that the most classes depend on, and how many do.

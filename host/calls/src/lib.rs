@@ -5,5 +5,5 @@ mod edits;
 mod verifier;
 
 pub use desk::Desk;
-pub use edits::{most_needed, own_group};
+pub use edits::{last_name, most_needed, own_group};
 pub use verifier::{Verifier, KERDZHUSI, REFERENCE};

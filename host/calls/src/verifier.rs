@@ -7,7 +7,10 @@ pub type Replace = fn(&[u8], &mut [u8], &mut usize, usize, &[u8], &mut [u8], &mu
 pub type Withdraw = fn(&[u8], &mut [u8], &mut usize, &mut [u8]) -> bool;
 /// The output comes last.
 pub type Canonical = fn(&[u8], &[u8], usize, &mut [u8]) -> bool;
-pub type LookUp = fn(&[u8], &[u8], usize, usize) -> bool;
+/// The places come last.
+pub type Index = fn(&[u8], &[u8], usize, &mut [u16]) -> bool;
+pub type Lookup = fn(&[u8], &[u8], usize, &[u8], &mut [u16]) -> bool;
+pub type OfClass = fn(&[u8], &[u8], usize, usize) -> bool;
 
 pub struct Verifier {
     pub judge: Judge,
@@ -15,8 +18,10 @@ pub struct Verifier {
     pub replace: Replace,
     pub withdraw: Withdraw,
     pub canonical: Canonical,
-    pub name: LookUp,
-    pub marks: LookUp,
+    pub index: Index,
+    pub lookup: Lookup,
+    pub name: OfClass,
+    pub marks: OfClass,
 }
 
 macro_rules! verifier {
@@ -36,6 +41,10 @@ macro_rules! verifier {
             },
             canonical: |library, user, used, out| {
                 $name::canonical(library, user, used, out).is_ok()
+            },
+            index: |library, user, used, places| $name::index(library, user, used, places).is_ok(),
+            lookup: |library, user, used, name, places| {
+                $name::lookup(library, user, used, name, places).is_ok()
             },
             name: |library, user, used, class| $name::name(library, user, used, class).is_ok(),
             marks: |library, user, used, class| $name::marks(library, user, used, class).is_ok(),

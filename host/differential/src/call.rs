@@ -14,17 +14,21 @@ pub enum Call {
     Replace(usize),
     Withdraw,
     Canonical,
+    Index,
+    Lookup,
     Name(usize),
     Marks(usize),
 }
 
 /// The operations, in the order of their numbers.
-pub const OPERATIONS: [&str; 7] = [
+pub const OPERATIONS: [&str; 9] = [
     "judge",
     "add",
     "replace",
     "withdraw",
     "canonical",
+    "index",
+    "lookup",
     "name",
     "marks",
 ];
@@ -45,8 +49,10 @@ impl Call {
             Call::Replace(_) => 2,
             Call::Withdraw => 3,
             Call::Canonical => 4,
-            Call::Name(_) => 5,
-            Call::Marks(_) => 6,
+            Call::Index => 5,
+            Call::Lookup => 6,
+            Call::Name(_) => 7,
+            Call::Marks(_) => 8,
         }
     }
 }
@@ -121,6 +127,8 @@ macro_rules! answer {
             verdicts,
             scratch,
             out,
+            name,
+            places,
         } = $side;
         let (library, group) = (library.part(), group.part());
         let (verdicts, scratch) = (verdicts.part_mut(), scratch.part_mut());
@@ -142,6 +150,13 @@ macro_rules! answer {
             }
             Call::Canonical => {
                 $verifier::canonical(library, user.part(), *used, out.part_mut()).map(Value::from)
+            }
+            Call::Index => {
+                $verifier::index(library, user.part(), *used, places.part_mut()).map(Value::from)
+            }
+            Call::Lookup => {
+                let (user, name, places) = (user.part(), name.part(), places.part_mut());
+                $verifier::lookup(library, user, *used, name, places).map(Value::from)
             }
             Call::Name(class) => {
                 $verifier::name(library, user.part(), *used, class).map(Value::from)

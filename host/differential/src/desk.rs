@@ -1,6 +1,6 @@
 //! The two verifiers side by side: equal bytes before each call, and after it.
 
-use kerdzhusi::{SCRATCH_BYTES, VERDICT_BYTES};
+use kerdzhusi::{INDEX_PLACES, SCRATCH_BYTES, VERDICT_BYTES};
 
 use crate::addition::Addition;
 use crate::call::{ask_kerdzhusi, ask_reference, Answer, Call, Value};
@@ -51,6 +51,15 @@ impl Desk {
         change(&mut self.theirs);
     }
 
+    /// Lends the sheets that another side has.
+    pub fn lend_sheets(&mut self, sheets: &Side) {
+        self.change(|side| {
+            side.library.copy(&sheets.library);
+            side.user.copy(&sheets.user);
+            side.used = sheets.used;
+        });
+    }
+
     /// Makes a call of both and compares answers and bytes; after a change of the sheets, also
     /// with a judging from nothing.
     pub fn call(&mut self, call: Call) -> Result<Answer, Box<Difference>> {
@@ -81,6 +90,7 @@ impl Desk {
                 self.require_row_kept(classes)?;
             }
             (Call::Canonical, Ok(Value::Number(length))) => self.require_written(length)?,
+            (Call::Index | Call::Lookup, _) => self.require_places_kept()?,
             _ if call.changes_sheets() => self.judge_from_nothing(call)?,
             _ => {}
         }
@@ -120,6 +130,16 @@ impl Desk {
             Err(format!(
                 "of the output more than {length} bytes are written"
             ))
+        }
+    }
+
+    /// A row of places holds what it held past those of the index.
+    fn require_places_kept(&self) -> Result<(), String> {
+        let (row, before) = (&self.ours.places, &self.before.places);
+        if row.keeps_all_but(INDEX_PLACES, before) {
+            Ok(())
+        } else {
+            Err("a place past the index is written".to_string())
         }
     }
 

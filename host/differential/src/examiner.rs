@@ -35,7 +35,7 @@ impl<'a> Examiner<'a> {
 
     /// Has both write the form of accepted sheets, with enough room for it.
     pub fn write(&mut self, random: &mut Random, sheets: &Side, forms: &mut Forms) -> Checked<()> {
-        self.lend_sheets(sheets);
+        self.desk.lend_sheets(sheets);
         let more = random.pick(&[0, 1, 40]);
         self.lend_output(random, sheets.used + more);
         match self.desk.call(Call::Canonical)? {
@@ -57,7 +57,7 @@ impl<'a> Examiner<'a> {
         form: &[u8],
         forms: &mut Forms,
     ) -> Checked<()> {
-        self.lend_sheets(sheets);
+        self.desk.lend_sheets(sheets);
         let user = sheets.user_sheet();
         forms.examined += 1;
         if form != user {
@@ -110,14 +110,6 @@ impl<'a> Examiner<'a> {
 
     fn differs(&self, what: String) -> Box<Difference> {
         self.desk.difference(Call::Canonical, what)
-    }
-
-    fn lend_sheets(&mut self, sheets: &Side) {
-        self.desk.change(|side| {
-            side.library.copy(&sheets.library);
-            side.user.copy(&sheets.user);
-            side.used = sheets.used;
-        });
     }
 
     fn lend_user(&mut self, random: &mut Random, sheet: &[u8]) {

@@ -1,6 +1,6 @@
 //! A history: two sheets, and calls upon them of any sort, good and bad ones in turn.
 
-use kerdzhusi::{SCRATCH_BYTES, SHEET_BYTES, VERDICT_BYTES};
+use kerdzhusi::{INDEX_PLACES, SCRATCH_BYTES, SHEET_BYTES, VERDICT_BYTES};
 use sheets::{
     broken_group, damage, edited_group, fitting_group, groups, random_group, varied_pair, Random,
 };
@@ -8,9 +8,11 @@ use sheets::{
 use crate::call::{Answer, Call, Value};
 use crate::desk::{Desk, Difference};
 use crate::examiner::Examiner;
-use crate::forms::{form_length, Forms};
+use crate::forms::form_length;
 use crate::lent::Side;
-use crate::stock::Stock;
+use crate::names::{class_names, ABSENT};
+use crate::searcher::Searcher;
+use crate::stock::{Stock, MOST_PLACES};
 use crate::tally::Tally;
 
 /// Verdicts that a row has room for: one more than there can be classes.
@@ -26,8 +28,14 @@ pub struct History<'a> {
     desk: Desk,
     /// Were the sheets accepted so far?
     sound: bool,
-    /// Is their canonical form still to be written?
+    /// Is their canonical form still to be written, and are their names still to be looked up?
     fresh: bool,
+}
+
+/// Those who look at accepted sheets.
+pub struct Experts<'a> {
+    pub examiner: Examiner<'a>,
+    pub searcher: Searcher<'a>,
 }
 
 /// How many classes there are.
@@ -52,38 +60,36 @@ impl<'a> History<'a> {
     }
 
     /// Makes all calls of the history.
-    pub fn run(
-        &mut self,
-        examiner: &mut Examiner,
-        tally: &mut Tally,
-    ) -> Result<(), Box<Difference>> {
+    pub fn run(&mut self, experts: &mut Experts, tally: &mut Tally) -> Result<(), Box<Difference>> {
         for _ in 0..self.draw_length() {
             let (call, answer) = self.step()?;
             tally.count(call, answer, self.desk.side());
             tally.undone += self.desk.undone as u64;
-            self.look_at_form(call, answer, examiner, &mut tally.forms)?;
+            self.look_at_sheets(call, answer, experts, tally)?;
         }
         Ok(())
     }
 
-    /// Has the form of each pair of sheets that is accepted written, and looks closely at those
-    /// that a call wrote.
-    fn look_at_form(
+    /// Has the form of each pair of sheets that is accepted written and names looked up in it, and
+    /// looks closely at the forms that a call wrote.
+    fn look_at_sheets(
         &mut self,
         call: Call,
         answer: Answer,
-        examiner: &mut Examiner,
-        forms: &mut Forms,
+        experts: &mut Experts,
+        tally: &mut Tally,
     ) -> Result<(), Box<Difference>> {
         let (random, sheets) = (&mut self.random, self.desk.side());
+        let Experts { examiner, searcher } = experts;
         if answer.0.is_ok() && self.fresh {
             self.fresh = false;
-            examiner.write(random, sheets, forms)?;
+            examiner.write(random, sheets, &mut tally.forms)?;
+            searcher.search(random, sheets, &mut tally.searches)?;
         }
         match (call, answer.0) {
             (Call::Canonical, Ok(Value::Number(length))) => {
                 let form = &sheets.out.part()[..length];
-                examiner.examine(random, sheets, form, forms)
+                examiner.examine(random, sheets, form, &mut tally.forms)
             }
             _ => Ok(()),
         }
@@ -144,18 +150,23 @@ impl<'a> History<'a> {
         }
         match self.random.below(100) {
             0..=10 => Call::Judge,
-            11..=32 => {
+            11..=31 => {
                 self.draw_group(&classes, classes.all);
                 Call::Add
             }
-            33..=67 => {
+            32..=64 => {
                 let class = self.draw_user_class(&classes);
                 self.draw_group(&classes, class);
                 Call::Replace(class)
             }
-            68..=75 => Call::Withdraw,
-            76..=82 => Call::Canonical,
-            83..=91 => Call::Name(self.draw_class(&classes)),
+            65..=72 => Call::Withdraw,
+            73..=79 => Call::Canonical,
+            80..=84 => Call::Index,
+            85..=90 => {
+                self.draw_name();
+                Call::Lookup
+            }
+            91..=95 => Call::Name(self.draw_class(&classes)),
             _ => Call::Marks(self.draw_class(&classes)),
         }
     }
@@ -179,6 +190,20 @@ impl<'a> History<'a> {
         }
         let lower = self.random.below(users).min(self.random.below(users));
         classes.library + lower
+    }
+
+    /// Lends the name of a class, mostly.
+    fn draw_name(&mut self) {
+        let (random, names) = (&mut self.random, class_names(self.desk.side()));
+        let class = random.below(names.len().max(1));
+        let name = names.get(class).copied().unwrap_or_default();
+        let name = if random.percent(40) {
+            random.pick(&ABSENT).0.draw(random, name)
+        } else {
+            name.to_vec()
+        };
+        let lent = self.stock.lend(random, &name);
+        self.desk.change(|side| side.name.copy(&lent));
     }
 
     /// Lends a group for a class, or for the one after the last.
@@ -233,6 +258,7 @@ impl<'a> History<'a> {
         match call {
             Call::Judge | Call::Add | Call::Replace(_) => self.lend_scratch(),
             Call::Canonical => self.lend_output(),
+            Call::Index | Call::Lookup => self.lend_places(),
             _ => {}
         }
     }
@@ -264,6 +290,24 @@ impl<'a> History<'a> {
         let junk = self.stock.bytes(random, length);
         let lent = self.stock.lend(random, junk);
         self.desk.change(|side| side.out.copy(&lent));
+    }
+
+    /// Noise to write over, or what the last call left; mostly long enough.
+    fn lend_places(&mut self) {
+        let random = &mut self.random;
+        let length = match random.below(8) {
+            0 => random.pick(&[0, INDEX_PLACES - 1]),
+            1..=4 => INDEX_PLACES,
+            _ => MOST_PLACES,
+        };
+        let noise = self.stock.noise(random);
+        let kept = random.percent(25);
+        self.desk.change(|side| {
+            side.places.lend(length);
+            if !kept {
+                side.places.overwrite(noise);
+            }
+        });
     }
 
     /// Enough for the verdicts, mostly, or some bytes short of one; often with bytes at the end that
@@ -392,6 +436,8 @@ fn lay_out(random: &mut Random, stock: &Stock, library: &[u8], user: &[u8]) -> S
         verdicts: stock.lend(random, &row),
         scratch: stock.lend(random, &scratch),
         out: stock.lend(random, &[]),
+        name: stock.lend(random, &[]),
+        places: stock.lend_places(random),
     }
 }
 

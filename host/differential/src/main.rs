@@ -12,7 +12,10 @@ mod examiner;
 mod forms;
 mod history;
 mod lent;
+mod names;
 mod report;
+mod searcher;
+mod searches;
 mod sites;
 mod stock;
 mod tally;
@@ -26,7 +29,8 @@ use std::time::Instant;
 use std::{env, thread};
 
 use examiner::Examiner;
-use history::History;
+use history::{Experts, History};
+use searcher::Searcher;
 use stock::Stock;
 use tally::Tally;
 
@@ -105,21 +109,24 @@ impl Work {
     /// Runs one history after the other until none is left.
     fn take(&self) -> Option<Tally> {
         let mut tally = Tally::new();
-        let mut examiner = Examiner::new(&self.stock);
+        let mut experts = Experts {
+            examiner: Examiner::new(&self.stock),
+            searcher: Searcher::new(&self.stock),
+        };
         loop {
             let number = self.next.fetch_add(1, Ordering::Relaxed);
             if number >= self.end {
                 return Some(tally);
             }
-            if !self.run(number, &mut examiner, &mut tally) {
+            if !self.run(number, &mut experts, &mut tally) {
                 self.next.store(self.end, Ordering::Relaxed);
                 return None;
             }
         }
     }
 
-    fn run(&self, number: u64, examiner: &mut Examiner, tally: &mut Tally) -> bool {
-        let history = || History::new(self.seed, number, &self.stock).run(examiner, tally);
+    fn run(&self, number: u64, experts: &mut Experts, tally: &mut Tally) -> bool {
+        let history = || History::new(self.seed, number, &self.stock).run(experts, tally);
         match catch_unwind(AssertUnwindSafe(history)) {
             Ok(Ok(())) => true,
             Ok(Err(difference)) => {

@@ -22,7 +22,8 @@ fn describe(seed: u64, history: u64, difference: &Difference) -> String {
     format!(
         "difference: seed {seed}, history {history}\n\
          call {call:?}: {what}\n\
-         lengths: library {}, user {}, used {}, group {}, verdicts {}, scratch {}, output {}\n\
+         lengths: library {}, user {}, used {}, group {}, verdicts {}, scratch {}, output {}, \
+         name {}, places {}\n\
          again: cargo run --release -p differential -- {seed} {history}\n",
         before.library.part().len(),
         before.user.part().len(),
@@ -31,6 +32,8 @@ fn describe(seed: u64, history: u64, difference: &Difference) -> String {
         before.verdicts.part().len(),
         before.scratch.part().len(),
         before.out.part().len(),
+        before.name.part().len(),
+        before.places.part().len(),
     )
 }
 
@@ -44,5 +47,12 @@ fn keep(place: &Path, text: &str, difference: &Difference) -> io::Result<()> {
     fs::write(place.join("group.bytes"), before.group.part())?;
     fs::write(place.join("verdicts.bytes"), before.verdicts.part())?;
     fs::write(place.join("scratch.bytes"), before.scratch.part())?;
-    fs::write(place.join("output.bytes"), before.out.part())
+    fs::write(place.join("output.bytes"), before.out.part())?;
+    fs::write(place.join("name.bytes"), before.name.part())?;
+    let places = before
+        .places
+        .part()
+        .iter()
+        .flat_map(|place| place.to_le_bytes());
+    fs::write(place.join("places.numbers"), places.collect::<Vec<_>>())
 }

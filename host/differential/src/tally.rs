@@ -3,13 +3,15 @@
 use std::fmt;
 use std::ops::Range;
 
-use kerdzhusi::{verdicts, Refusal, VERDICT_BYTES};
+use kerdzhusi::{verdicts, Refusal, INDEX_PLACES, VERDICT_BYTES};
 use sheets::build::{FINAL, IMMUTABLE, POWERLESS};
 use sheets::{groups, number, records};
 
 use crate::call::{Answer, Call, Value, OPERATIONS};
 use crate::forms::{form_length, Forms};
 use crate::lent::Side;
+use crate::names::class_names;
+use crate::searches::Searches;
 use crate::sites::Sites;
 
 /// The numbers of refusals.
@@ -41,6 +43,16 @@ const ROWS: [&str; 4] = [
     "rows one byte shorter than their verdicts",
 ];
 
+/// What C-17 is about, beside searches: rows that were lent for an index. The first three are
+/// refused, the third one for a name that is not there.
+const PLACES: [&str; 5] = [
+    "no places for an index",
+    "rows one place shorter than an index",
+    "too few places for a name that is not there",
+    "rows of places as long as an index",
+    "rows of places longer than an index",
+];
+
 const LEAST_CALLS: u64 = 1_000_000;
 const LEAST_ACCEPTED_IN_100: u64 = 30;
 const LEAST_OF_A_REFUSAL: u64 = 1_000;
@@ -52,6 +64,7 @@ const LEAST_WITHDRAWALS: u64 = 10_000;
 const LEAST_UNDONE: u64 = 10_000;
 const LEAST_OF_AN_OUTPUT: u64 = 1_000;
 const LEAST_OF_A_ROW: u64 = 1_000;
+const LEAST_OF_PLACES: u64 = 500;
 
 pub struct Tally {
     /// By operation, then by refusal, 0 for accepted calls.
@@ -73,6 +86,9 @@ pub struct Tally {
     /// Outputs that were lent for canonical forms, by length.
     outputs: [u64; OUTPUTS.len()],
     pub forms: Forms,
+    /// Rows that were lent for an index, by length.
+    places: [u64; PLACES.len()],
+    pub searches: Searches,
 }
 
 impl Tally {
@@ -89,6 +105,8 @@ impl Tally {
             own_markers: [0; 256],
             outputs: [0; OUTPUTS.len()],
             forms: Forms::default(),
+            places: [0; PLACES.len()],
+            searches: Searches::default(),
         }
     }
 
@@ -104,6 +122,7 @@ impl Tally {
                 self.out_of_order[sheet as usize] += 1;
             }
             (Call::Canonical, answer) => self.count_output(answer, after),
+            (Call::Index | Call::Lookup, _) => self.count_places(call, number, after),
             (Call::Judge, Ok(Value::Counts { classes, .. })) => self.count_verdicts(after, classes),
             (Call::Replace(_), Ok(Value::Number(SEVERAL..))) => self.with_several += 1,
             _ => {}
@@ -147,6 +166,22 @@ impl Tally {
         self.outputs[output] += 1;
     }
 
+    fn count_places(&mut self, call: Call, refusal: usize, after: &Side) {
+        let places = after.places.part().len();
+        let met = match (refusal, places) {
+            (12, 0) => 0,
+            (12, _) => 1,
+            (0, INDEX_PLACES) => 3,
+            (0, _) => 4,
+            _ => return,
+        };
+        self.places[met] += 1;
+        let is_absent = || !class_names(after).contains(&after.name.part());
+        if call == Call::Lookup && refusal == 12 && is_absent() {
+            self.places[2] += 1;
+        }
+    }
+
     pub fn add(&mut self, other: &Tally) {
         add_rows(
             self.answers.as_flattened_mut(),
@@ -162,6 +197,8 @@ impl Tally {
         self.undone += other.undone;
         add_rows(&mut self.outputs, &other.outputs);
         self.forms.add(&other.forms);
+        add_rows(&mut self.places, &other.places);
+        self.searches.add(&other.searches);
     }
 
     pub fn calls(&self) -> u64 {
@@ -195,6 +232,10 @@ impl Tally {
             require(output.to_string(), met, LEAST_OF_AN_OUTPUT);
         }
         self.forms.require(&mut require);
+        for (row, met) in PLACES.iter().zip(self.places) {
+            require(row.to_string(), met, LEAST_OF_PLACES);
+        }
+        self.searches.require(&mut require);
         short
     }
 
@@ -259,6 +300,8 @@ fn refusals_of(operation: &str) -> impl Iterator<Item = usize> {
         "replace" => &[12, 13, 14, 15],
         "withdraw" => &[12, 13, 17],
         "canonical" => &[15],
+        "index" => &[12],
+        "lookup" => &[12, 13],
         _ => &[13],
     };
     (1..=11).chain([OUT_OF_ORDER]).chain(more.iter().copied())
@@ -278,6 +321,7 @@ impl fmt::Display for Tally {
         writeln!(f)?;
         writeln!(f, "{}", self.sites)?;
         writeln!(f, "{}", self.forms)?;
+        writeln!(f, "{}", self.searches)?;
         let (calls, accepted) = (self.calls(), self.accepted_in_100());
         writeln!(f, "calls {calls}, {accepted} in 100 accepted")?;
         let several = self.with_several;
@@ -295,6 +339,9 @@ impl fmt::Display for Tally {
             writeln!(f, "{output} {met}")?;
         }
         for (row, met) in ROWS.iter().zip(self.rows) {
+            writeln!(f, "{row} {met}")?;
+        }
+        for (row, met) in PLACES.iter().zip(self.places) {
             writeln!(f, "{row} {met}")?;
         }
         Ok(())

@@ -11,12 +11,14 @@ const CASES: &str = include_str!("../worked_cases.txt");
 const UNTOUCHED: u8 = 0x77;
 /// In each byte of an output before the call.
 const UNWRITTEN: u8 = 0xEE;
+/// In each place of a row before the call.
+const UNTAKEN: u16 = 4242;
 
 #[test]
 fn worked_cases() {
     let blocks = CASES.split("\n\n");
     let cases: Vec<_> = blocks.filter(|block| block.contains("\n= ")).collect();
-    assert_eq!(cases.len(), 31);
+    assert_eq!(cases.len(), 35);
     for case in cases {
         let (expected, given): (Vec<&str>, Vec<&str>) =
             case.lines().partition(|line| line.starts_with("= "));
@@ -71,29 +73,39 @@ impl Run {
     }
 
     fn call(&mut self, word: &str, rest: &str) -> Vec<String> {
-        let (call, group) = match word {
-            "judge" => (Call::Judge, ""),
-            "add" => (Call::Add, rest),
+        let mut desk = self.desk.take().unwrap_or_else(|| Desk::new(self.side()));
+        let call = match word {
+            "judge" => Call::Judge,
+            "add" => {
+                desk.change(|side| side.group = lent(&hex(rest)));
+                Call::Add
+            }
             "replace" => {
                 let (class, group) = rest.split_once(' ').expect("a class and a group");
-                (Call::Replace(number(class)), group)
+                desk.change(|side| side.group = lent(&hex(group)));
+                Call::Replace(number(class))
             }
-            "withdraw" => (Call::Withdraw, ""),
-            "tidy" => (Call::Canonical, ""),
-            "name" => (Call::Name(number(rest)), ""),
-            "marks" => (Call::Marks(number(rest)), ""),
+            "withdraw" => Call::Withdraw,
+            "tidy" => {
+                desk.change(|side| side.out = lent(&vec![UNWRITTEN; number(rest)]));
+                Call::Canonical
+            }
+            "index" => {
+                desk.change(|side| side.places = lent_places(number(rest)));
+                Call::Index
+            }
+            "lookup" => {
+                let (name, places) = rest.split_once(' ').expect("a name and a length");
+                desk.change(|side| {
+                    side.name = lent(&hex(name));
+                    side.places = lent_places(number(places));
+                });
+                Call::Lookup
+            }
+            "name" => Call::Name(number(rest)),
+            "marks" => Call::Marks(number(rest)),
             _ => panic!("no call: {word} {rest}"),
         };
-        let mut desk = self.desk.take().unwrap_or_else(|| Desk::new(self.side()));
-        let room = if call == Call::Canonical {
-            number(rest)
-        } else {
-            0
-        };
-        desk.change(|side| {
-            side.group = lent(&hex(group));
-            side.out = lent(&vec![UNWRITTEN; room]);
-        });
         let answer = desk.call(call);
         let answer = answer.unwrap_or_else(|difference| panic!("{}", difference.what));
         let mut found = vec![format!("= {}", shown(answer))];
@@ -101,7 +113,10 @@ impl Run {
             Call::Canonical if answer.0.is_ok() => {
                 found[0] += &format!(" {}", digits(desk.side().out.part()));
             }
-            Call::Canonical | Call::Name(_) | Call::Marks(_) => {}
+            Call::Index | Call::Lookup if answer.0.is_ok() => {
+                found[0] += &format!(" {}", row(desk.side().places.part()));
+            }
+            Call::Canonical | Call::Index | Call::Lookup | Call::Name(_) | Call::Marks(_) => {}
             _ => found.push(format!("= state {}", state(desk.side()))),
         }
         self.desk = Some(desk);
@@ -117,12 +132,18 @@ impl Run {
             verdicts: lent(&vec![UNTOUCHED; self.lines * VERDICT_BYTES]),
             scratch: lent(&vec![UNTOUCHED; self.scratch]),
             out: lent(&[]),
+            name: lent(&[]),
+            places: lent_places(0),
         }
     }
 }
 
 fn lent(content: &[u8]) -> Lent {
     Lent::new(content, &[UNTOUCHED; 8], 4)
+}
+
+fn lent_places(length: usize) -> Lent<u16> {
+    Lent::new(&vec![UNTAKEN; length], &[UNTAKEN; 8], 4)
 }
 
 fn shown(answer: Answer) -> String {
@@ -152,6 +173,12 @@ fn digits(bytes: &[u8]) -> String {
         return "-".to_string();
     }
     bytes.iter().map(|byte| format!("{byte:02x}")).collect()
+}
+
+/// The numbers between commas.
+fn row(places: &[u16]) -> String {
+    let numbers: Vec<_> = places.iter().map(u16::to_string).collect();
+    numbers.join(",")
 }
 
 fn number(text: &str) -> usize {

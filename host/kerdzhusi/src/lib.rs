@@ -12,6 +12,8 @@ pub const VERDICT_BYTES: usize = 3;
 pub const SCRATCH_BYTES: usize = 65_536;
 /// The most bytes of a sheet.
 pub const SHEET_BYTES: usize = 32_768;
+/// The places of an index: `index` and `lookup` ask for them and fill them.
+pub const INDEX_PLACES: usize = 512;
 
 // Each call below is sound for the same reason: a pointer and a length come from one slice, a
 // slice that is written is borrowed by nothing else, and the library reads and writes within them.
@@ -137,6 +139,59 @@ pub fn canonical(
         )
     };
     answer.accepted().map(|value| value as usize)
+}
+
+/// Fills an index of the class names of both sheets and gives back how many entered. Each of its
+/// places holds a class number, or 65,535 where it is empty.
+pub fn index(
+    library: &[u8],
+    user: &[u8],
+    used: usize,
+    places: &mut [u16],
+) -> Result<usize, Refusal> {
+    let answer = unsafe {
+        raw::kz_index(
+            library.as_ptr(),
+            library.len(),
+            user.as_ptr(),
+            user.len(),
+            used,
+            places.as_mut_ptr(),
+            places.len(),
+        )
+    };
+    answer.accepted().map(|value| value as usize)
+}
+
+/// Gives back the number of the class with a name, and fills the index as `index` does.
+pub fn lookup(
+    library: &[u8],
+    user: &[u8],
+    used: usize,
+    name: &[u8],
+    places: &mut [u16],
+) -> Result<usize, Refusal> {
+    let answer = unsafe {
+        raw::kz_lookup(
+            library.as_ptr(),
+            library.len(),
+            user.as_ptr(),
+            user.len(),
+            used,
+            name.as_ptr(),
+            name.len(),
+            places.as_mut_ptr(),
+            places.len(),
+        )
+    };
+    answer.accepted().map(|value| value as usize)
+}
+
+/// The fingerprint of a name, 32-bit FNV-1a.
+pub fn fingerprint(name: &[u8]) -> u32 {
+    let answer = unsafe { raw::kz_fingerprint(name.as_ptr(), name.len()) };
+    let value = answer.accepted().expect("a fingerprint is never refused");
+    u32::try_from(value).expect("a fingerprint is four bytes")
 }
 
 /// Where a class's name stands.

@@ -70,6 +70,30 @@ extern "C" {
         out_len: usize,
     ) -> Answer;
 
+    pub fn kz_index(
+        library: *const u8,
+        library_len: usize,
+        user: *const u8,
+        user_len: usize,
+        used: usize,
+        places: *mut u16,
+        places_len: usize,
+    ) -> Answer;
+
+    pub fn kz_lookup(
+        library: *const u8,
+        library_len: usize,
+        user: *const u8,
+        user_len: usize,
+        used: usize,
+        name: *const u8,
+        name_len: usize,
+        places: *mut u16,
+        places_len: usize,
+    ) -> Answer;
+
+    pub fn kz_fingerprint(name: *const u8, name_len: usize) -> Answer;
+
     pub fn kz_name(
         library: *const u8,
         library_len: usize,

@@ -156,6 +156,77 @@ fn canonical_forms() {
     assert_eq!((answer, out), (Err(refusal(2, 1, 31)), [0xEE; 40]));
 }
 
+/// The place of a class with this name, where no other has taken it.
+fn home(name: &[u8]) -> usize {
+    fingerprint(name) as usize % INDEX_PLACES
+}
+
+#[test]
+fn fingerprints() {
+    assert_eq!(fingerprint(b""), 0x811c_9dc5);
+    assert_eq!(fingerprint(b"a"), 0xe40c_292c);
+    assert_eq!(fingerprint(b"foobar"), 0xbf9c_f968);
+}
+
+#[test]
+fn index_and_lookup() {
+    let look_up = |name: &[u8], places| {
+        let mut row = vec![4242; places];
+        let answer = lookup(&LIBRARY, &POINT, 25, name, &mut row);
+        (answer, row)
+    };
+    for places in [512, 513, 600] {
+        let mut filled = vec![65_535; INDEX_PLACES];
+        filled[home(b"Object")] = 0;
+        filled[home(b"Pt")] = 1;
+        filled.resize(places, 4242);
+        let mut row = vec![4242; places];
+        let answer = index(&LIBRARY, &POINT, 25, &mut row);
+        assert_eq!((answer, &row), (Ok(2), &filled));
+        assert_eq!(look_up(b"Object", places), (Ok(0), filled.clone()));
+        assert_eq!(look_up(b"Pt", places), (Ok(1), filled));
+        for name in [&b"P"[..], b"Ptt", b"", b"\0", &[b'P'; 101]] {
+            let absent = (Err(refusal(13, 0, 0)), vec![4242; places]);
+            assert_eq!(look_up(name, places), absent);
+        }
+    }
+    for places in [0, 511] {
+        let mut row = vec![4242; places];
+        let answer = index(&LIBRARY, &POINT, 25, &mut row);
+        let short = (Err(refusal(12, 0, 0)), vec![4242; places]);
+        assert_eq!((answer, row), short);
+        assert_eq!(look_up(b"Pt", places), short);
+        assert_eq!(look_up(b"P", places), short);
+    }
+}
+
+/// The class under a name with this place.
+fn point_at(place: usize) -> [u8; 25] {
+    let two = (33..=126).flat_map(|one| (33..=126).map(move |two| [one, two]));
+    let mut of_place = two.filter(|name| home(name) == place);
+    let mut point = POINT;
+    point[12..14].copy_from_slice(&of_place.next().expect("a name"));
+    point
+}
+
+/// The first and the last one, those about the middle, and one that is taken.
+#[test]
+fn places_of_classes() {
+    let taken = home(b"Object");
+    for place in [0, 255, 256, 511, taken] {
+        let sheet = point_at(place);
+        let mut filled = [65_535; INDEX_PLACES];
+        filled[taken] = 0;
+        filled[if place == taken { taken + 1 } else { place }] = 1;
+        let mut row = [4242; INDEX_PLACES];
+        assert_eq!(index(&LIBRARY, &sheet, 25, &mut row), Ok(2));
+        assert_eq!(row, filled);
+        row = [4242; INDEX_PLACES];
+        let found = lookup(&LIBRARY, &sheet, 25, &sheet[12..14], &mut row);
+        assert_eq!((found, row), (Ok(1), filled));
+    }
+}
+
 #[test]
 fn names_and_markers() {
     let name_of = |class| name(&LIBRARY, &POINT, 25, class);
@@ -193,6 +264,10 @@ fn every_call_refuses_records_out_of_order() {
     let withdrawn = withdraw(library, &mut user, &mut used, row);
     assert_eq!(withdrawn, Err(refused));
     assert_eq!(canonical(library, &user, used, row), Err(refused));
+    let mut places = [4242; INDEX_PLACES];
+    assert_eq!(index(library, &user, used, &mut places), Err(refused));
+    let found = lookup(library, &user, used, b"A", &mut places);
+    assert_eq!((found, places), (Err(refused), [4242; INDEX_PLACES]));
     assert_eq!(name(library, &user, used, 1), Err(refused));
     assert_eq!(marks(library, &user, used, 1), Err(refused));
     used = 0;
@@ -232,6 +307,18 @@ fn null_with_length_0() {
         assert_eq!(status(written), (0, 0));
         let written = raw::kz_canonical(library, length, POINT.as_ptr(), 25, 25, none, 0);
         assert_eq!(status(written), (15, 0));
+        let none = null_mut();
+        let indexed = raw::kz_index(library, length, null(), 0, 0, none, 0);
+        assert_eq!(status(indexed), (12, 0));
+        let found = raw::kz_lookup(library, length, null(), 0, 0, null(), 0, none, 0);
+        assert_eq!(status(found), (12, 0));
+        let mut places = [4242; INDEX_PLACES];
+        let row = places.as_mut_ptr();
+        let found = raw::kz_lookup(library, length, null(), 0, 0, null(), 0, row, 512);
+        assert_eq!(status(found), (13, 0));
+        assert_eq!(places, [4242; INDEX_PLACES]);
+        let printed = raw::kz_fingerprint(null(), 0);
+        assert_eq!(status(printed), (0, 0x811c_9dc5));
         let marked = raw::kz_marks(library, length, null(), 0, 0, 0);
         assert_eq!(status(marked), (0, 0));
         let named = raw::kz_name(library, length, null(), 0, 0, 0);

@@ -4,6 +4,7 @@ mod canonical;
 mod captures;
 mod class_set;
 mod dependents;
+mod index;
 mod markers;
 mod names;
 mod pair;
@@ -11,6 +12,8 @@ mod record;
 mod rules;
 
 use std::fmt::{self, Write};
+
+pub use index::fingerprint;
 
 use class_set::ClassSet;
 use pair::Pair;
@@ -23,6 +26,8 @@ pub const SHEET_LIMIT: usize = 32_768;
 pub const SCRATCH_BYTES: usize = 65_536;
 /// The bytes of a verdict: rule, record number, class in which the fault sits (document 02, C-16).
 pub const VERDICT_BYTES: usize = 3;
+/// The places that `index` and `lookup` fill (document 02, C-17).
+pub const INDEX_PLACES: usize = 512;
 
 /// Why a call was turned away: the documents' number, the sheet (0 library, 1 user) and the byte
 /// where the record begins.
@@ -177,6 +182,34 @@ pub fn canonical(
     Ok(sheet.len())
 }
 
+/// Fills the first places of a row anew with the classes of both sheets by name, and gives back how
+/// many there are (document 02, C-17).
+pub fn index(
+    library: &[u8],
+    user: &[u8],
+    used: usize,
+    places: &mut [u16],
+) -> Result<usize, Refusal> {
+    let pair = check(library, user, used)?;
+    index::fill(&pair, first_places(places)?);
+    Ok(pair.classes.len())
+}
+
+/// Gives back the class with a name, the row filled as by `index` (document 02, C-17).
+pub fn lookup(
+    library: &[u8],
+    user: &[u8],
+    used: usize,
+    name: &[u8],
+    places: &mut [u16],
+) -> Result<usize, Refusal> {
+    let pair = check(library, user, used)?;
+    let places = first_places(places)?;
+    let class = index::class_named(&pair, name).ok_or(Refusal::plain(13))?;
+    index::fill(&pair, places);
+    Ok(class)
+}
+
 /// The overlay markers of a class.
 pub fn marks(library: &[u8], user: &[u8], used: usize, class: usize) -> Result<u8, Refusal> {
     let pair = check(library, user, used)?;
@@ -193,7 +226,8 @@ pub fn name(
 ) -> Result<(u8, usize, usize), Refusal> {
     let pair = check(library, user, used)?;
     require_number(&pair, class)?;
-    Ok(name_place(&pair, class))
+    let (sheet, start) = (pair.sheet_of(class), pair.classes[class].start);
+    Ok((sheet, start + CLASS_NAME, pair.name(class).len()))
 }
 
 /// The listing of two whole sheets.
@@ -215,28 +249,11 @@ fn try_listing(library: &[u8], user: &[u8]) -> Result<String, Refusal> {
             class,
         } = verdict;
         faulted += (rule != 0) as usize;
-        let name = name_text(&pair, number);
+        let name = String::from_utf8_lossy(pair.name(number));
         let _ = writeln!(lines, "{number} {name} {rule} {record} {class}");
     });
     let classes = pair.user_classes();
     Ok(format!("classes {classes} faulted {faulted}\n{lines}"))
-}
-
-fn name_place(pair: &Pair, class: usize) -> (u8, usize, usize) {
-    let start = pair.classes[class].start;
-    let sheet = if pair.is_user(class) {
-        pair.user
-    } else {
-        pair.library
-    };
-    let length = record::number(sheet, start) as usize - CLASS_NAME;
-    (pair.sheet_of(class), start + CLASS_NAME, length)
-}
-
-fn name_text(pair: &Pair, class: usize) -> String {
-    let (sheet, start, length) = name_place(pair, class);
-    let bytes = if sheet == 0 { pair.library } else { pair.user };
-    String::from_utf8_lossy(&bytes[start..start + length]).into_owned()
 }
 
 /// Refusals 1 to 11 and 16.
@@ -259,6 +276,11 @@ fn require_room(pair: &Pair, verdicts: &[u8], scratch: &[u8]) -> Result<(), Refu
 /// Refusal 12 where no scratch is asked for. Bytes too few for a verdict count for nothing.
 fn require_lines(pair: &Pair, verdicts: &[u8]) -> Result<(), Refusal> {
     require(verdicts.len() / VERDICT_BYTES >= pair.user_classes(), 12)
+}
+
+/// The places of a row that are filled; refusal 12 where it has fewer.
+fn first_places(places: &mut [u16]) -> Result<&mut [u16], Refusal> {
+    places.get_mut(..INDEX_PLACES).ok_or(Refusal::plain(12))
 }
 
 /// Refusal 13 for a number not in use.

@@ -307,18 +307,27 @@ impl<'a> Pair<'a> {
         self.is_user(class) as u8
     }
 
-    /// The records of a class's group, each with the byte where it begins.
-    pub fn group(&self, class: usize) -> Records<'a> {
-        let Class { start, end, .. } = self.classes[class];
-        let sheet = if self.is_user(class) {
+    fn sheet_with(&self, class: usize) -> &'a [u8] {
+        if self.is_user(class) {
             self.user
         } else {
             self.library
-        };
+        }
+    }
+
+    /// The records of a class's group, each with the byte where it begins.
+    pub fn group(&self, class: usize) -> Records<'a> {
+        let Class { start, end, .. } = self.classes[class];
         Records {
-            sheet: &sheet[..end],
+            sheet: &self.sheet_with(class)[..end],
             at: start,
         }
+    }
+
+    pub fn name(&self, class: usize) -> &'a [u8] {
+        let sheet = self.sheet_with(class);
+        let start = self.classes[class].start;
+        &sheet[start + CLASS_NAME..start + number(sheet, start) as usize]
     }
 
     pub fn local_type(&self, local: Item) -> Type {

@@ -2,7 +2,7 @@
 
 mod support;
 
-use reference::{add, canonical, judge, listing, marks, name, replace, withdraw};
+use reference::{add, canonical, index, judge, listing, lookup, marks, name, replace, withdraw};
 use support::*;
 
 /// The byte after a lone class named C.
@@ -395,6 +395,9 @@ fn every_call_meets_one_to_eleven_and_sixteen() {
             canonical(&library, &user, user.len(), &mut []),
             Err(refused)
         );
+        let row = &mut [];
+        assert_eq!(index(&library, &user, user.len(), row), Err(refused));
+        assert_eq!(lookup(&library, &user, user.len(), b"", row), Err(refused));
         assert_eq!(listing(&library, &user), format!("{refused}\n"));
         let (mut buffer, mut used) = (user.clone(), user.len());
         let (bytes, length) = (&mut buffer[..], &mut used);

@@ -1,6 +1,7 @@
 //! Sheets that are accepted and cost as much as they can.
 
 use crate::build::*;
+use crate::homes::names_of_one_home;
 use crate::rings::*;
 
 type Maker = fn() -> Pair;
@@ -30,6 +31,8 @@ pub const ALL: &[(&str, Maker)] = &[
     ("dense_references", dense_references),
     ("spread_references", spread_references),
     ("equal_prefixes", equal_prefixes),
+    ("one_home", one_home),
+    ("equal_prefixes_one_home", equal_prefixes_one_home),
     ("most_records", most_records),
     ("last_member", last_member),
     ("last_local", last_local),
@@ -296,26 +299,37 @@ fn spread_references() -> Pair {
     (object_only(), user)
 }
 
+/// What all of the longest names begin with; they differ in the last three bytes.
+const PREFIX: [u8; NAME_LIMIT - 3] = [b'n'; NAME_LIMIT - 3];
+
 /// 256 names of 100 bytes that differ in the last three, over both sheets.
 fn equal_prefixes() -> Pair {
-    const HALF: usize = 128;
-    let name = |class: usize| {
-        let mut name = vec![b'n'; NAME_LIMIT - 3];
-        name.extend(format!("{class:03}").bytes());
-        name
-    };
+    let name = |class: usize| [&PREFIX, format!("{class:03}").as_bytes()].concat();
+    let names: Vec<_> = (0..CLASS_LIMIT).map(name).collect();
+    over_both_sheets(&names)
+}
+
+/// The same, and in an index each class passes all before it.
+fn equal_prefixes_one_home() -> Pair {
+    over_both_sheets(&names_of_one_home(&PREFIX))
+}
+
+/// Half of the classes in each sheet.
+fn over_both_sheets(names: &[Vec<u8>]) -> Pair {
+    const HALF: usize = CLASS_LIMIT / 2;
+    let (of_library, of_user) = names.split_at(HALF);
     let mut library = Sheet::new();
     let mut user = Sheet::new();
-    for class in 0..HALF {
+    for (class, name) in of_library.iter().enumerate() {
         let head = match class {
             0 => Class::object(),
             _ => Class::below(0).flags(ALLOWED),
         };
-        library.class(head, &name(class));
+        library.class(head, name);
         library.member(true, &[b'm'; NAME_LIMIT]);
     }
-    for class in HALF..256 {
-        user.class(Class::below(0), &name(class));
+    for (class, name) in (HALF..).zip(of_user) {
+        user.class(Class::below(0), name);
         user.field(FINAL, INT, &[b'f'; NAME_LIMIT]);
         user.builds(class).refers(class % HALF, 0);
     }
@@ -323,6 +337,19 @@ fn equal_prefixes() -> Pair {
         user.field(FINAL, INT, &[b'f'; NAME_LIMIT]);
     }
     user.order_group();
+    (library, user)
+}
+
+/// 256 short names for which an index has one home: each class passes all before it.
+fn one_home() -> Pair {
+    let names = names_of_one_home(b"");
+    let mut library = Sheet::new();
+    library.class(Class::object(), &names[0]);
+    let mut user = Sheet::new();
+    for name in &names[1..] {
+        user.class(Class::below(0), name);
+        user.field(FINAL, INT, &[b'f'; NAME_LIMIT]);
+    }
     (library, user)
 }
 

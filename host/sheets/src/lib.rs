@@ -3,6 +3,7 @@
 
 pub mod build;
 mod groups;
+mod homes;
 mod hostile;
 pub mod kinds;
 mod ordinary;
@@ -16,7 +17,7 @@ mod sites;
 
 pub use groups::{broken_group, edited_group, fitting_group, shuffled_sets};
 pub use random::{damage, random_group, random_pair, varied_pair, Random};
-pub use read::{groups, is_in_order, is_of_set, kind, number, records};
+pub use read::{class_name, groups, is_in_order, is_of_set, kind, number, records};
 pub use sites::Site;
 
 use build::Pair;

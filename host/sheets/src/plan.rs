@@ -1,9 +1,10 @@
 //! Two sheets drawn class by class before they are written.
 
 use crate::build::*;
+use crate::homes::name_near_the_end;
 use crate::kinds;
 use crate::random::Random;
-use crate::read::{groups, kind, number, records};
+use crate::read::{class_name, groups, kind, number, records};
 
 /// Own markers worth trying.
 pub const OWN: [u8; 20] = [
@@ -13,6 +14,8 @@ pub const OWN: [u8; 20] = [
 const DEEMED: [u8; 14] = [0, 0, 0, 1, 2, 4, 8, 16, 32, 64, 128, 130, 66, 3];
 /// So many pairs in a hundred, and so many groups drawn alone, need not keep the order of kinds.
 pub const LOOSE_IN_100: usize = 4;
+/// In so many pairs in a hundred class names meet in the last places of an index.
+const MEETING_IN_100: usize = 6;
 
 /// A class before its records are written.
 struct Draft {
@@ -40,11 +43,14 @@ pub struct Plan {
     long: Option<(usize, usize)>,
     /// From this class on some records stand behind ones of a higher kind.
     loose: Option<usize>,
+    /// Do the names meet in the last places of an index?
+    meeting: bool,
 }
 
 impl Plan {
     pub fn new(random: &mut Random, library: usize, users: usize) -> Plan {
         let mut plan = Plan::empty(library);
+        plan.meeting = random.percent(MEETING_IN_100);
         let nesting = random.pick(&[20, 50, 90]);
         for class in 0..library + users {
             let draft = plan.draft(random, class, nesting);
@@ -76,6 +82,7 @@ impl Plan {
             wrong: None,
             long: None,
             loose: None,
+            meeting: false,
         }
     }
 
@@ -96,7 +103,7 @@ impl Plan {
             class,
             overlay: above.fold(closure(class.own), |all, draft| all | draft.overlay),
             items: of_kind(kinds::LOCAL).chain(of_kind(kinds::MEMBER)).count(),
-            name: String::from_utf8_lossy(&group[12..number(group, 0)]).into_owned(),
+            name: String::from_utf8_lossy(class_name(group)).into_owned(),
             interfaces,
         }
     }
@@ -112,13 +119,27 @@ impl Plan {
             overlay: 0,
             interfaces: Vec::new(),
             items: random.below(4),
-            name: class_name(random, class),
+            name: self.draw_name(random, class),
         };
         if class > 0 {
             draft.class = self.head(random, class, nesting);
             self.give_markers(random, class, &mut draft);
         }
         draft
+    }
+
+    /// A name of its own for each number, now and then a long one.
+    fn draw_name(&self, random: &mut Random, class: usize) -> String {
+        let mut name = format!("C{class}");
+        if self.meeting {
+            name.push('_');
+            return name_near_the_end(&name, random.below(4));
+        }
+        if random.percent(4) {
+            let rest = random.below(NAME_LIMIT + 1 - name.len());
+            name.extend((0..rest).map(|_| random.pick(&['!', '~', '_', '$'])));
+        }
+        name
     }
 
     fn head(&self, random: &mut Random, class: usize, nesting: usize) -> Class {
@@ -197,15 +218,16 @@ impl Plan {
 
     fn slip_in(&mut self, random: &mut Random, class: usize) {
         let other = random.below(self.drafts.len() + 2);
+        let of_other = self.drafts.get(other).map(|draft| draft.name.clone());
         let draft = &mut self.drafts[class];
-        match random.below(9) {
+        match random.below(10) {
             0 => draft.class.superclass = other as u16,
             1 => draft.class.encloser = other as u16,
             2 => draft.class.flags ^= INTERFACE,
             3 => draft.class.flags ^= 1 << random.below(16),
             4 => draft.class.own = random.number() as u8,
             5 => draft.interfaces.push(other),
-            6 => draft.name = format!("C{other}"),
+            6 | 7 => draft.name = of_other.unwrap_or_default(),
             _ => {
                 self.wrong = Some((class, random.below(8)));
                 self.loosen(random, class);
@@ -431,16 +453,6 @@ impl Plan {
             _ => sheet.member(true, &[b'm'; NAME_LIMIT + 1]),
         };
     }
-}
-
-/// A name of its own for each number, now and then a long one.
-fn class_name(random: &mut Random, class: usize) -> String {
-    let mut name = format!("C{class}");
-    if random.percent(4) {
-        let rest = random.below(NAME_LIMIT + 1 - name.len());
-        name.extend((0..rest).map(|_| random.pick(&['!', '~', '_', '$'])));
-    }
-    name
 }
 
 /// Keeps what other classes ask of the class that the draft takes the place of.

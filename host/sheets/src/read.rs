@@ -46,6 +46,11 @@ pub fn ordered(group: &[u8]) -> Vec<u8> {
     rows.concat()
 }
 
+/// The name of a group's class; nothing where its CLASS is too short for one.
+pub fn class_name(group: &[u8]) -> &[u8] {
+    group.get(12..number(group, 0)).unwrap_or_default()
+}
+
 /// The groups of a sheet; records before the first CLASS belong to none.
 pub fn groups(sheet: &[u8]) -> Vec<&[u8]> {
     let mut groups = Vec::new();

@@ -2,8 +2,10 @@
 
 use std::time::{Duration, Instant};
 
-use reference::{canonical, judge, Counts, SCRATCH_BYTES, SHEET_LIMIT, VERDICT_BYTES};
-use sheets::{families, full, groups, is_in_order, records, typical, Family};
+use reference::{
+    canonical, index, judge, Counts, INDEX_PLACES, SCRATCH_BYTES, SHEET_LIMIT, VERDICT_BYTES,
+};
+use sheets::{class_name, families, full, groups, is_in_order, records, typical, Family};
 
 struct Buffers {
     verdicts: Vec<u8>,
@@ -138,6 +140,38 @@ fn spread_pairs_turn_round() {
     let mut out = vec![0xEE; user.len()];
     let answer = canonical(&library, &user, user.len(), &mut out);
     assert_eq!((answer, out), (Ok(user.len()), turned));
+}
+
+/// The name of each class.
+fn names(family: &Family) -> Vec<&[u8]> {
+    let groups = [groups(&family.library), groups(&family.user)].concat();
+    groups.into_iter().map(class_name).collect()
+}
+
+/// From the last place on, going round, each class stands right after the one before it.
+#[test]
+fn names_of_one_home_stand_in_one_run() {
+    for name in ["one_home", "equal_prefixes_one_home"] {
+        let Family { library, user, .. } = family(name);
+        let mut places = [0; INDEX_PLACES];
+        let answer = index(&library, &user, user.len(), &mut places);
+        assert_eq!(answer, Ok(256), "{name}");
+        places.rotate_right(1);
+        assert!(places[..256].iter().copied().eq(0..256), "{name}");
+        assert!(places[256..].iter().all(|&class| class == 65_535));
+    }
+}
+
+#[test]
+fn equal_prefixes_leave_three_bytes() {
+    for family_name in ["equal_prefixes", "equal_prefixes_one_home"] {
+        let family = family(family_name);
+        let names = names(&family);
+        assert!(names.iter().all(|name| name.len() == 100));
+        assert!(names.iter().all(|name| name[..97] == names[0][..97]));
+    }
+    let family = family("one_home");
+    assert!(names(&family).iter().all(|name| name.len() == 3));
 }
 
 #[test]

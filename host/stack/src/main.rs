@@ -3,9 +3,10 @@
 
 mod painted;
 
+use std::hint::black_box;
 use std::process::ExitCode;
 
-use calls::{most_needed, own_group, Desk, KERDZHUSI};
+use calls::{last_name, most_needed, own_group, Desk, KERDZHUSI};
 use painted::stack_used;
 use sheets::{families, Family};
 
@@ -39,6 +40,21 @@ const FUNCTIONS: &[(&str, Used)] = &[
     ("kz_canonical", |family| {
         let mut desk = Desk::judged(&KERDZHUSI, family);
         stack_used(&mut || desk.canonical())
+    }),
+    ("kz_index", |family| {
+        let mut desk = Desk::judged(&KERDZHUSI, family);
+        stack_used(&mut || desk.index())
+    }),
+    ("kz_lookup", |family| {
+        let mut desk = Desk::judged(&KERDZHUSI, family);
+        let name = last_name(family);
+        stack_used(&mut || desk.lookup(name))
+    }),
+    ("kz_fingerprint", |family| {
+        let name = last_name(family);
+        stack_used(&mut || {
+            black_box(kerdzhusi::fingerprint(name));
+        })
     }),
     ("kz_name", |family| {
         let desk = Desk::judged(&KERDZHUSI, family);

@@ -6,7 +6,7 @@ use Rattle.second.proofs.class_pass.Goals as goal
 pub loop-record-init : goal.loop-record-init
 loop-record-init c =
     let e = c.into_iter-record-iterator.ensures.into_iter_gives ∙ c.records-record-items.ensures.records ∙ c.group.ensures in
-    (tt, tt, going_start c.args.lookup.now.passed c.requires c.start-byte.ensures e)
+    (tt, tt, going_start c.args.register.now.passed c.requires c.start-byte.ensures e)
 
 pub record_fits-requires-clause-first : goal.record_fits-requires-clause-first
 record_fits-requires-clause-first c = going_first c.loop-record.invariant.2 c.in-Some.ensures.steps

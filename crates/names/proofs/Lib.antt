@@ -1,0 +1,2 @@
+mod Probing
+pub mod Filling
