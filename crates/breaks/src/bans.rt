@@ -1,5 +1,5 @@
 // What is not allowed of the library's classes, as a row that records are asked by.
-ghost use Rattle.std.specs.Prelude.{◌≡◌, ℕ, get_or};
+ghost use Rattle.std.specs.Prelude.{◌≡◌, ℕ, get_or, replicate};
 ghost use Rattle.spec.specs.Rules.{forbidden};
 ghost use Rattle.spec.specs.Sheet.{Group};
 ghost use Rattle.sheets.specs.Sheets.{groups, library_count};
@@ -17,8 +17,8 @@ pub struct Ban {
     pub partly: bool,
 }
 
-// All of the class is allowed.
-const NOTHING: Ban = Ban {
+/// All of the class is allowed.
+pub const NOTHING: Ban = Ban {
     closed: false,
     partly: false,
 };
@@ -45,14 +45,22 @@ impl Ban {
     }
 }
 
-/// What is not allowed of each library class, so that a record is asked by a row.
+/// Notes in a row of the caller's what is not allowed of each library class, so that a record is asked by the row.
+pub fn note_bans(sheets: &Sheets, row: &mut [Ban; CLASS_LIMIT])
+    requires fresh { row.old ≡ replicate 256 nothing }
+    ensures { Bans (library_count sheets.now) (groups sheets.now) row.new }
+{
+    for (d, ban) in row[..sheets.library_count()].iter_mut().enumerate() {
+        *ban = Ban::of(&sheets.group(d));
+    }
+}
+
+/// The same row, handed out.
 pub fn bans(sheets: &Sheets) -> [Ban; CLASS_LIMIT]
     ensures { Bans (library_count sheets.now) (groups sheets.now) result }
 {
     let mut row = [NOTHING; CLASS_LIMIT];
-    for (d, ban) in row[..sheets.library_count()].iter_mut().enumerate() {
-        *ban = Ban::of(&sheets.group(d));
-    }
+    note_bans(sheets, &mut row);
     row
 }
 

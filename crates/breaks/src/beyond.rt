@@ -71,9 +71,12 @@ impl<'a> Judging<'a> {
         requires { c < count self.now.formed.now.sheets }
         ensures { result ≡ base_at (groups self.now.formed.now.sheets) rule c }
     {
+        let markers = self.markers;
         match rule {
             Rule::Late(Late::Selfless) => {
-                base_breaks(&self.formed.sheets.group(c).head(), &self.markers)
+                // Class 0 and an interface have no superclass to ask.
+                let head = self.formed.sheets.group(c).head();
+                head.superclass.is_some() && base_breaks(&head, markers)
             }
             _ => false,
         }

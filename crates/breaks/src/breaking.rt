@@ -31,7 +31,8 @@ impl<'a> Judging<'a> {
         ensures { result ≡ head_breaks (library_count self.now.formed.now.sheets) (groups self.now.formed.now.sheets) rule t }
     {
         let nlib = self.formed.sheets.library_count();
-        !has(head_set(head, &self.markers, nlib, t), rule.set())
+        let markers = self.markers;
+        !has(head_set(head, markers, nlib, t), rule.set())
     }
 
     // Rules 7 to 10, of any record.
@@ -40,9 +41,10 @@ impl<'a> Judging<'a> {
         ensures { result ≡ breaks_at (library_count self.now.formed.now.sheets) (groups self.now.formed.now.sheets)
             (Rule.Late rule) step.asked step.number record.now }
     {
+        let markers = self.markers;
         match record.body() {
             Body::Class(head) => self.head_breaks(rule, step.asked, &head),
-            Body::Field { flags, ty } => !has(field_set(flags, ty, &self.markers), rule.set()),
+            Body::Field { flags, ty } => !has(field_set(flags, ty, markers), rule.set()),
             _ => false,
         }
     }
@@ -53,15 +55,17 @@ impl<'a> Judging<'a> {
         ensures { result ≡ breaks_at (library_count self.now.formed.now.sheets) (groups self.now.formed.now.sheets)
             step.rule step.asked step.number record.now }
     {
+        let markers = self.markers;
+        let bans = self.bans;
         match step.rule {
-            Rule::Classes => names_forbidden(record, &self.bans),
-            Rule::Members => refers_forbidden(&self.formed.sheets, &self.bans, record),
+            Rule::Classes => names_forbidden(record, bans),
+            Rule::Members => refers_forbidden(&self.formed.sheets, bans, record),
             Rule::Reserved => match record.body() {
                 Body::Class(head) => reserved(head.markers),
                 _ => false,
             },
-            Rule::Clash => clash(known(&self.markers, step.asked)),
-            Rule::Statics => static_breaks(record, &self.markers),
+            Rule::Clash => clash(known(markers, step.asked)),
+            Rule::Statics => static_breaks(record, markers),
             Rule::LetsOut => match record.body() {
                 Body::Class(head) => lets_out(head.flags),
                 _ => false,

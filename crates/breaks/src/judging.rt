@@ -13,10 +13,10 @@ use sheets::formed::Formed;
 #[derive(Drop)]
 pub struct Judging<'a> {
     pub formed: &'a Formed<'a>,
-    pub markers: [u8; CLASS_LIMIT],
-    pub bans: [Ban; CLASS_LIMIT],
+    pub markers: &'a [u8; CLASS_LIMIT],
+    pub bans: &'a [Ban; CLASS_LIMIT],
     pub lanes: &'a [u8; ROW_BYTES],
-    pub ghost known: { Known (groups formed.now.sheets) markers },
-    pub ghost banned: { Bans (library_count formed.now.sheets) (groups formed.now.sheets) bans },
+    pub ghost known: { Known (groups formed.now.sheets) markers.now },
+    pub ghost banned: { Bans (library_count formed.now.sheets) (groups formed.now.sheets) bans.now },
     pub ghost shown: { Shown (groups formed.now.sheets) (count formed.now.sheets) lanes.now },
 }

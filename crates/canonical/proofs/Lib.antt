@@ -5,3 +5,4 @@ pub mod Writing
 pub mod Copying
 pub mod Walking
 pub mod Answered
+pub mod Turned

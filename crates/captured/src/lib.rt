@@ -15,7 +15,7 @@ use lanes::{EMPTY, ENTRY_BYTES, LANE, entry, put};
 use markers::{DEEP_SELFLESS, IMMUTABLE, POWERLESS, has};
 use named::Along;
 use overlay::type_markers;
-use reach::{Nest, close};
+use reach::{Nest, close, note_outers};
 use records::CLASS_LIMIT;
 use records::group::Group;
 use records::kind::Kind;
@@ -113,7 +113,8 @@ impl<'a> MarkedSheets<'a> {
     {
         let sheets = &self.nest.formed.sheets;
         let group = sheets.group(m);
-        let marks = self.nest.enclosers(m);
+        let mut marks = [false; CLASS_LIMIT];
+        self.nest.mark_enclosers(m, &mut marks);
         for record in group.records() {
             if let Body::Uses { class, index } = record.body() {
                 let ty = variable_type(&sheets.group(class), index);
@@ -151,7 +152,12 @@ pub fn captures(formed: &Formed, markers: &[u8], row: &mut [u8; ROW_BYTES])
     ensures { Shown (groups formed.now.sheets) (count formed.now.sheets) row.new }
 {
     row.fill(u8::MAX);
-    let nest = Nest::of(formed);
+    let mut outer = [0; CLASS_LIMIT];
+    note_outers(formed, &mut outer);
+    let nest = Nest {
+        formed,
+        outer: &outer,
+    };
     MarkedSheets {
         nest: &nest,
         markers,

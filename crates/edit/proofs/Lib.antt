@@ -1,1 +1,2 @@
+pub mod Copying
 pub mod Splicing

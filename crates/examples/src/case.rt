@@ -4,7 +4,9 @@ use crate::judging::{ROW, SCRATCH};
 use crate::sheet::{spelled, verdicts};
 use arrayvec::ArrayVec;
 
-pub(crate) type Sheet = ArrayVec<u8, 65536>;
+const SHEET: usize = 65536;
+
+pub(crate) type Sheet = ArrayVec<u8, SHEET>;
 
 #[derive(Clone, Copy)]
 pub(crate) enum Begun {
@@ -17,6 +19,8 @@ pub(crate) struct Case {
     pub(crate) library: Sheet,
     pub(crate) user: Sheet,
     pub(crate) used: usize,
+    // The whole user buffer once `fill_buffer` has put the user sheet there: past its end stands what earlier ones left.
+    pub(crate) buffer: [u8; SHEET],
     // Which sheet is appended to.
     begun: Begun,
     // How many bytes of the row and of the scratch are lent.
@@ -27,12 +31,20 @@ pub(crate) struct Case {
     pub(crate) expected: ArrayVec<u8, ROW>,
 }
 
+// Copies a sheet to the buffer's start, as far as it fits.
+fn copied(buffer: &mut [u8], sheet: &[u8]) {
+    for (to, from) in buffer.iter_mut().zip(sheet) {
+        *to = *from;
+    }
+}
+
 impl Case {
     pub(crate) fn new() -> Self {
         Case {
             library: ArrayVec::new(),
             user: ArrayVec::new(),
             used: 0,
+            buffer: [0; SHEET],
             begun: Begun::Library,
             row: ROW,
             scratch: SCRATCH,
@@ -57,6 +69,7 @@ impl Case {
 
     pub(crate) fn begin_user(&mut self, words: &[u8]) {
         self.begun = Begun::User;
+        self.fill_buffer();
         self.user.clear();
         self.append(words, spelled);
     }
@@ -72,6 +85,10 @@ impl Case {
                 self.used = self.user.len();
             }
         }
+    }
+
+    pub(crate) fn fill_buffer(&mut self) {
+        copied(&mut self.buffer, &self.user);
     }
 
     pub(crate) fn expect(&mut self, words: &[u8]) {

@@ -8,14 +8,21 @@ pub(crate) fn split_word(line: &[u8]) -> (&[u8], &[u8]) {
     }
 }
 
-// The value of a digit to the base 16.
+// The value of a digit to the base 16: a small letter is none.
 pub(crate) fn digit(byte: u8) -> Option<u8> {
-    let value = char::from(byte).to_digit(16)?;
-    u8::try_from(value).ok()
+    match byte {
+        b'0'..=b'9' => Some(byte - b'0'),
+        b'A'..=b'F' => Some(byte - b'A' + 10),
+        _ => None,
+    }
 }
 
+// No case has a number above 99,999, so what stands after five digits is left out: no count makes a loop long.
 fn with_digit(x: usize, digit: u32) -> usize {
-    x.saturating_mul(10).saturating_add(digit as usize)
+    if 9999 < x {
+        return x;
+    }
+    x * 10 + digit as usize
 }
 
 // The number whose digits stand at the start of `text`.

@@ -36,7 +36,9 @@ fn judge_apart(rt: &impl Print, case: &Case) -> io::Result<()> {
     Ok(())
 }
 
-fn unknown(rt: &impl Print, verb: &[u8]) -> io::Result<()> {
+// It appends nothing, and as after all that is appended all of the user buffer is used.
+fn unknown(rt: &impl Print, verb: &[u8], case: &mut Case) -> io::Result<()> {
+    case.append(b"", spelled);
     rt.write_all(b"unknown command ")?;
     rt.write_all(verb)?;
     rt.write_all(b"\n")
@@ -52,7 +54,10 @@ fn said(
 ) -> io::Result<()> {
     match verb {
         b"ask" => say::answers(rt, case, number(words)),
-        b"record" => say::record(rt, start(&case.user, case.used), number(words)),
+        b"record" => {
+            case.fill_buffer();
+            say::record(rt, start(&case.buffer, case.used), number(words))
+        }
         b"structs" => say::structs(rt, case),
         b"judge" => judge_apart(rt, case),
         b"open" => week.open(rt, case),
@@ -65,7 +70,7 @@ fn said(
         b"index" => by_name::say_index(rt, case),
         b"lookup" => by_name::say_lookup(rt, case, words),
         b"fingerprint" => by_name::say_fingerprint(rt, words),
-        _ => unknown(rt, verb),
+        _ => unknown(rt, verb, case),
     }
 }
 

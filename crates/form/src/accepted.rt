@@ -61,6 +61,13 @@ impl<'a> Accepted<'a> {
         }
     }
 
+    /// The memo that knows the markers of the library's classes, as it is lent.
+    pub fn lent_memo(&self) -> &'a [Option<u8>; CLASS_LIMIT]
+        ensures { result.now ≡ memo_of (groups self.now.formed.sheets) (library_count self.now.formed.sheets) }
+    {
+        self.memo
+    }
+
     /// A memo that knows the markers of the library's classes.
     pub fn memo(&self) -> [Option<u8>; CLASS_LIMIT]
         ensures { result ≡ memo_of (groups self.now.formed.sheets) (library_count self.now.formed.sheets) }

@@ -86,12 +86,7 @@ fn lengths(library: &[u8], user: &[u8], used: usize) -> Result<(), Refusal>
 }
 
 /// All of 1 to 11 and 16 of a library sheet and the used bytes of the user buffer.
-pub fn check_present(
-    library: &[u8],
-    user: &[u8],
-    used: usize,
-    found: &mut Found,
-) -> Result<(), Refusal>
+pub fn present(library: &[u8], user: &[u8], used: usize, found: &mut Found) -> Result<(), Refusal>
     requires fresh { found.old.memo ≡ replicate 256 None }
     ensures answer { Answers (present_refusal library.now user.now used) result
         (λ _. FoundIn (record { library = library.now; user = take used user.now }) found.new) }
@@ -102,7 +97,7 @@ pub fn check_present(
 }
 
 /// The library sheet and the used bytes of the user buffer, if none of 1 to 11 and 16 refuses them.
-pub fn present<'a>(
+pub fn accept<'a>(
     library: &'a [u8],
     user: &'a [u8],
     used: usize,
@@ -112,6 +107,6 @@ pub fn present<'a>(
     ensures { Answers (present_refusal library.now user.now used) result
         (λ a. a.formed.sheets ≡ record { library = library.now; user = take used user.now }) }
 {
-    check_present(library, user, used, found)?;
+    present(library, user, used, found)?;
     Ok(Accepted::new(library, &user[..used], found))
 }

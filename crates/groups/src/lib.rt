@@ -13,5 +13,5 @@ pub fn group_length(rest: &[u8]) -> usize
     requires { AtGroup rest.now }
     ensures { result ≡ first_length rest.now }
 {
-    nth_in(rest, Kind::Class, 1)
+    nth_in(rest, Kind::Class.number(), 1)
 }

@@ -39,7 +39,8 @@ pub fn put(row: &mut [u8], i: usize, y: u16)
 
 // 0 needs no mark: it only says that a class is reached, and any class may be.
 #[tactic(auto, unfolding(crate::specs::Lanes::fits_row))]
-fn fits(marks: &[bool; LANE], y: u16) -> bool
+fn fits(marks: &[bool], y: u16) -> bool
+    requires { 256 ≤ length marks.now }
     ensures { result ≡ fits_row marks.now y }
 {
     y == 0 || marks[usize::from(y / 256)]
@@ -47,8 +48,9 @@ fn fits(marks: &[bool; LANE], y: u16) -> bool
 
 // Class m takes in lane k what t has there, if that is lower and fits m. Answers whether anything changes, so that a search knows when to end.
 #[tactic(auto, unfolding(crate::specs::Lanes::lowers, crate::specs::Lanes::drawn))]
-fn draw(marks: &[bool; LANE], k: usize, m: usize, t: usize, row: &mut [u8]) -> bool
-    requires { (2 * (k * 256 + m) + 1 < length row.old) × (2 * (k * 256 + t) + 1 < length row.old) }
+fn draw(marks: &[bool], k: usize, m: usize, t: usize, row: &mut [u8]) -> bool
+    requires long { 256 ≤ length marks.now }
+    requires there { (2 * (k * 256 + m) + 1 < length row.old) × (2 * (k * 256 + t) + 1 < length row.old) }
     ensures row { words row.new ≡ drawn marks.now m t k (words row.old) }
     ensures answer { result ≡ lowers marks.now m t k (words row.old) }
 {
@@ -62,7 +64,8 @@ fn draw(marks: &[bool; LANE], k: usize, m: usize, t: usize, row: &mut [u8]) -> b
 
 // The same in each lane. A record may name a class that is not there: nothing is drawn from it.
 #[tactic(auto, unfolding(crate::specs::Lanes::lanes_of, crate::specs::Lanes::drawn_lanes, crate::specs::Lanes::drew_lanes))]
-pub fn draw_lanes(marks: &[bool; LANE], extent: Extent, m: usize, t: usize, row: &mut [u8]) -> bool
+pub fn draw_lanes(marks: &[bool], extent: Extent, m: usize, t: usize, row: &mut [u8]) -> bool
+    requires long { 256 ≤ length marks.now }
     requires room { Room extent.classes extent.lanes row.old }
     requires there { m < extent.classes }
     ensures row { words row.new ≡ drawn_lanes marks.now m t (lanes_of extent.classes extent.lanes t) (words row.old) }

@@ -102,7 +102,7 @@ fn class_lines(library: &[u8], sheet: &[u8], verdicts: &[u8], writer: &mut Write
     ensures { Writes writer.old
         (gather (line_text library.now sheet.now) (span 0 (class_count sheet.now))) writer.new }
 {
-    let nlib = count_in(library, Kind::Class);
+    let nlib = count_in(library, Kind::Class.number());
     let mut i = 0;
     let mut start = 0;
     while start < sheet.len() {

@@ -1,7 +1,7 @@
 // The index of class names: 512 places that hold class numbers, each class at its name's home or the next free place after it.
 #![tactic(auto)]
 
-ghost use Rattle.std.specs.Prelude.{◌≡◌, ◌<◌, length, set};
+ghost use Rattle.std.specs.Prelude.{◌≡◌, ◌<◌, false, length, replicate, set};
 ghost use Rattle.spec.specs.Index.{home, next_place, free_from, found_from, found_in, names_index};
 ghost use Rattle.sheets.specs.Sheets.{count, groups};
 ghost use Rattle.theory.specs.Claims.{Held};
@@ -100,17 +100,25 @@ pub fn fill(sheets: &Sheets, row: &mut [u16])
     }
 }
 
-/// Of each class, whether one before it, in either sheet, has its name: a name is looked for before its own class enters.
-pub fn met(sheets: &Sheets) -> [bool; CLASS_LIMIT]
-    ensures { result ≡ met_before (groups sheets.now) (count sheets.now) }
+/// Marks each class whose name one before it has, in either sheet: a name is looked for before its own class enters.
+pub fn mark_met(sheets: &Sheets, met: &mut [bool; CLASS_LIMIT])
+    requires unmarked { met.old ≡ replicate 256 false }
+    ensures { met.new ≡ met_before (groups sheets.now) (count sheets.now) }
 {
     let mut row = [FREE; PLACES];
-    let mut met = [false; CLASS_LIMIT];
     for (class, entry) in met[..sheets.count()].iter_mut().enumerate() {
         let name = sheets.group(class).name();
         let home = home(name);
         *entry = find_from(sheets, &row, home, name).is_some();
         enter(&mut row, class, home);
     }
+}
+
+/// The same row, handed out.
+pub fn met(sheets: &Sheets) -> [bool; CLASS_LIMIT]
+    ensures { result ≡ met_before (groups sheets.now) (count sheets.now) }
+{
+    let mut met = [false; CLASS_LIMIT];
+    mark_met(sheets, &mut met);
     met
 }

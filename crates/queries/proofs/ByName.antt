@@ -12,7 +12,7 @@ use Rattle.std.specs.Prelude.{Option, Some, None, unwrap_or}
 use Rattle.std.specs.Option.{is_some}
 use Rattle.spec.specs.Lists.{first_of}
 use Rattle.spec.specs.Record.{none16}
-use Rattle.spec.specs.Sheet.{Group, total, group}
+use Rattle.spec.specs.Sheet.{total, group}
 use Rattle.spec.specs.Index.{index_places, found_in, names_index, class_named}
 use Rattle.spec.specs.Refusals.{Refusal, refuse_if, refuse_plain, present_refusal, few_places_refusal, no_name_refusal, index_refusal, lookup_refusal}
 use Rattle.spec.specs.Promises.{refused, accepted, afterwards, indexed, Indexes, Finds}

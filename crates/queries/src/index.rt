@@ -5,8 +5,9 @@ ghost use Rattle.spec.specs.Refusals.{index_refusal};
 ghost use Rattle.spec.specs.Promises.{Indexes, Finds};
 ghost use Rattle.refusals.specs.Refusals.{Answers, answer_in};
 
+use copying::copy;
+use form::accept;
 use form::accepted::{Accepted, Found};
-use form::present;
 use names::{PLACES, fill, find};
 use refusals::{Reason, Refusal};
 
@@ -22,7 +23,7 @@ fn with_room<'a>(
     ensures { Answers (index_refusal library.now user.now used (length row.now)) result
         (λ a. (a.formed.sheets ≡ record { library = library.now; user = take used user.now }) × (512 ≤ length row.now)) }
 {
-    let accepted = present(library, user, used, found)?;
+    let accepted = accept(library, user, used, found)?;
     Reason::TooShort.unless(PLACES <= row.len())?;
     Ok(accepted)
 }
@@ -56,6 +57,6 @@ pub fn lookup(
     let mut places = [0; PLACES];
     fill(&sheets, &mut places);
     let class = find(&sheets, &places, name).ok_or(Reason::NoSuchClass)?;
-    row[..PLACES].copy_from_slice(&places);
+    copy(&mut row[..PLACES], &places);
     Ok(class)
 }

@@ -11,10 +11,11 @@ ghost use Rattle.refusals.specs.Refusals.{Answers, answer_in, sheet_number};
 ghost use Rattle.sheets.specs.Sheets.{count};
 ghost use Rattle.queries.specs.Answers.{part_of};
 
+use copying::copy;
+use form::accept;
 use form::accepted::{Accepted, Found};
-use form::present;
 use overlay::{Falling, overlay_in_turn};
-use records::NAME_AT;
+use records::{CLASS_LIMIT, NAME_AT};
 use refusals::{Reason, Refusal, Side};
 
 /// Where a name stands: its sheet, the byte where it begins, and how long it is.
@@ -37,7 +38,7 @@ fn asked<'a>(
     ensures { Answers (query_refusal library.now user.now used class) result
         (λ a. (a.formed.sheets ≡ record { library = library.now; user = take used user.now }) × (class < count a.formed.sheets)) }
 {
-    let accepted = present(library, user, used, found)?;
+    let accepted = accept(library, user, used, found)?;
     Reason::NoSuchClass.unless(class < accepted.formed.sheets.count())?;
     Ok(accepted)
 }
@@ -51,7 +52,9 @@ pub fn marks(library: &[u8], user: &[u8], used: usize, class: usize) -> Result<u
     let falling = Falling {
         sheets: &accepted.formed.sheets,
     };
-    Ok(overlay_in_turn(&falling, class, &mut accepted.memo()))
+    let mut memo = [None; CLASS_LIMIT];
+    copy(&mut memo, accepted.lent_memo());
+    Ok(overlay_in_turn(&falling, class, &mut memo))
 }
 
 /// Where a class's name stands: for a caller that wants the refusal, or cannot be handed a part of a slice.

@@ -26,7 +26,7 @@ use Rattle.laws.proofs.Rows.{same_all, values_are}
 use Rattle.theory.proofs.Reach.{Steps, here, onward}
 use Rattle.theory.proofs.Complete.{reach_sound, reach_complete}
 use Rattle.named.specs.declared.Along.TheVariants.{Every}
-use Rattle.sheets.specs.Sheets.{Pair, Passed, count, groups}
+use Rattle.sheets.specs.Sheets.{Pair, Passed, count}
 use Rattle.lanes.specs.Lanes.{words, Draws, own, via, entry_at, Other, SeedsFit, Least}
 use Rattle.lanes.proofs.Words.{words_all}
 use Rattle.reach.specs.Reach.{named_in, steps_of, outer_of, Closed}

@@ -1,7 +1,7 @@
 // The search along what the records of both sheets name: each class draws the least entry that reaches it, until nothing changes.
 #![tactic(auto)]
 
-ghost use Rattle.std.specs.Prelude.{◌≡◌, true, [], ◌≤◌, ◌<◌, map};
+ghost use Rattle.std.specs.Prelude.{◌≡◌, true, false, [], ◌≤◌, ◌<◌, map, replicate};
 ghost use Rattle.spec.specs.Lists.{any, span};
 ghost use Rattle.spec.specs.Verdicts.{depends_on};
 ghost use Rattle.sheets.specs.Sheets.{count, groups};
@@ -29,39 +29,36 @@ fn nearest(sheets: &Sheets, c: usize) -> usize
     }
 }
 
+/// Notes each class's encloser in a row of the caller's.
+pub fn note_outers(formed: &Formed, outer: &mut [u8; CLASS_LIMIT])
+    ensures { Outers formed.now.sheets outer.new }
+{
+    let sheets = &formed.sheets;
+    for (c, above) in outer[..sheets.count()].iter_mut().enumerate() {
+        *above = nearest(sheets, c) as u8;
+    }
+}
+
 /// Formed sheets, and the encloser of each class: a row, since a search climbs it again and again. A class without one has itself.
 #[derive(Drop)]
 pub struct Nest<'a> {
     pub formed: &'a Formed<'a>,
-    outer: [u8; CLASS_LIMIT],
-    ghost read: { Outers formed.now.sheets outer },
+    pub outer: &'a [u8; CLASS_LIMIT],
+    pub ghost read: { Outers formed.now.sheets outer.now },
 }
 
 impl<'a> Nest<'a> {
-    /// Reads each class's encloser once.
-    pub fn of(formed: &'a Formed<'a>) -> Nest<'a>
-        ensures { result.formed ≡ formed.entry }
+    /// Marks each encloser of class m in a row of the caller's.
+    pub fn mark_enclosers(&self, m: usize, marks: &mut [bool; CLASS_LIMIT])
+        requires there { m < count self.now.formed.now.sheets }
+        requires unmarked { marks.old ≡ replicate 256 false }
+        ensures { Enclosers (outer_of (groups self.now.formed.now.sheets)) m marks.new }
     {
-        let sheets = &formed.sheets;
-        let mut outer = [0; CLASS_LIMIT];
-        for (c, above) in outer[..sheets.count()].iter_mut().enumerate() {
-            *above = nearest(sheets, c) as u8;
-        }
-        Nest { formed, outer }
-    }
-
-    /// Marks each encloser of class m.
-    pub fn enclosers(&self, m: usize) -> [bool; CLASS_LIMIT]
-        requires { m < count self.now.formed.now.sheets }
-        ensures { Enclosers (outer_of (groups self.now.formed.now.sheets)) m result }
-    {
-        let mut marks = [false; CLASS_LIMIT];
         let mut c = m;
         while usize::from(self.outer[c]) < c {
             c = usize::from(self.outer[c]);
             marks[c] = true;
         }
-        marks
     }
 }
 
@@ -167,7 +164,8 @@ fn visit(nest: &Nest, along: Along, extent: Extent, m: usize, row: &mut [u8]) ->
     if !wants(&group, along, extent, m, row) {
         return false;
     }
-    let marks = nest.enclosers(m);
+    let mut marks = [false; CLASS_LIMIT];
+    nest.mark_enclosers(m, &mut marks);
     scan(&group, &marks, along, extent, m, row)
 }
 
@@ -199,18 +197,32 @@ pub fn close(nest: &Nest, along: Along, lanes: usize, row: &mut [u8])
     }
 }
 
-/// Marks each class that depends on d. Its rows are not to lie in the frame of the judging that comes after it.
+/// Marks each class that depends on d, and no other, in a row of the caller's. Its own rows are not to lie in the frame of the judging that comes after it.
 #[inline(never)]
+pub fn mark_dependents(formed: &Formed, d: usize, marks: &mut [bool; CLASS_LIMIT])
+    requires { d < count formed.now.sheets }
+    ensures { marks.new ≡ map (depends_on formed.now.sheets.library formed.now.sheets.user d) (span 0 256) }
+{
+    let mut row = [u8::MAX; LANE * ENTRY_BYTES];
+    put(&mut row, d, 0);
+    let mut outer = [0; CLASS_LIMIT];
+    note_outers(formed, &mut outer);
+    let nest = Nest {
+        formed,
+        outer: &outer,
+    };
+    close(&nest, Along::Every, 1, &mut row);
+    for (c, mark) in marks.iter_mut().enumerate() {
+        *mark = entry(&row, c) == 0;
+    }
+}
+
+/// The same row, handed out.
 pub fn dependents(formed: &Formed, d: usize) -> [bool; CLASS_LIMIT]
     requires { d < count formed.now.sheets }
     ensures { result ≡ map (depends_on formed.now.sheets.library formed.now.sheets.user d) (span 0 256) }
 {
-    let mut row = [u8::MAX; LANE * ENTRY_BYTES];
-    put(&mut row, d, 0);
-    close(&Nest::of(formed), Along::Every, 1, &mut row);
     let mut marks = [false; CLASS_LIMIT];
-    for (c, mark) in marks.iter_mut().enumerate() {
-        *mark = entry(&row, c) == 0;
-    }
+    mark_dependents(formed, d, &mut marks);
     marks
 }

@@ -37,12 +37,12 @@ impl<'a> Records<'a> {
         Records { rest: bytes }
     }
 
-    // How many of them are of a kind.
-    pub(crate) fn of_kind(self, kind: Kind) -> usize
+    // How many of them are of the kind with a number.
+    pub(crate) fn of_kind(self, number: u16) -> usize
         requires { length self < 2 ^ 63 }
-        ensures { result ≡ length (of_kind (kind_number kind) self.entry) }
+        ensures { result ≡ length (of_kind number self.entry) }
     {
-        self.filter(|record| record.is(kind)).count()
+        self.filter(|record| record.has_number(number)).count()
     }
 }
 
@@ -120,7 +120,7 @@ impl<'a> Group<'a> {
     pub fn count(&self, kind: Kind) -> usize
         ensures { result ≡ length (of_kind (kind_number kind) self.now) }
     {
-        self.records().of_kind(kind)
+        self.records().of_kind(kind.number())
     }
 
     /// Whether some record is of a kind.

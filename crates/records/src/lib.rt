@@ -4,7 +4,6 @@
 ghost use Rattle.std.specs.Prelude.{◌≡◌, ◌+◌, ◌≤◌, ◌<◌, length, IfSome};
 ghost use Rattle.spec.specs.Record.{u16, bit};
 ghost use Rattle.spec.specs.Sheet.{of_kind};
-ghost use Rattle.records.specs.Kinds.{kind_number};
 ghost use Rattle.records.specs.Lengths.{whole_length};
 ghost use Rattle.records.specs.Records.{between, AtRecord, nth_byte};
 
@@ -13,7 +12,6 @@ pub mod kind;
 pub mod record;
 
 use group::Records;
-use kind::Kind;
 
 // The length and the kind that each record begins with.
 pub const HEAD_BYTES: usize = 4;
@@ -102,23 +100,23 @@ pub fn word_in(bytes: &[u8], i: usize) -> u16
     u16::from_le_bytes([bytes[i], bytes[i + 1]])
 }
 
-// How many records of a kind some bytes are.
-pub fn count_in(bytes: &[u8], kind: Kind) -> usize
+// How many records some bytes are of the kind with that number; 0 for a number that no kind has.
+pub fn count_in(bytes: &[u8], kind: u16) -> usize
     requires { AtRecord bytes.now (length bytes.now) 0 }
-    ensures { result ≡ length (of_kind (kind_number kind) (between bytes.now 0 (length bytes.now))) }
+    ensures { result ≡ length (of_kind kind (between bytes.now 0 (length bytes.now))) }
 {
     Records::new(bytes).of_kind(kind)
 }
 
-// Where record number i of a kind begins in some bytes; their end if there is none.
-pub fn nth_in(bytes: &[u8], kind: Kind, i: usize) -> usize
+// Where record number i of the kind with that number begins in some bytes; their end if there is none.
+pub fn nth_in(bytes: &[u8], kind: u16, i: usize) -> usize
     requires { AtRecord bytes.now (length bytes.now) 0 }
-    ensures { result ≡ nth_byte (kind_number kind) i 0 (between bytes.now 0 (length bytes.now)) }
+    ensures { result ≡ nth_byte kind i 0 (between bytes.now 0 (length bytes.now)) }
 {
     let mut at = 0;
     let mut left = i;
     for record in Records::new(bytes) {
-        if record.is(kind) {
+        if record.has_number(kind) {
             if left == 0 {
                 return at;
             }

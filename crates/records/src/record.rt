@@ -147,11 +147,18 @@ impl<'a> Record<'a> {
         Kind::try_from(word_in(self.bytes, KIND_AT)).unwrap_or(Kind::Refers)
     }
 
+    /// Whether the record's kind has that number: never so of a number that no kind has.
+    pub fn has_number(&self, number: u16) -> bool
+        ensures { result ≡ is_kind number self.now }
+    {
+        word_in(self.bytes, KIND_AT) == number
+    }
+
     /// Whether the record is of a kind.
     pub fn is(&self, kind: Kind) -> bool
         ensures { result ≡ is_kind (kind_number kind) self.now }
     {
-        word_in(self.bytes, KIND_AT) == kind.number()
+        self.has_number(kind.number())
     }
 
     /// What the record says.

@@ -37,9 +37,10 @@ fn applies(judging: &Judging, rule: Rule, c: usize) -> bool
     requires { c < count judging.now.formed.now.sheets }
     ensures { result ≡ applies (groups judging.now.formed.now.sheets) rule c }
 {
+    let markers = judging.markers;
     match rule {
         Rule::Late(late) => {
-            has(known(&judging.markers, c), late.set())
+            has(known(markers, c), late.set())
                 && !judging.formed.sheets.group(c).head().is_interface()
         }
         _ => true,

@@ -1,21 +1,19 @@
--- The first refusal along the records of two sheets is the first along their classes: located records are those of the groups one after the other.
+-- The first refusal along the records of a sheet, and of both, is the first along the classes: located records are those of the groups one after the other.
 -- Assumes nothing.
 use mathlib.Core.Path.{◌≡◌, refl, sym, ap, ap₂, ◌∙◌}
 use mathlib.Core.Bool.{Bool, true, false, not}
-use mathlib.Core.Logic.{◌⊎◌, inl, inr}
 use mathlib.Core.List.{List, [], ◌∷◌, ◌++◌, map, map-append}
 use mathlib.Core.Option.{Option, none, some}
-use Prim.Native.Nat.{ℕ, zero, suc, ◌+◌, ◌-◌, ◌<◌}
+use Prim.Native.Nat.{ℕ, zero, suc, ◌+◌, ◌-◌, ◌≤◌, ◌<◌}
 use native.Mathlib.Nat.{add-zero}
 use native.Mathlib.Omega.{arith}
-use lib.Dec.{T, ltb, ltb→lt, nltb→le}
-use lib.ListN.{length, get_or, take, length-append, get_or-append}
-use lib.Seq.{get_or-append-add}
-use Rattle.spec.specs.Lists.{any, concat, first_of}
+use lib.Dec.{T, ltb}
+use lib.ListN.{length, get_or, take, length-append}
+use Rattle.spec.specs.Lists.{any, concat, first_of, span}
 use Rattle.spec.specs.Record.{kind, is_class}
 use Rattle.spec.specs.Sheet.{Group, Split, records_of, split_groups, groups_of, class_count, group_start, total, group, Located, locate, located_in, located}
 use Rattle.spec.specs.Refusals.{Refusal, refuse_if, refuse_record, one_class}
-use Rattle.laws.proofs.Bools.{decide, t_true, t_false, and_l, and_r, not_or_l, not_or_r}
+use Rattle.laws.proofs.Bools.{t_true, t_false, and_l, and_r, not_or_l, not_or_r}
 use Rattle.laws.proofs.All.{All}
 use Rattle.theory.proofs.Answers.{skip_none, first_some, first_only, first_past, first_append, keep_head}
 use Rattle.theory.proofs.Accept.{Clear}
@@ -24,17 +22,23 @@ use Rattle.groups.specs.Groups.{sheet_number, start_of, Indexed}
 use Rattle.groups.proofs.Held.{in_library, in_user, library_number, user_number}
 use Rattle.second.specs.Second.{first_met, form_of}
 
--- ---- the first along a list, by places
+-- ---- answers by the numbers of classes
 
-module _ {A : Type 0} where
-  pub first_at : (os : List (Option A)) (c : ℕ) {a : A} → ((d : ℕ) → d < c → get_or os d none ≡ none) → get_or os c none ≡ some a → first_of os ≡ some a
-  first_at [] c f e = absurd (let z : ◌≡◌ {A = ℕ} 0 1 = cc in omega arith)
-  first_at (o ∷ os) zero f e = first_some os e
-  first_at (o ∷ os) (suc c) f e = skip_none o os (f 0 (omega arith)) ∙ first_at os c (λ d h. f (suc d) (omega arith)) e
+-- the answers of the k classes from c on
+listed : {A : Type 0} (f : ℕ → Option A) (os : List (Option A)) (c : ℕ) {k : ℕ} → length os ≡ k → ((i : ℕ) → i < k → get_or os i none ≡ f (c + i)) → os ≡ map f (span c k)
+unfolding span
+listed f [] c e h = rw (sym e) refl
+listed f (o ∷ os) c e h =
+    let here : o ≡ f c = h 0 (omega arith) ∙ ap f (add-zero c) in
+    let later : os ≡ map f (span (suc c) (length os)) =
+    listed f os (suc c) refl (λ i l. let z : c + suc i ≡ suc c + i = omega arith in h (suc i) (omega arith) ∙ ap f z) in
+    rw (sym e) (ap₂ (λ (x : Option _) (xs : List (Option _)). x ∷ xs) here later)
 
-  pub none_at : (os : List (Option A)) → ((d : ℕ) → d < length os → get_or os d none ≡ none) → first_of os ≡ none
-  none_at [] f = unfold first_of in refl
-  none_at (o ∷ os) f = skip_none o os (f 0 (omega arith)) ∙ none_at os (λ d h. f (suc d) (omega arith))
+-- so many numbers, then others
+span_split : (i m k : ℕ) {n j : ℕ} → n ≡ m + k → j ≡ i + m → span i n ≡ span i m ++ span j k
+unfolding span
+span_split i zero k {n} {j} en ej = let a : n ≡ k = omega arith in let b : j ≡ i = omega arith in rw (a, b) refl
+span_split i (suc m) k {n} en ej = let a : n ≡ suc (m + k) = omega arith in rw a (ap (λ (l : List ℕ). i ∷ l) (span_split (suc i) m k refl (omega arith)))
 
 -- ---- records that are located
 
@@ -165,9 +169,9 @@ module _ (tests : Located → List (ℕ × Bool)) (number : ℕ → List ℕ →
   -- ---- both sheets
 
   module _ {library user : List ℕ} {nlib n : ℕ} {row : List ℕ} (x : Indexed library user nlib n row) where
-    -- what refuses each class
-    each : List (Option Refusal)
-    each = forms 0 0 0 (groups_of library) ++ forms 1 0 (class_count library) (groups_of user)
+    -- what refuses class c
+    abbrev refusal : ℕ → Option Refusal
+    refusal c = form_of (number c) (sheet_number nlib c) (start_of library user c) (group library user c)
 
     sheet_along : {sheet m : ℕ} {s : List ℕ} → Clear sheet m s → along (located_in sheet m s) ≡ first_of (forms sheet 0 m (groups_of s))
     unfolding located_in groups_of
@@ -175,54 +179,50 @@ module _ (tests : Located → List (ℕ × Bool)) (number : ℕ → List ℕ →
         ap (λ (rs : List (List ℕ)). along (locate sheet 0 m 0 0 rs)) (records_grouped s clear.end clear.loose)
         ∙ groups_along sheet 0 m (groups_of s) (split_parts (records_of s)).one
 
-    both_along : along (located library user) ≡ first_of each
-    unfolding located each
+    library_at : (c : ℕ) → c < nlib → get_or (forms 0 0 0 (groups_of library)) c none ≡ refusal c
+    unfolding group_start class_count
+    library_at c h =
+        let w = in_library x h in rw (library_number nlib c h) (forms_there 0 0 0 (groups_of library) c w.there (omega arith) (omega (arith, w.start)) w.its)
+
+    user_at : (i : ℕ) → i < class_count user → get_or (forms 1 0 nlib (groups_of user)) i none ≡ refusal (nlib + i)
+    unfolding group_start class_count total
+    user_at i h =
+        let low : nlib ≤ nlib + i = omega arith in
+        let high : nlib + i < n = omega (arith, x.nlib_is, x.n_is) in
+        let w = in_user x {c = nlib + i} low high in
+        let e : nlib + i - nlib ≡ i = omega arith in
+        let there : i < length (groups_of user) = rw e at w.there in
+        rw (user_number nlib (nlib + i) low) (forms_there 1 0 nlib (groups_of user) i there refl (omega (arith, rw e at w.start)) (rw e at w.its))
+
+    -- each sheet by its classes, and both
+    pub library_along : along (located_in 0 0 library) ≡ first_of (map refusal (span 0 nlib))
+    unfolding class_count
+    library_along =
+        let long : length (forms 0 0 0 (groups_of library)) ≡ nlib = forms_long 0 0 0 (groups_of library) ∙ sym x.nlib_is in
+        sheet_along x.library_clear
+        ∙ ap first_of (listed refusal (forms 0 0 0 (groups_of library)) 0 long (λ i h. let z : i ≡ 0 + i = omega arith in library_at i h ∙ ap refusal z))
+
+    pub user_along : along (located_in 1 nlib user) ≡ first_of (map refusal (span nlib (n - nlib)))
+    unfolding class_count total
+    user_along =
+        let long : length (forms 1 0 nlib (groups_of user)) ≡ n - nlib = omega (arith, forms_long 1 0 nlib (groups_of user), x.nlib_is, x.n_is) in
+        let clear : Clear 1 nlib user = rw x.nlib_is x.user_clear in
+        sheet_along clear
+        ∙ ap first_of (listed refusal (forms 1 0 nlib (groups_of user)) nlib long (λ i h. user_at i (omega (arith, x.nlib_is, x.n_is))))
+
+    pub both_along : along (located library user) ≡ first_of (map refusal (span 0 n))
+    unfolding located total
     both_along =
         let f : Located → Option Refusal = λ l. refuse_record l (tests l) in
         let front = located_in 0 0 library in
-        let back = located_in 1 (class_count library) user in
-        ap first_of (map-append f front back)
+        let back = located_in 1 nlib user in
+        let low = map refusal (span 0 nlib) in
+        let high = map refusal (span nlib (n - nlib)) in
+        let e : span 0 n ≡ span 0 nlib ++ span nlib (n - nlib) = span_split 0 nlib (n - nlib) (omega (arith, x.nlib_is, x.n_is)) (omega arith) in
+        ap (λ (k : ℕ). first_of (map f (front ++ located_in 1 k user))) (sym x.nlib_is)
+        ∙ ap first_of (map-append f front back)
         ∙ first_append (map f front) (map f back)
-        ∙ ap (λ (o : Option Refusal). first_of (o ∷ map f back)) (sheet_along x.library_clear)
-        ∙ keep_head _ _ _ (sheet_along x.user_clear)
-        ∙ sym (first_append (forms 0 0 0 (groups_of library)) (forms 1 0 (class_count library) (groups_of user)))
-
-    each_long : length each ≡ n
-    unfolding each total class_count
-    each_long =
-        omega (
-          arith,
-          length-append (forms 0 0 0 (groups_of library)) (forms 1 0 (class_count library) (groups_of user)),
-          forms_long 0 0 0 (groups_of library),
-          forms_long 1 0 (class_count library) (groups_of user),
-          x.n_is,
-        )
-
-    each_at : (c : ℕ) → c < n → get_or each c none ≡ form_of (number c) (sheet_number nlib c) (start_of library user c) (group library user c)
-    unfolding each class_count group_start
-    each_at c h = go (decide (ltb c nlib))
-      where
-        go : T (ltb c nlib) ⊎ T (not (ltb c nlib)) → get_or each c none ≡ form_of (number c) (sheet_number nlib c) (start_of library user c) (group library user c)
-        go (inl t) =
-            let k = ltb→lt c nlib t in
-            let w = in_library x k in
-            let l : c < length (forms 0 0 0 (groups_of library)) = omega (arith, forms_long 0 0 0 (groups_of library), w.there) in
-            rw (library_number nlib c k)
-            (get_or-append (forms 0 0 0 (groups_of library)) (forms 1 0 (length (groups_of library)) (groups_of user)) none c l
-            ∙ forms_there 0 0 0 (groups_of library) c w.there (omega arith) (omega (arith, w.start)) w.its)
-        go (inr t) =
-            let k = nltb→le c nlib t in
-            let w = in_user x k h in
-            let e : c ≡ length (forms 0 0 0 (groups_of library)) + (c - nlib) = omega (arith, forms_long 0 0 0 (groups_of library), x.nlib_is) in
-            rw (user_number nlib c k)
-            (ap (λ (d : ℕ). get_or (forms 0 0 0 (groups_of library) ++ forms 1 0 (length (groups_of library)) (groups_of user)) d none) e
-            ∙ get_or-append-add (forms 0 0 0 (groups_of library)) (forms 1 0 (length (groups_of library)) (groups_of user)) (c - nlib) none
-            ∙ forms_there 1 0 (length (groups_of library)) (groups_of user) (c - nlib) w.there (omega (arith, x.nlib_is)) (omega (arith, w.start)) w.its)
-
-    -- the first class that is refused
-    pub first_class : (c : ℕ) → c < n → ((d : ℕ) → d < c → form_of (number d) (sheet_number nlib d) (start_of library user d) (group library user d) ≡ none)
-        → {a : Refusal} → form_of (number c) (sheet_number nlib c) (start_of library user c) (group library user c) ≡ some a → along (located library user) ≡ some a
-    first_class c h f e = both_along ∙ first_at each c (λ d l. each_at d (omega arith) ∙ f d l) (each_at c h ∙ e)
-
-    pub no_class : ((d : ℕ) → d < n → form_of (number d) (sheet_number nlib d) (start_of library user d) (group library user d) ≡ none) → along (located library user) ≡ none
-    no_class f = both_along ∙ none_at each (λ d l. let h : d < n = omega (arith, each_long) in each_at d h ∙ f d h)
+        ∙ ap (λ (o : Option Refusal). first_of (o ∷ map f back)) library_along
+        ∙ keep_head _ _ _ user_along
+        ∙ sym (first_append low high)
+        ∙ ap first_of (sym (map-append refusal (span 0 nlib) (span nlib (n - nlib))) ∙ ap (map refusal) (sym e))

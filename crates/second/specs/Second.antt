@@ -1,12 +1,12 @@
 -- The second pass, class by class: the number that refuses a record by what it names, and what records ask of classes by their numbers.
 -- Assumes nothing.
-use Rattle.std.specs.Prelude.{◌≡◌, Bool, true, false, not, ◌&&◌, ◌||◌, Option, None, Some, Result, Ok, Err, List, [], ◌∷◌, ℕ, ◌+◌, ◌≤◌, ◌<◌, eqb, leb, ltb, length, get_or}
+use Rattle.std.specs.Prelude.{◌≡◌, Bool, true, false, not, ◌&&◌, ◌||◌, Option, None, Some, Result, Ok, Err, List, [], ◌∷◌, map, ℕ, ◌+◌, ◌-◌, ◌≤◌, ◌<◌, eqb, leb, ltb, length, get_or}
 use Rattle.std.proofs.Math.Option as spec
-use Rattle.spec.specs.Lists.{any, elem}
+use Rattle.spec.specs.Lists.{any, elem, first_of, span}
 use Rattle.spec.specs.Record.{bit, LOCAL, MEMBER, ty_references}
-use Rattle.spec.specs.Sheet.{Group, of_kind, is_interface}
+use Rattle.spec.specs.Sheet.{Group, of_kind, is_interface, located_in}
 use Rattle.spec.specs.Classes.{enclosers}
-use Rattle.spec.specs.Refusals.{Refusal, form_tests, name_met}
+use Rattle.spec.specs.Refusals.{Refusal, refuse_record, form_tests, name_met}
 use Rattle.groups.specs.Groups.{sheet_number, start_of}
 use Rattle.refusals.specs.declared.Reason.{Reason}
 use Rattle.refusals.specs.declared.Side.{Side}
@@ -127,3 +127,16 @@ form_of number sheet at (r ∷ rs) = elim (number r) [
 -- 9, 8, 10 along the records of class c
 unfoldable pub class_refusal : Pair → ℕ → spec.Option Refusal
 class_refusal p c = form_of (form_number p c) (sheet_number (library_count p) c) (start_of p.library p.user c) (groups p c)
+
+-- the same of the classes from `first` on, up to class `past`
+unfoldable pub classes_refusal : Pair → ℕ → ℕ → spec.Option Refusal
+classes_refusal p first past = first_of (map (class_refusal p) (span first (past - first)))
+
+-- 9, 8, 10 along the records of one sheet, where m classes stand before it
+unfoldable pub form_in : (ℕ → Group) → ℕ → ℕ → ℕ → ℕ → List ℕ → spec.Option Refusal
+form_in g nlib n sheet m s = first_of (map (λ l. refuse_record l (form_tests g nlib n l)) (located_in sheet m s))
+
+-- the same of a sheet of the two
+abbrev pub side_refusal : Pair → Side → spec.Option Refusal
+side_refusal p Library = form_in (groups p) (library_count p) (count p) 0 0 p.library
+side_refusal p User = form_in (groups p) (library_count p) (count p) 1 (library_count p) p.user

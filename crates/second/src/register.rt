@@ -1,12 +1,11 @@
 // What the second pass asks of classes: it stands in rows, so that no sheet is read for it again.
-ghost use Rattle.std.specs.Prelude.{◌≡◌, ◌<◌};
+ghost use Rattle.std.specs.Prelude.{◌≡◌, ◌<◌, false, replicate};
 ghost use Rattle.std.proofs.Props.{props};
 ghost use Rattle.laws.proofs.All.{all_prop};
 ghost use Rattle.sheets.specs.Sheets.{Passed, count, groups};
 ghost use Rattle.names.specs.Names.{met_before};
 ghost use Rattle.second.specs.Second.{Heads, Enclosing, indexed_kind, asked_of};
 
-use names::met;
 use records::CLASS_LIMIT;
 use records::kind::Kind;
 use refusals::Side;
@@ -19,15 +18,22 @@ pub struct Asked {
     pub indexed: u8,
 }
 
+impl Asked {
+    pub const NOTHING: Asked = Asked {
+        interface: false,
+        indexed: 0,
+    };
+}
+
 /// Both sheets, with whether each class's name was met before and what records ask of each class.
 #[derive(Drop)]
 pub struct Register<'a> {
     pub sheets: &'a Sheets<'a>,
-    pub met: [bool; CLASS_LIMIT],
-    pub asked: [Asked; CLASS_LIMIT],
+    pub met: &'a [bool; CLASS_LIMIT],
+    pub asked: &'a [Asked; CLASS_LIMIT],
     pub ghost passed: { Passed sheets.now } by { Prim.hlevel (all_prop, props) },
-    pub ghost named: { met ≡ met_before (groups sheets.now) (count sheets.now) },
-    pub ghost heads: { Heads sheets.now asked },
+    pub ghost named: { met.now ≡ met_before (groups sheets.now) (count sheets.now) },
+    pub ghost heads: { Heads sheets.now asked.now },
 }
 
 // The kind of the records that others name by an index: MEMBER in the library, LOCAL in the user sheet.
@@ -53,31 +59,24 @@ fn asked_of(sheets: &Sheets, c: usize) -> Asked
     }
 }
 
-impl<'a> Register<'a> {
-    /// Fills the rows.
-    pub fn new(sheets: &'a Sheets<'a>) -> Register<'a>
-        ensures { result.sheets.now ≡ sheets.now }
-    {
-        let n = sheets.count();
-        let met = met(sheets);
-        let mut asked = [Asked {
-            interface: false,
-            indexed: 0,
-        }; CLASS_LIMIT];
-        for (c, entry) in asked[..n].iter_mut().enumerate() {
-            *entry = asked_of(sheets, c);
-        }
-        Register { sheets, met, asked }
+/// Notes of each class what records ask of it.
+pub fn note_asked(sheets: &Sheets, asked: &mut [Asked; CLASS_LIMIT])
+    ensures { Heads sheets.now asked.new }
+{
+    for (c, entry) in asked[..sheets.count()].iter_mut().enumerate() {
+        *entry = asked_of(sheets, c);
     }
+}
 
-    /// Marks class c and its enclosers in a row, so that a USES asks by one look.
-    pub fn enclosing(&self, c: usize) -> [bool; CLASS_LIMIT]
+impl<'a> Register<'a> {
+    /// Marks class c and its enclosers in a row of its caller, so that a USES asks by one look.
+    pub fn mark_enclosing(&self, c: usize, marks: &mut [bool; CLASS_LIMIT])
         requires there { c < count self.now.sheets.now }
-        ensures { Enclosing self.now.sheets.now c result }
+        requires unmarked { marks.old ≡ replicate 256 false }
+        ensures { Enclosing self.now.sheets.now c marks.new }
     {
         let sheets = self.sheets;
         let n = sheets.count();
-        let mut marks = [false; CLASS_LIMIT];
         marks[c] = true;
         let mut at = c;
         for _ in 0..c + 1 {
@@ -89,6 +88,5 @@ impl<'a> Register<'a> {
                 _ => break,
             }
         }
-        marks
     }
 }

@@ -121,8 +121,8 @@ impl<'a> Sheets<'a> {
         usize::from(starts[next])
     }
 
-    // The bytes of class c.
-    fn bytes(&self, c: usize) -> &'a [u8]
+    /// The bytes of class c: its records end to end.
+    pub fn bytes(&self, c: usize) -> &'a [u8]
         requires { c < count self.now }
         ensures { Carries result.now (groups self.now c) }
     {

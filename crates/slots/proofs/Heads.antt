@@ -8,20 +8,22 @@ use mathlib.Core.Logic.{◌⊎◌, inl, inr}
 use mathlib.Core.Option as option
 use Prim.Native.Nat.{ℕ, ◌<◌}
 use native.Mathlib.Omega.{arith}
-use lib.Dec.{T, ltb, ltb→lt, nltb→le}
+use lib.Dec.{T, T_not, leb, eqb, ltb, ltb→lt, nltb→le}
 use lib.ListN.{get_or}
 use borrow.Author.Tests.{lt-ltb, le-ltb}
 use Rattle.std.specs.Prelude.{Option, None, Some, is_some}
+use Rattle.std.specs.Option.{unwrap_or}
 use Rattle.spec.specs.Lists.{any, all, keep, gather, numbered, only_if}
-use Rattle.spec.specs.Record.{bit, flags, encloser, unless_none, ty_references}
+use Rattle.spec.specs.Record.{bit, none16, is_class, flags, encloser, unless_none, ty_references}
 use Rattle.spec.specs.Sheet.{Group, class_record, is_inner, is_instance_field}
 use Rattle.spec.specs.Classes.{Slot, field_slot, encloser_slot, variable_slot, class_ty, enclosing, local_at, captured, has_marker, satisfies, encloser_slots, field_slots, captured_slots, own_slots}
 use Rattle.spec.specs.Rules.{slot_fault}
-use Rattle.spec.specs.Refusals.{form_refusal}
+use Rattle.spec.specs.Refusals.{form_refusal, encloser_fits}
 use Rattle.laws.proofs.Bools.{decide}
 use Rattle.laws.proofs.All.{All, all_if, every_gather, every_map, any_cong}
 use Rattle.theory.proofs.Somewhere.{any_append, any_map, any_keep, any_numbered, any_never, any_same, some, some_keep}
-use Rattle.theory.proofs.Form.{one_record, group_one_class}
+use Rattle.theory.proofs.Accept.{RecordFits, form_fits}
+use Rattle.theory.proofs.Form.{one_record, class_first, group_one_class}
 use Rattle.records.specs.declared.record.Head.{Head}
 use Rattle.records.specs.Kinds.{optional, head_of}
 use Rattle.sheets.specs.Sheets.{Pair, Passed, count, groups, library_count}
@@ -34,8 +36,8 @@ use Rattle.captured.proofs.Meaning.{first_slot}
 use Rattle.slots.specs.declared.Late.{Late}
 use Rattle.slots.specs.declared.Late.TheVariants.{Immutable, Powerless, Selfless, DeepSelfless}
 use Rattle.slots.specs.Slots.{rule_marker, slot_fits, captured_faults, encloser_breaks, field_breaks, slots_break, head_breaks}
-use Rattle.slots.specs.Slots.{late_lane, encloser_has, encloser_by, if_there, lane_shows, captured_by, HeadSet}
-use Rattle.slots.proofs.Base.{asked}
+use Rattle.slots.specs.Slots.{late_lane, encloser_has, encloser_by, lane_shows, captured_by, HeadSet}
+use Rattle.slots.proofs.Base.{back, asked}
 use Rattle.slots.proofs.Fields.{anywhere}
 use Rattle.slots.proofs.Sets.{twice}
 
@@ -122,13 +124,24 @@ selfless_none g t = go (keep (λ s. not (slot_fits g Selfless s)) (captured_slot
     go [] e = refl
     go (s ∷ ss) e = absurd (subst T e tt)
 
+-- an inner class of an accepted sheet has an encloser
+inner_encloser : (nlib c : ℕ) (r : List ℕ) → T (encloser_fits nlib c r) → T (bit 1 (flags r)) → is_some (optional (encloser r)) ≡ true
+unfolding encloser_fits
+inner_encloser nlib c r fits inner = go (eqb (encloser r) none16) fits
+  where
+    go : (b : Bool) → T (elim b as (λ (x : Bool). Bool) [ true ↦ not (bit 1 (flags r)) | false ↦ leb nlib c && leb nlib (encloser r) && ltb (encloser r) c ])
+        → is_some (elim b as (λ (_ : Bool). Option ℕ) [ true ↦ None | false ↦ Some (encloser r) ]) ≡ true
+    go true f = absurd (T_not (bit 1 (flags r)) f inner)
+    go false f = refl
+
 module _ (p : Pair) {t : ℕ} (there : t < count p) where
   abbrev g : ℕ → Group
   g = groups p
 
   -- ---- the encloser
 
-  module _ {head : Head} (e : head ≡ head_of (class_record (groups p t))) {markers : List ℕ} (known : Known (groups p) markers) where
+  module _ (ok : form_refusal p.library p.user ≡ option.none) {head : Head} (e : head ≡ head_of (class_record (groups p t)))
+      {markers : List ℕ} (known : Known (groups p) markers) where
     type_is : (k c : ℕ) → satisfies g k (class_ty c) ≡ bit k (get_or markers c 0)
     unfolding satisfies class_ty ty_references all has_marker
     type_is k c = and-true (has_marker g k c) ∙ sym (ap (bit k) (known.is c))
@@ -138,7 +151,7 @@ module _ (p : Pair) {t : ℕ} (there : t < count p) where
     encloser_lacks k =
         let h : List ℕ → List ℕ = λ r. unless_none (encloser r) in
         let es : enclosing (g t) ≡ unless_none (encloser r) = ap (gather h) (one_record (g t) (group_one_class p.library p.user t there)) ∙ append-nil (h r) in
-        go (bit 1 (flags r)) es ∙ ap (λ (x : Head). not (encloser_has x markers k)) (sym e)
+        go (bit 1 (flags r)) (inner_encloser (library_count p) t r (fits.0.encloser_fits fits.1)) es ∙ ap (λ (x : Head). not (encloser_has x markers k)) (sym e)
       where
         r : List ℕ
         r = class_record (g t)
@@ -146,14 +159,18 @@ module _ (p : Pair) {t : ℕ} (there : t < count p) where
         has : ℕ → Bool
         has c = bit k (get_or markers c 0)
 
-        go : (b : Bool) → enclosing (g t) ≡ unless_none (encloser r)
+        fits : RecordFits (library_count p) (count p) g t r × T (is_class r)
+        fits = class_first (RecordFits (library_count p) (count p) g t) (g t) (group_one_class p.library p.user t there) (form_fits p.library p.user ok t)
+
+        go : (b : Bool) → (T b → is_some (optional (encloser r)) ≡ true) → enclosing (g t) ≡ unless_none (encloser r)
             → any (λ s. not (satisfies g k s.type)) (elim b as (λ (_ : Bool). List Slot) [ true ↦ map (encloser_slot t) (enclosing (g t)) | false ↦ [] ])
-            ≡ not (not b || if_there has (optional (encloser r)))
-        go true es =
+            ≡ not (not b || has (unwrap_or (optional (encloser r)) none16))
+        go true held es =
             any_map (λ s. not (satisfies g k s.type)) (encloser_slot t) (enclosing (g t))
             ∙ ap₂ (λ (f : ℕ → Bool) (xs : List ℕ). any f xs) (λ i c. not (type_is k c i)) es
             ∙ asked has (encloser r)
-        go false es = refl
+            ∙ ap₂ (λ (b : Bool) (c : ℕ). b && not (has c)) (held tt) (sym (back (encloser r)))
+        go false held es = refl
 
     encloser_told : (rule : Late) (k : ℕ) → Asks g rule k → encloser_has head markers k ≡ not (encloser_breaks g rule t)
     unfolding encloser_breaks

@@ -6,8 +6,8 @@ use mathlib.Core.List.{List, [], ◌∷◌}
 use Prim.Native.Nat.{ℕ, ◌-◌, ◌^◌}
 use lib.ListN.{get_or}
 use borrow.Author.Tests.{eq-eqb, ne_eqb}
-use Rattle.std.specs.Prelude.{None, Some}
-use Rattle.spec.specs.Record.{bit}
+use Rattle.std.specs.Option.{unwrap_or}
+use Rattle.spec.specs.Record.{bit, none16}
 use Rattle.spec.specs.Sheet.{Group}
 use Rattle.spec.specs.Markers.{union}
 use Rattle.spec.specs.Classes.{overlay, has_marker}
@@ -92,21 +92,15 @@ root_other {row} {d} {m} {r} n em e =
 -- ---- an encloser
 
 module _ (head : Head) (row : List ℕ) where
-  encloser_all : ((k : ℕ) → encloser_has head row k ≡ true) → Passes (encloser_by head row) 255
-  encloser_all h = passes_all (late_cases (λ rule. encloser_by head row rule ≡ true) (h 0) (h 1) refl (h 7))
-
   pub encloser_outer : bit 1 head.flags ≡ false → Passes (encloser_by head row) 255
-  encloser_outer h = encloser_all (λ k. rw h)
+  encloser_outer h = passes_all (late_cases (λ rule. encloser_by head row rule ≡ true) (rw h) (rw h) refl (rw h))
 
-  pub encloser_none : head.encloser ≡ None → Passes (encloser_by head row) 255
-  encloser_none h = encloser_all (λ k. rw h (or-true (not (bit 1 head.flags))))
-
-  pub encloser_some : {e : ℕ} → head.encloser ≡ Some e → bit 1 head.flags ≡ true → {m r : ℕ} → m ≡ get_or row e 0 → r ≡ union m 4 → Passes (encloser_by head row) r
+  pub encloser_inner : {e : ℕ} → e ≡ unwrap_or head.encloser none16 → bit 1 head.flags ≡ true → {m r : ℕ} → m ≡ get_or row e 0 → r ≡ union m 4 → Passes (encloser_by head row) r
   unfolding bit
-  encloser_some {e} h o {m} {r} em q = passes_of {P = encloser_by head row} (joined m q 0 refl ∙ has 0) (joined m q 1 refl ∙ has 1) (joined_selfless m q) (joined m q 7 refl ∙ has 7)
+  encloser_inner {e} h o {m} {r} em q = passes_of {P = encloser_by head row} (joined m q 0 refl ∙ has 0) (joined m q 1 refl ∙ has 1) (joined_selfless m q) (joined m q 7 refl ∙ has 7)
     where
       has : (k : ℕ) → bit k m ≡ encloser_has head row k
-      has k = rw (h, o) (ap (bit k) em)
+      has k = rw (← h, o) (ap (bit k) em)
 
 -- ---- captured variables
 

@@ -1,8 +1,9 @@
 -- Slots against rules 7 to 10: as the definitions have them, and as sets of the markers whose rules a slot passes.
 -- Assumes nothing.
-use Rattle.std.specs.Prelude.{◌≡◌, Bool, true, false, not, ◌&&◌, ◌||◌, Option, None, Some, is_some, List, map, ℕ, ◌-◌, ◌^◌, ◌≤◌, ◌<◌, eqb, ltb, get_or}
+use Rattle.std.specs.Prelude.{◌≡◌, Bool, true, false, not, ◌&&◌, ◌||◌, Option, None, Some, is_some, List, [], ◌∷◌, map, ℕ, ◌-◌, ◌^◌, ◌≤◌, ◌<◌, eqb, ltb, get_or}
+use Rattle.std.specs.Option.{unwrap_or}
 use Rattle.spec.specs.Lists.{any, keep}
-use Rattle.spec.specs.Record.{bit, flags}
+use Rattle.spec.specs.Record.{bit, none16, flags}
 use Rattle.spec.specs.Sheet.{Group, class_record, is_instance_field}
 use Rattle.spec.specs.Markers as marker
 use Rattle.spec.specs.Classes.{Slot, field_slot, superclasses, satisfies, encloser_slots, captured_slots, own_slots}
@@ -30,6 +31,10 @@ rule_marker Immutable = marker.Immutable
 rule_marker Powerless = marker.Powerless
 rule_marker Selfless = marker.Selfless
 rule_marker DeepSelfless = marker.DeepSelfless
+
+-- the marker of a rule by its number; a number past 10 is asked as 10
+abbrev pub number_marker : ℕ → ℕ
+number_marker rule = get_or (marker.Immutable ∷ marker.Powerless ∷ marker.Selfless ∷ []) (rule - 7) marker.DeepSelfless
 
 module _ (g : ℕ → Group) where
   -- ---- one record of one class
@@ -103,14 +108,10 @@ late_lane Powerless = Some lane.Powerless
 late_lane Selfless = None
 late_lane DeepSelfless = Some lane.DeepSelfless
 
--- a test of a class that there may be
-abbrev pub if_there : (ℕ → Bool) → Option ℕ → Bool
-if_there p None = true
-if_there p (Some c) = p c
-
--- the encloser of a class that is inner; the class is given by what its CLASS record says
+-- the encloser of a class that is inner; the class is given by what its CLASS record says. A class that is none is asked by the number that says so:
+-- past the end of a row there is no marker
 abbrev pub encloser_has : Head → List ℕ → ℕ → Bool
-encloser_has head row k = not (bit 1 head.flags) || if_there (λ e. bit k (get_or row e 0)) head.encloser
+encloser_has head row k = not (bit 1 head.flags) || bit k (get_or row (unwrap_or head.encloser none16) 0)
 
 abbrev pub encloser_by : Head → List ℕ → Late → Bool
 encloser_by head row rule = elim (late_lane rule) [ None ↦ true | Some l ↦ encloser_has head row (lane_marker l) ]
@@ -129,9 +130,8 @@ lane_by row t lane = elim (lane_shows row t lane) [ true ↦ 255 - 2 ^ lane_mark
 -- rule 9's second part, by what the CLASS record says: a superclass is Selfless, or it is class 0 and the flags are right
 abbrev pub base_by : Head → List ℕ → Bool
 base_by head markers =
-    not
-    (if_there (λ s. bit marker.Selfless (get_or markers s 0) || (eqb s 0 && bit 2 head.flags && bit 3 head.flags && not (bit 4 head.flags)))
-    head.superclass)
+    let s = unwrap_or head.superclass none16 in
+    not (bit marker.Selfless (get_or markers s 0) || (eqb s 0 && bit 2 head.flags && bit 3 head.flags && not (bit 4 head.flags)))
 
 -- record 0 of class t: as a root, or by its encloser
 pub record HeadSet (markers : List ℕ) (head : Head) (nlib t set : ℕ) : Type 0 where

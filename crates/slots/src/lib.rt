@@ -2,9 +2,9 @@
 // Markers and captured variables stand in their rows.
 #![tactic(auto)]
 
-ghost use Rattle.std.specs.Prelude.{◌≡◌, ◌^◌, ◌<◌, ◌&&◌, not};
+ghost use Rattle.std.specs.Prelude.{◌≡◌, ◌^◌, ◌≤◌, ◌<◌, ◌&&◌, not};
 ghost use Rattle.spec.specs.Record.{bit};
-ghost use Rattle.slots.specs.Slots.{rule_number, rule_marker, Passes, slot_by, FieldSet, FieldsSet, RootSet};
+ghost use Rattle.slots.specs.Slots.{rule_number, rule_marker, number_marker, Passes, slot_by, FieldSet, FieldsSet, RootSet};
 ghost use Rattle.slots.specs.Slots.{encloser_by, lane_by, captured_by, HeadSet, base_by};
 
 use captured::{LANES, Lane, ROW_BYTES, first_lacking};
@@ -44,6 +44,19 @@ impl Late {
             Late::Selfless => SELFLESS,
             Late::DeepSelfless => DEEP_SELFLESS,
         }
+    }
+}
+
+/// The marker of a rule by its number, as a set of its own; a number past 10 is asked as 10.
+pub fn rule_set(rule: u8) -> u8
+    requires { 7 ≤ rule }
+    ensures { (result ≡ 2 ^ number_marker rule) × (0 < result) }
+{
+    match rule {
+        7 => Late::Immutable.set(),
+        8 => Late::Powerless.set(),
+        9 => Late::Selfless.set(),
+        _ => Late::DeepSelfless.set(),
     }
 }
 
@@ -98,6 +111,9 @@ fn root_set(markers: &[u8], d: usize) -> u8
     union(known(markers, d), SELFLESS)
 }
 
+// The number that stands for no class. A row is asked by it as by any other: past its end there is no marker.
+const NO_CLASS: usize = 65535;
+
 // Those that the encloser of an inner class passes.
 fn encloser_set(head: &Head, markers: &[u8]) -> u8
     ensures { Passes (encloser_by head.now markers.now) result }
@@ -105,10 +121,8 @@ fn encloser_set(head: &Head, markers: &[u8]) -> u8
     if !has_flag(head.flags, INNER) {
         return ALL;
     }
-    match head.encloser {
-        Some(e) => union(known(markers, e), SELFLESS),
-        None => ALL,
-    }
+    let e = head.encloser.unwrap_or(NO_CLASS);
+    union(known(markers, e), SELFLESS)
 }
 
 // Those that the captured variables of class t pass by one lane: all, or all but the lane's marker.
@@ -158,9 +172,7 @@ fn has_own_equals(flags: u16) -> bool
 pub fn base_breaks(head: &Head, markers: &[u8]) -> bool
     ensures { result ≡ base_by head.now markers.now }
 {
-    let Some(s) = head.superclass else {
-        return false;
-    };
+    let s = head.superclass.unwrap_or(NO_CLASS);
     if has(known(markers, s), SELFLESS) {
         return false;
     }

@@ -8,7 +8,7 @@ use Prim.Native.Nat.{ℕ, ◌≤◌, ◌<◌}
 use native.Mathlib.Omega.{arith}
 use lib.Dec.{T}
 use lib.ListN.{get_or}
-use Rattle.std.specs.Prelude.{None, Some}
+use Rattle.std.specs.Prelude.{Option, None, Some, is_some}
 use Rattle.spec.specs.Lists.{any}
 use Rattle.spec.specs.Record.{bit, superclass}
 use Rattle.spec.specs.Sheet.{Group, class_record, is_interface}
@@ -101,6 +101,13 @@ module _ (p : Pair) where
       pub above_there : head.superclass ≡ None → ⊥
       above_there q = let z = none_is (superclass (class_record (g t))) (sym q ∙ ap (λ (h : Head). h.superclass) c.says) in omega (arith, its_super.lower, z, c.passed.few, c.there)
 
+      pub above_some : is_some head.superclass ≡ true
+      above_some = go head.superclass above_there
+        where
+          go : (o : Option ℕ) → (o ≡ None → ⊥) → is_some o ≡ true
+          go None h = absurd (h refl)
+          go (Some s) h = refl
+
       pub above_low : {s : ℕ} → head.superclass ≡ Some s → s < t
       above_low q = omega (arith, its_super.lower, above_is q)
 
@@ -109,7 +116,7 @@ module _ (p : Pair) where
           {fields : ℕ} (f : FieldsSet markers (g t) fields) (own : ℕ) (own_both : (k : ℕ) → bit k own ≡ (bit k fixed && bit k fields)) where
         own_passes : Passes (λ rule. not (slots_break g rule t)) own
         own_passes =
-            let encloser = passes_as (h.own c.user_class) (encloser_is p c.there c.says known) in
+            let encloser = passes_as (h.own c.user_class) (encloser_is p c.there ok c.says known) in
             let captured = passes_as v (captured_is p c.there c.passed ok shown) in
             passes_as (neither _ _ (neither _ _ encloser captured fixed_both) (f.is g known) own_both) (λ rule. ap not (own_are g rule t))
 

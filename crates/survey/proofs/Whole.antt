@@ -3,6 +3,7 @@
 use mathlib.Core.Path.{◌≡◌, refl, sym, ap, ap₂, ◌∙◌}
 use mathlib.Core.Bool.{Bool, true, false, not, ◌&&◌, ◌||◌}
 use mathlib.Core.List.{List}
+use mathlib.Core.Option.{none}
 use Prim.Native.Nat.{ℕ, ◌≤◌, ◌<◌}
 use lib.ListN.{get_or}
 use Rattle.spec.specs.Lists.{any}
@@ -10,16 +11,18 @@ use Rattle.spec.specs.Record.{bit}
 use Rattle.spec.specs.Sheet.{Group, class_record, is_interface}
 use Rattle.spec.specs.Classes.{overlay}
 use Rattle.spec.specs.Rules.{verdict_of}
+use Rattle.spec.specs.Refusals.{form_refusal}
 use Rattle.records.specs.declared.record.Head.{Head}
 use Rattle.records.specs.Kinds.{head_of}
-use Rattle.sheets.specs.Sheets.{Pair, count, groups, library_count}
+use Rattle.sheets.specs.Sheets.{Pair, Passed, count, groups, library_count}
 use Rattle.overlay.specs.Types.{Known}
 use Rattle.slots.specs.declared.Late.{Late}
 use Rattle.slots.specs.declared.Late.TheVariants.{Immutable, Powerless, Selfless, DeepSelfless}
-use Rattle.slots.specs.Slots.{rule_marker, base_by}
+use Rattle.slots.specs.Slots.{rule_marker, base_breaks, base_by}
 use Rattle.slots.proofs.Sets.{twice}
 use Rattle.slots.proofs.Base.{base_is}
 use Rattle.survey.specs.Survey.{is_clean, head_by, head_fails, any_late, record_breaks, line_breaks, late_breaks, class_breaks, ClassSet}
+use Rattle.survey.proofs.Lines.{above_some}
 use Rattle.survey.proofs.Verdicts.{clean_is}
 
 late_same : (m : ℕ) (p q : Late → Bool) → ((rule : Late) → p rule ≡ q rule) → any_late m p ≡ any_late m q
@@ -64,18 +67,25 @@ module _ (p : Pair) {c : ℕ} (there : c < count p) {head : Head} (e : head ≡ 
   pub faulted : {b : Bool} → b ≡ not early → b ≡ false → b ≡ is_clean (verdict_of nlib g c)
   faulted {b} eb f = f ∙ sym (parts ∙ ap (λ (x : Bool). not (x || (not (is_interface (g c)) && late_breaks nlib g c))) (sym (twice early) ∙ ap not (sym eb ∙ f)))
 
-  pub fine : {b : Bool} → b ≡ not early → b ≡ true → nlib ≤ c → {set : ℕ} → ClassSet nlib g c set → {l : Bool} → l ≡ (bit 0 head.flags || not (late_by set)) → l ≡ is_clean (verdict_of nlib g c)
+  -- rules 7 to 10 ask a class that has a superclass
+  pub fine : Passed p → form_refusal p.library p.user ≡ none → {b : Bool} → b ≡ not early → b ≡ true → nlib ≤ c
+      → {set : ℕ} → ClassSet nlib g c set → {l : Bool} → l ≡ (bit 0 head.flags || not (late_by set)) → l ≡ is_clean (verdict_of nlib g c)
   unfolding is_interface late_breaks
-  fine {b} eb t user {set} s {l} el =
+  fine x ok {b} eb t user {set} s {l} el =
       el ∙ go (bit 0 head.flags) (ap (λ (h : Head). bit 0 h.flags) (sym e))
       ∙ sym (parts ∙ ap (λ (x : Bool). not (x || (not (is_interface (g c)) && late_breaks nlib g c))) (sym (twice early) ∙ ap not (sym eb ∙ t)))
     where
+      base : is_interface (g c) ≡ false → base_by head markers ≡ base_breaks g c
+      base i =
+          sym (base_is p there e known
+          ∙ ap (λ (b : Bool). b && base_by head markers) (above_some p ok (record { passed = x; user_class = user; there = there; says = e; concrete = i })))
+
       go : (i : Bool) → is_interface (g c) ≡ i → (i || not (late_by set)) ≡ not (not (is_interface (g c)) && late_breaks nlib g c)
       go true i = rw i
       go false i =
           rw i
           (ap not
           (ap₂ (λ (x y : Bool). x || y)
-          (ap₂ (λ (k : ℕ) (x : Bool). bit 2 k && x) (known.is c) (sym (base_is p there e known)))
+          (ap₂ (λ (k : ℕ) (x : Bool). bit 2 k && x) (known.is c) (base i))
           (late_same m (λ rule. not (bit (rule_marker rule) set)) (λ rule. line_breaks nlib g rule c) (λ rule. ap not ((s.class i).is rule) ∙ twice (line_breaks nlib g rule c))
           ∙ ap (λ (k : ℕ). any_late k (λ rule. line_breaks nlib g rule c)) (known.is c))))

@@ -31,8 +31,8 @@ const LATE: [Late; 4] = [
 #[derive(Drop)]
 pub struct Survey<'a> {
     pub judging: Judging<'a>,
-    sets: [u8; CLASS_LIMIT],
-    ghost passing: { Passing (library_count judging.formed.now.sheets) (count judging.formed.now.sheets) (groups judging.formed.now.sheets) sets },
+    pub sets: &'a [u8; CLASS_LIMIT],
+    pub ghost passing: { Passing (library_count judging.formed.now.sheets) (count judging.formed.now.sheets) (groups judging.formed.now.sheets) sets.now },
 }
 
 // ---- rules 7 to 10
@@ -46,7 +46,8 @@ fn class_set(judging: &Judging, sets: &[u8], t: usize) -> u8
     let nlib = judging.formed.sheets.library_count();
     let group = judging.formed.sheets.group(t);
     let head = group.head();
-    let first = head_set(&head, &judging.markers, nlib, t);
+    let markers = judging.markers;
+    let first = head_set(&head, markers, nlib, t);
     if t < nlib {
         return first;
     }
@@ -57,19 +58,17 @@ fn class_set(judging: &Judging, sets: &[u8], t: usize) -> u8
         unreachable!()
     };
     let fixed = common(first, captured_set(judging.lanes, t));
-    let own = common(fixed, fields_set(group.records(), &judging.markers));
+    let own = common(fixed, fields_set(group.records(), markers));
     common(own, sets[above])
 }
 
-// The set of each class.
-fn passes(judging: &Judging) -> [u8; CLASS_LIMIT]
-    ensures { Passing (library_count judging.now.formed.now.sheets) (count judging.now.formed.now.sheets) (groups judging.now.formed.now.sheets) result }
+/// Writes the set of each class to a row of the caller's.
+pub fn passes(judging: &Judging, sets: &mut [u8; CLASS_LIMIT])
+    ensures { Passing (library_count judging.now.formed.now.sheets) (count judging.now.formed.now.sheets) (groups judging.now.formed.now.sheets) sets.new }
 {
-    let mut sets = [0; CLASS_LIMIT];
     for c in 0..judging.formed.sheets.count() {
-        sets[c] = class_set(judging, &sets, c);
+        sets[c] = class_set(judging, sets, c);
     }
-    sets
 }
 
 // The set has each of the four markers that a class with the markers m has.
@@ -103,9 +102,11 @@ fn breaks(judging: &Judging, record: &Record) -> bool
     requires { Refers (count judging.now.formed.now.sheets) (groups judging.now.formed.now.sheets) record.now }
     ensures { result ≡ record_breaks (library_count judging.now.formed.now.sheets) (groups judging.now.formed.now.sheets) record.now }
 {
-    static_breaks(record, &judging.markers)
-        || refers_forbidden(&judging.formed.sheets, &judging.bans, record)
-        || names_forbidden(record, &judging.bans)
+    let markers = judging.markers;
+    let bans = judging.bans;
+    static_breaks(record, markers)
+        || refers_forbidden(&judging.formed.sheets, bans, record)
+        || names_forbidden(record, bans)
 }
 
 // No record of the class breaks one of them.
@@ -139,23 +140,16 @@ fn early_fine(judging: &Judging, group: &Group, head: &Head, m: u8) -> bool
 // ---- all ten
 
 impl<'a> Survey<'a> {
-    /// Fills the sets.
-    pub fn new(judging: Judging<'a>) -> Survey<'a>
-        ensures { result.judging ≡ judging.entry }
-    {
-        let sets = passes(&judging);
-        Survey { judging, sets }
-    }
-
     /// Whether user class c breaks no rule.
     pub fn clean(&self, c: usize) -> bool
         requires user_class { (library_count self.now.judging.formed.now.sheets ≤ c) × (c < count self.now.judging.formed.now.sheets) }
         ensures { result ≡ is_clean (verdict_of (library_count self.now.judging.formed.now.sheets) (groups self.now.judging.formed.now.sheets) c) }
     {
         let judging = &self.judging;
+        let markers = judging.markers;
         let group = judging.formed.sheets.group(c);
         let head = group.head();
-        let m = judging.markers[c];
-        early_fine(judging, &group, &head, m) && late_fine(m, self.sets[c], &head, &judging.markers)
+        let m = markers[c];
+        early_fine(judging, &group, &head, m) && late_fine(m, self.sets[c], &head, markers)
     }
 }

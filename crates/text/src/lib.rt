@@ -5,6 +5,8 @@ ghost use Rattle.std.specs.Prelude.{◌≡◌, [], ◌∷◌, ◌≤◌, ◌<◌
 ghost use Rattle.text.specs.Text.{decimal};
 ghost use Rattle.text.specs.Written.{Writes};
 
+use copying::copy;
+
 /// A lent buffer, and the place at which its text goes on.
 #[derive(Drop)]
 pub struct Writer<'a> {
@@ -19,7 +21,16 @@ impl<'a> Writer<'a> {
         ensures bytes { result.out.now ≡ out.old }
         ensures place { result.at ≡ 0 }
     {
-        Writer { out, at: 0 }
+        Writer::starting_at(out, 0)
+    }
+
+    /// Begins at a place, which may lie past the buffer's end.
+    pub fn starting_at(out: &'a mut [u8], at: usize) -> Writer<'a>
+        ensures same_reference { result.out.ghost_name ≡ out.entry.ghost_name }
+        ensures bytes { result.out.now ≡ out.old }
+        ensures place { result.at ≡ at }
+    {
+        Writer { out, at }
     }
 
     /// The place after what was put, also where the buffer ends before it.
@@ -49,7 +60,7 @@ impl<'a> Writer<'a> {
         let after = self.at + bytes.len();
         let from = self.at.min(self.out.len());
         let to = after.min(self.out.len());
-        self.out[from..to].copy_from_slice(&bytes[..to - from]);
+        copy(&mut self.out[from..to], &bytes[..to - from]);
         self.at = after;
     }
 

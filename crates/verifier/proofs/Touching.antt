@@ -1,17 +1,15 @@
 -- The marks of the classes that an edit touches.
 -- Assumes nothing.
 use mathlib.Core.Path.{◌≡◌, refl, sym, ◌∙◌}
-use mathlib.Core.Bool.{Bool, true, false}
+use mathlib.Core.Bool.{true, false}
 use mathlib.Core.List.{List, map}
-use Prim.Native.Nat.{ℕ, ◌≤◌, ◌<◌}
+use Prim.Native.Nat.{ℕ, ◌<◌}
 use native.Mathlib.Decide.{ℕ_discrete}
-use native.Mathlib.Omega.{arith}
 use lib.Dec.{eqb}
 use lib.ListN.{get_or, set, replicate, length-set}
 use lib.Seq.{get_or-set_same, get_or-set_other}
 use borrow.Author.Tests.{eq-eqb, ne_eqb}
 use Rattle.spec.specs.Lists.{span}
-use Rattle.spec.specs.Sheet.{total}
 use Rattle.spec.specs.Verdicts.{depends_on}
 use Rattle.laws.proofs.Rows.{same_all, length_values, get_or_values, values_are}
 use Rattle.view.specs.declared.Cut.{Cut}

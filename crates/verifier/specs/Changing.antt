@@ -1,6 +1,6 @@
 -- A group put in where a cut of the user sheet stands: what is required, which classes it touches, and the edit that it is.
 -- Assumes nothing.
-use Rattle.std.specs.Prelude.{◌≡◌, Bool, true, false, List, ℕ, ◌+◌, ◌≤◌, ◌<◌, T, eqb, length, get_or}
+use Rattle.std.specs.Prelude.{◌≡◌, Bool, true, false, List, ℕ, ◌+◌, ◌≤◌, ◌<◌, T, eqb, length}
 use Rattle.spec.specs.Lists.{count, span}
 use Rattle.spec.specs.Sheet.{class_count, total}
 use Rattle.spec.specs.Verdicts.{user_verdict, flat, flat_lines, depends_on}

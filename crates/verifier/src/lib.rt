@@ -1,7 +1,7 @@
 // The operations over flat rows of numbers: the public interface.
 #![tactic(auto)]
 
-ghost use Rattle.std.specs.Prelude.{◌≡◌, ◌<◌, [], ◌∷◌, length, map, replicate, take};
+ghost use Rattle.std.specs.Prelude.{◌≡◌, ◌<◌, [], ◌∷◌, false, length, map, replicate, take};
 ghost use Rattle.spec.specs.Lists.{first_of, span};
 ghost use Rattle.spec.specs.Sheet.{total};
 ghost use Rattle.spec.specs.Promises.{Judges, Adds, Replaces, Makes};
@@ -17,12 +17,12 @@ pub use canonical::canonical;
 use edit::write;
 pub use fingerprints::fingerprint;
 use flat::{faulted, marked, rejudge};
+use form::accept;
 use form::accepted::{Accepted, Found};
-use form::present;
 pub use names::PLACES as INDEX_PLACES;
 pub use queries::index::{index, lookup};
 pub use queries::{Place, marks, name, name_place};
-use reach::dependents;
+use reach::mark_dependents;
 use records::CLASS_LIMIT;
 pub use records::{SCRATCH_BYTES, VERDICT_BYTES};
 pub use refusals::{Reason, Refusal, Side};
@@ -48,7 +48,7 @@ pub fn judge<'a>(
     ensures { Judges flat library.now user.now used verdicts.old scratch.old (answer_in counts_in result) verdicts.new scratch.new }
 {
     let mut found = Found::new();
-    let accepted = present(library, user, used, &mut found)?;
+    let accepted = accept(library, user, used, &mut found)?;
     let classes = accepted.formed.sheets.user_count();
     Reason::TooShort.unless(Room::of(verdicts, scratch).holds(classes))?;
     rejudge(&accepted, &[true; CLASS_LIMIT], verdicts, scratch);
@@ -60,17 +60,17 @@ pub fn judge<'a>(
 
 // ---- operations that change the user sheet
 
-// The classes that an edit touches: an addition, which takes nothing out, touches its class alone; a replacement the classes that depend on it.
-fn touched(formed: &Formed, cut: Cut, class: usize) -> [bool; CLASS_LIMIT]
-    requires { class < count formed.now.sheets }
-    ensures { result ≡ map (touches formed.now.sheets.library formed.now.sheets.user cut class) (span 0 256) }
+// Marks the classes that an edit touches: an addition, which takes nothing out, touches its class alone; a replacement the classes that depend on it.
+fn touch(formed: &Formed, cut: Cut, class: usize, marks: &mut [bool; CLASS_LIMIT])
+    requires there { class < count formed.now.sheets }
+    requires unmarked { marks.old ≡ replicate 256 false }
+    ensures { marks.new ≡ map (touches formed.now.sheets.library formed.now.sheets.user cut class) (span 0 256) }
 {
     if cut.from != cut.used {
-        return dependents(formed, class);
+        mark_dependents(formed, class, marks);
+        return;
     }
-    let mut marks = [false; CLASS_LIMIT];
     marks[class] = true;
-    marks
 }
 
 // The frame of an operation that puts a group in: nothing is written until it is admitted; then the sheet is, and the classes that this touches are
@@ -97,7 +97,8 @@ fn change<'a>(
     write(user, group, cut);
     *used = size;
     let accepted = Accepted::new(library, &user[..size], &found);
-    let marks = touched(&accepted.formed, cut, class);
+    let mut marks = [false; CLASS_LIMIT];
+    touch(&accepted.formed, cut, class, &mut marks);
     rejudge(&accepted, &marks, verdicts, scratch);
     Ok(marked(&marks, accepted.formed.sheets.count()))
 }
@@ -108,7 +109,7 @@ fn next_class(library: &[u8], user: &[u8], used: usize) -> Result<usize, Refusal
     ensures { Answers (present_refusal library.now user.now used) result (λ n. n ≡ total library.now (take used user.now)) }
 {
     let mut found = Found::new();
-    let accepted = present(library, user, used, &mut found)?;
+    let accepted = accept(library, user, used, &mut found)?;
     Ok(accepted.formed.sheets.count())
 }
 
@@ -139,7 +140,7 @@ fn cut_of(library: &[u8], user: &[u8], used: usize, class: usize) -> Result<Cut,
         (λ cut. cut ≡ cut_at library.now (take used user.now) used class) }
 {
     let mut found = Found::new();
-    let accepted = present(library, user, used, &mut found)?;
+    let accepted = accept(library, user, used, &mut found)?;
     let sheets = &accepted.formed.sheets;
     let first = sheets.library_count();
     let end = sheets.count();

@@ -11,8 +11,8 @@ ghost use Rattle.refusals.specs.Refusals.{Answers, answer_in};
 ghost use Rattle.sheets.specs.Sheets.{count, groups};
 ghost use Rattle.withdraw.specs.Last.{IsLast};
 
+use form::accept;
 use form::accepted::Found;
-use form::present;
 use named::names;
 use records::VERDICT_BYTES;
 use records::group::Group;
@@ -51,7 +51,7 @@ fn removable(library: &[u8], user: &[u8], used: usize, lines: usize) -> Result<L
     ensures { Answers (withdraw_refusal library.now user.now used lines) result (IsLast library.now (take used user.now)) }
 {
     let mut found = Found::new();
-    let accepted = present(library, user, used, &mut found)?;
+    let accepted = accept(library, user, used, &mut found)?;
     let sheets = &accepted.formed.sheets;
     let own = sheets.user_count();
     Reason::NoSuchClass.unless(0 < own)?;

@@ -21,11 +21,11 @@ overflow_mul-at c = omega (arith, line_room _ c.requires)
 pub overflow_add-at : goal.overflow_add-at
 overflow_add-at c = omega (arith, line_room _ c.requires)
 
-pub slice_bounds-copy_from_slice-end : goal.slice_bounds-copy_from_slice-end
-slice_bounds-copy_from_slice-end c = omega (arith, line_room _ c.requires)
+pub slice_bounds-copy-end : goal.slice_bounds-copy-end
+slice_bounds-copy-end c = omega (arith, line_room _ c.requires)
 
 pub returns : goal.returns
 unfolding put_at bytes_of
 returns c =
-    part_set (bytes_of (line_of c.args.fault)) c.copy_from_slice.new.self c.args.verdicts.now (verdict_bytes * c.args.i) _ (c.copy_from_slice.ensures.after ∙ c.line.ensures) (omega arith)
+    part_set (bytes_of (line_of c.args.fault)) c.copy.new.to c.args.verdicts.now (verdict_bytes * c.args.i) _ (c.copy.ensures ∙ c.line.ensures) (omega arith)
     (line_room _ c.requires)

@@ -3,4 +3,4 @@ use Rattle.groups.proofs.Sheets.{group_length}
 use Rattle.groups.proofs.group_length.Goals as goal
 
 pub returns : goal.returns
-returns c = group_length c.requires c.nth_in.ensures
+returns c = group_length c.requires (rw c.number.ensures at c.nth_in.ensures)

@@ -11,7 +11,7 @@ use Rattle.listing_text.proofs.class_lines.Goals.{After-count_in-nlib, In-loop-s
 -- ---- the sheets
 
 library_is : (c : After-count_in-nlib) → c.count_in-nlib.result ≡ class_count c.args.library.now
-library_is c = library_count c.args.library.now c.args.sheet.now c.requires.accepted c.count_in-nlib.ensures
+library_is c = library_count c.args.library.now c.args.sheet.now c.requires.accepted (rw c.number.ensures at c.count_in-nlib.ensures)
 
 sheet_is : (c : After-count_in-nlib) → UserSheet c.count_in-nlib.result c.args.sheet.now
 sheet_is c = user_sheet_lem c.args.library.now c.args.sheet.now c.requires.accepted (library_is c)

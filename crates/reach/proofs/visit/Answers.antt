@@ -17,4 +17,4 @@ returns-then-not-wants c = visit_unwanted (groups c.args.nest.now.formed.now.she
 
 pub returns : goal.returns
 returns c =
-    scanned (groups c.args.nest.now.formed.now.sheets) c.args.along c.group-group.ensures c.scan.ensures c.enclosers-marks.ensures
+    scanned (groups c.args.nest.now.formed.now.sheets) c.args.along c.group-group.ensures c.scan.ensures c.mark_enclosers.ensures

@@ -1,6 +1,5 @@
 use Rattle.std.proofs.Common.{◌∙◌, sym, ap, length}
 use Rattle.spec.specs.Sheet.{of_kind}
-use Rattle.records.specs.Kinds.{kind_number}
 use Rattle.records.proofs.Lined.{all_between, all_lined}
 use Rattle.records.proofs.count_in.Goals as goal
 
@@ -8,4 +7,4 @@ pub new-requires : goal.new-requires
 new-requires c = all_lined c.requires
 
 pub returns : goal.returns
-returns c = c.of_kind.ensures ∙ ap (λ rs. length (of_kind (kind_number c.args.kind) rs)) (c.new.ensures.records ∙ sym (all_between c.args.bytes.now))
+returns c = c.of_kind.ensures ∙ ap (λ rs. length (of_kind c.args.kind rs)) (c.new.ensures.records ∙ sym (all_between c.args.bytes.now))

@@ -11,7 +11,7 @@ use Rattle.survey.proofs.class_set.Goals.{After-head_set-first, After-is_interfa
 head_is : (c : After-head_set-first) → c.head-head.result ≡ head_of (class_record (groups c.args.judging.now.formed.now.sheets c.args.t))
 head_is c = c.head-head.ensures ∙ ap (λ (h : Group). head_of (class_record h)) c.group-group.ensures
 
-first_is : (c : After-head_set-first) → let j = c.args.judging.now in HeadSet j.markers c.head-head.result (library_count j.formed.now.sheets) c.args.t c.head_set-first.result
+first_is : (c : After-head_set-first) → let j = c.args.judging.now in HeadSet j.markers.now c.head-head.result (library_count j.formed.now.sheets) c.args.t c.head_set-first.result
 first_is c = rw c.library_count-nlib.ensures.count at c.head_set-first.ensures
 
 concrete : (c : After-is_interface) → c.head-head.result ≡ head_of (class_record (groups c.args.judging.now.formed.now.sheets c.args.t)) → c.is_interface.result ≡ false

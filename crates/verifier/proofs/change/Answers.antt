@@ -45,9 +45,9 @@ pub new-accepted-requires : goal.new-accepted-requires
 new-accepted-requires c =
     rw (written_sheet (spliced c.args.user.now c.args.group.now c.args.cut) c.args.user.now c.args.cut.used c.write.ensures c.in_ok-size.ensures.answer.1.0) c.in_ok-size.ensures.answer.1.1
 
-pub touched-marks-requires : goal.touched-marks-requires
-touched-marks-requires c =
-    let k = goal.at.touched-marks-requires c in
+pub touch-requires-clause-there : goal.touch-requires-clause-there
+touch-requires-clause-there c =
+    let k = goal.at.touch-requires-clause-there c in
     rw (there k.After-new-accepted) (c.requires.there (admit_facts (rw c.of-room.ensures at c.in_ok-size.ensures.answer.0)).whole)
 
 pub rejudge-requires-clause-lines : goal.rejudge-requires-clause-lines
@@ -67,6 +67,6 @@ returns c =
     let e = there k.After-new-accepted in
     let a = admit_facts (rw c.of-room.ensures at c.in_ok-size.ensures.answer.0) in
     put_made _ _ _ _ _ _ _ _ (rw c.of-room.ensures at c.in_ok-size.ensures.answer.0) c.requires.used_is
-    (rw e at c.new-accepted.result.formed.passed.few) (c.requires.there a.whole) (rw e at c.touched-marks.ensures)
-    (c.marked.ensures ∙ ap (marked_in c.touched-marks.result) (c.count.ensures.count ∙ ap count e))
+    (rw e at c.new-accepted.result.formed.passed.few) (c.requires.there a.whole) (rw e at c.touch.ensures)
+    (c.marked.ensures ∙ ap (marked_in c.touch.new.marks) (c.count.ensures.count ∙ ap count e))
     c.write.ensures c.in_ok-size.ensures.answer.1.0 (rw e at c.rejudge.ensures.verdicts) c.rejudge.ensures.scratch

@@ -54,7 +54,7 @@ loop-record-preserved-in-Uses c =
       tt,
       fits.1,
       left_next c.loop-record.invariant.3 c.in-Some.ensures.steps
-          (record_uses c.args.self.now.nest.now.formed.now.passed fits.0 w markers refl c.enclosers-marks.ensures c.offer.ensures),
+          (record_uses c.args.self.now.nest.now.formed.now.passed fits.0 w markers refl c.mark_enclosers.ensures c.offer.ensures),
     )
 
 pub loop-record-preserved : goal.loop-record-preserved

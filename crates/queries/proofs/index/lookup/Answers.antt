@@ -19,15 +19,15 @@ returns-in_err-class c =
     let w = walked _ _ c.in_ok-sheets.field-0.formed.passed.few _ c.find.ensures c.fill.ensures in
     rw (p.1, p.2, f.1) (not_there _ _ _ _ _ fine.0 (rw fine.1.0 at w) f.0)
 
-pub slice_bounds-copy_from_slice-end-2 : goal.slice_bounds-copy_from_slice-end-2
-slice_bounds-copy_from_slice-end-2 c = sym (front_long c.args.row.now c.in_ok-sheets.ensures.1.1)
+pub slice_bounds-copy-end-2 : goal.slice_bounds-copy-end-2
+slice_bounds-copy-end-2 c = sym (front_long c.args.row.now c.in_ok-sheets.ensures.1.1)
 
-pub copy_from_slice-requires : goal.copy_from_slice-requires
-copy_from_slice-requires c =
+pub copy-requires : goal.copy-requires
+copy-requires c =
     front_long c.args.row.now c.in_ok-sheets.ensures.1.1 ∙ sym (holds_classes _ _ c.in_ok-sheets.field-0.formed.passed.few c.fill.ensures).long
 
 pub returns : goal.returns
 returns c =
     let fine = c.in_ok-sheets.ensures in
     let w = walked _ _ c.in_ok-sheets.field-0.formed.passed.few _ c.find.ensures c.fill.ensures in
-    there _ _ _ _ _ fine.0 (rw fine.1.0 at w) (some_there _ c.find.result c.in_ok-class.ensures.value) (c.copy_from_slice.ensures.after ∙ rw fine.1.0 at c.fill.ensures)
+    there _ _ _ _ _ fine.0 (rw fine.1.0 at w) (some_there _ c.find.result c.in_ok-class.ensures.value) (c.copy.ensures ∙ rw fine.1.0 at c.fill.ensures)

@@ -19,7 +19,7 @@ returns-then-early_fine c =
     let s = c.args.self.now in
     let q = c.requires.user_class in
     let e = head_is (goal.at.returns-then-early_fine c).After-early_fine in
-    fine _ q.1 e s.judging.known c.group-group.ensures c.early_fine.ensures c.if-early_fine.true q.0 (s.passing.is _ q.1) c.late_fine.ensures
+    fine _ q.1 e s.judging.known c.group-group.ensures s.judging.formed.now.passed s.judging.formed.now.formed c.early_fine.ensures c.if-early_fine.true q.0 (s.passing.is _ q.1) c.late_fine.ensures
 
 pub returns-else-early_fine : goal.returns-else-early_fine
 returns-else-early_fine c =

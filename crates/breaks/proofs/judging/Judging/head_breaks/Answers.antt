@@ -12,5 +12,5 @@ returns c =
     let j = c.args.self.now in
     ap not
     (has_is (rule_marker c.args.rule) c.head_set.result c.set.ensures.0 c.has.ensures
-    ∙ head_is j.formed.now.sheets c.requires.there c.requires.head j.known (rw c.library_count-nlib.ensures.count at c.head_set.ensures) c.args.rule)
+    ∙ head_is j.formed.now.sheets c.requires.there j.formed.now.formed c.requires.head j.known (rw c.library_count-nlib.ensures.count at c.head_set.ensures) c.args.rule)
     ∙ twice (head_breaks (library_count j.formed.now.sheets) (groups j.formed.now.sheets) c.args.rule c.args.t)
