@@ -169,6 +169,11 @@ module _ {nlib n : ℕ} {g : ℕ → Group} (w : Ground nlib n g) {c : ℕ} (use
     rest = ap (gather (found nlib g rule)) (begins w there rule e);
   }
 
+  -- nothing is found in class c and above it
+  pub class_cleared : {rule : Rule} → ClassAt nlib n g c rule None → from_class nlib g rule (Some c) ≡ []
+  unfolding gather
+  class_cleared {rule} k = sym (class_start rule k.asks).rest ∙ k.rest
+
   pub class_end : {i : ℕ} → RuleAt nlib g c i → ClassAt nlib n g c (rule_at i) None → last nlib g (rule_at i) c ≡ [] → RuleAt nlib g c (i + 1)
   class_end {i} r k e = rule_next r (walked_last nlib g (rule_at i) c k ∙ e)
 
@@ -190,6 +195,11 @@ pub class_hit : {nlib n : ℕ} {g : ℕ → Group} {c : ℕ} {rule : Rule} {t : 
     → all nlib g rule c ≡ f ∷ (more ++ gather (found nlib g rule) (afterward nlib g rule t))
 unfolding gather
 class_hit {nlib} {g = g} {rule = rule} {t} k e = k.rest ∙ ap (λ (fs : List Fault). fs ++ gather (found nlib g rule) (afterward nlib g rule t)) e
+
+-- where nothing is found from class t on the walk ends
+pub class_clear : {nlib n : ℕ} {g : ℕ → Group} {c : ℕ} {rule : Rule} {t : ℕ} → ClassAt nlib n g c rule (Some t) → from_class nlib g rule (Some t) ≡ [] → ClassAt nlib n g c rule None
+unfolding gather
+class_clear k z = record { asks = k.asks; spot = tt; rest = k.rest ∙ z }
 
 -- ---- records
 

@@ -87,9 +87,17 @@ next_class nlib rule t h = elim (late_of rule) as (λ (_ : Option LateRule). Opt
 unfoldable pub kept_at : List ℕ → LateRule → ℕ → Bool
 kept_at row rule t = bit (rule_marker rule) (get_or row t 0)
 
-pub record Kept (nlib : ℕ) (g : ℕ → Group) (row : List ℕ) : Type 0 where
+pub record KeptOf (Q : Rule → ℕ → Type 0) (row : List ℕ) : Type 0 where
   pub long : length row ≡ 256
-  pub is : (rule : LateRule) (t : ℕ) → kept_at row rule t ≡ true → found nlib g (Late rule) t ≡ []
+  pub is : (rule : LateRule) (t : ℕ) → kept_at row rule t ≡ true → Q (Late rule) t
+
+-- of class t alone
+abbrev pub Kept : ℕ → (ℕ → Group) → List ℕ → Type 0
+Kept nlib g = KeptOf (λ rule t. found nlib g rule t ≡ [])
+
+-- of class t and all above it
+abbrev pub Cleared : ℕ → (ℕ → Group) → List ℕ → Type 0
+Cleared nlib g = KeptOf (λ rule t. gather (found nlib g rule) (classes_from nlib g rule (Some t)) ≡ [])
 
 -- so it is kept of class t
 abbrev pub sound : List ℕ → Rule → ℕ → Bool

@@ -1,11 +1,12 @@
 // The verdict of one class: the first broken rule and, of its faults, the first in the walk.
 #![tactic(auto)]
 
-ghost use Rattle.std.specs.Prelude.{◌≡◌, [], ◌≤◌, ◌<◌};
+ghost use Rattle.std.specs.Prelude.{◌≡◌, Some, [], ◌≤◌, ◌<◌};
+ghost use Rattle.spec.specs.Lists.{gather};
 ghost use Rattle.spec.specs.Rules.{verdict_of};
 ghost use Rattle.sheets.specs.Sheets.{count, groups, library_count};
 ghost use Rattle.rules.specs.Line.{line_of};
-ghost use Rattle.rules.specs.Walk.{Kept, applies, found, next_class, only_first, sound};
+ghost use Rattle.rules.specs.Walk.{Kept, Cleared, applies, classes_from, found, next_class, only_first, sound};
 
 use breaks::beyond::Site;
 use breaks::breaking::Step;
@@ -24,12 +25,15 @@ pub struct Fault {
     pub site: Site,
 }
 
-/// The walks over the classes of one judging, and what they found: of each class, under which of rules 7 to 10 nothing, as a set of their markers.
+/// The walks over the classes of one judging, and what they found: of each class, under which of rules 7 to 10 nothing, as a set of their markers; and under
+/// which nothing in the class and above it.
 #[derive(Drop)]
 pub struct Walk<'a> {
     pub judging: &'a Judging<'a>,
     kept: [u8; CLASS_LIMIT],
+    cleared: [u8; CLASS_LIMIT],
     pub ghost is_kept: { Kept (library_count judging.now.formed.now.sheets) (groups judging.now.formed.now.sheets) kept },
+    pub ghost is_cleared: { Cleared (library_count judging.now.formed.now.sheets) (groups judging.now.formed.now.sheets) cleared },
 }
 
 // Whether the rule asks class c: rules 7 to 10 ask a class that has their marker and is no interface.
@@ -81,6 +85,7 @@ impl<'a> Walk<'a> {
         Walk {
             judging,
             kept: [0; CLASS_LIMIT],
+            cleared: [0; CLASS_LIMIT],
         }
     }
 
@@ -105,6 +110,28 @@ impl<'a> Walk<'a> {
         }
     }
 
+    // Whether an earlier walk found nothing in class t and above it under the rule.
+    fn clear(&self, rule: Rule, t: usize) -> bool
+        requires { t < 256 }
+        ensures { result ≡ sound self.now.cleared rule t }
+    {
+        match rule {
+            Rule::Late(late) => has(self.cleared[t], late.set()),
+            _ => false,
+        }
+    }
+
+    // Keeps in mind that one of rules 7 to 10 finds nothing in class t and above it, so that a later walk ends there.
+    fn keep_above(&mut self, rule: Rule, t: usize)
+        requires { (t < 256) × (gather (found (library_count self.old.judging.now.formed.now.sheets) (groups self.old.judging.now.formed.now.sheets) rule)
+            (classes_from (library_count self.old.judging.now.formed.now.sheets) (groups self.old.judging.now.formed.now.sheets) rule (Some t)) ≡ []) }
+        ensures { self.new.judging ≡ self.old.judging }
+    {
+        if let Rule::Late(late) = rule {
+            self.cleared[t] = union(self.cleared[t], late.set());
+        }
+    }
+
     /// The first rule that user class c breaks, and its first fault: in the class itself, then upward; in each its records, then its captured variables;
     /// at last rule 9's second part. None if it is clean. Where nothing is found is kept, so that no superclass's records are asked again and again.
     pub fn verdict_of(&mut self, c: usize) -> Option<Fault>
@@ -124,6 +151,10 @@ impl<'a> Walk<'a> {
                 }
                 let mut next = Some(c);
                 while let Some(t) = next {
+                    if self.clear(rule, t) {
+                        next = None;
+                        continue;
+                    }
                     let group = sheets.group(t);
                     next = next_class(nlib, rule, t, &group);
                     if self.sound(rule, t) {
@@ -154,6 +185,7 @@ impl<'a> Walk<'a> {
                     }
                     self.keep(rule, t);
                 }
+                self.keep_above(rule, c);
                 if judging.breaks_base(rule, c) {
                     break 'judged Some(Fault {
                         rule,

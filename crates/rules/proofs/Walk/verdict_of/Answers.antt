@@ -1,16 +1,18 @@
 -- What is left of the walk finds what the whole walk finds.
-use mathlib.Core.Path.{◌≡◌, refl, sym, ap, ap₂, ◌∙◌}
+use mathlib.Core.Path.{◌≡◌, refl, sym, ap, ap₂, ◌∙◌, subst}
 use mathlib.Core.Bool.{true}
 use mathlib.Core.List.{[]}
 use mathlib.Core.Logic.{inl}
 use Prim.Native.Nat.{ℕ, suc, ◌+◌, ◌<◌}
 use native.Mathlib.Omega.{arith}
 use lib.ListN.{length}
-use Rattle.std.specs.Prelude.{None}
+use Rattle.std.specs.Prelude.{None, Some}
+use Rattle.std.proofs.Common.{Bor}
 use Rattle.spec.specs.Sheet.{Group}
 use Rattle.sheets.specs.Sheets.{Pair, count, groups, library_count}
 use Rattle.sheets.proofs.Indexes.{indexed}
 use Rattle.groups.proofs.Few.{group_few}
+use Rattle.breaks.specs.declared.judging.Judging.{Judging}
 use Rattle.breaks.specs.declared.rule.Rule.{Rule}
 use Rattle.breaks.specs.Breaking.{asks_first}
 use Rattle.breaks.specs.Beyond.{captured_at}
@@ -18,7 +20,7 @@ use Rattle.rules.specs.Walk.{rule_at, found, next_class}
 use Rattle.rules.proofs.Ground.{ground}
 use Rattle.rules.proofs.Ascent.{rank}
 use Rattle.rules.proofs.Stepping.{only_asks}
-use Rattle.rules.proofs.Judging.{ClassAt, class_start, class_end, class_next, class_hit, rule_start, rule_end, rule_unasked, rule_hit, walked_hit, walked_base}
+use Rattle.rules.proofs.Judging.{from_class, ClassAt, class_start, class_end, class_next, class_hit, class_clear, class_cleared, rule_start, rule_end, rule_unasked, rule_hit, walked_hit, walked_base}
 use Rattle.rules.proofs.Judging.{record_left, record_start, record_end, record_only, record_next, record_here, record_few, record_hit, records_none, first_none, first_some, last_none}
 use Rattle.rules.proofs.Keeping.{sound_none}
 use Rattle.rules.proofs.Walk.verdict_of.Goals as goal
@@ -37,6 +39,18 @@ pub loop-next-init : goal.loop-next-init
 loop-next-init c =
     let w = ground c.library_count-nlib.ensures.passed c.args.self.now.judging.now.formed.now.formed in
     (c.loop-rule.invariant.0, class_start w c.requires.user_class c.requires.there _ (sym c.applies.ensures ∙ c.if-not-applies.false))
+
+pub clear-requires : goal.clear-requires
+clear-requires c = let k = rw c.in-Some.is at c.loop-next.invariant.1 in omega (arith, k.spot.there, c.library_count-nlib.ensures.passed.few)
+
+-- where an earlier walk found nothing in the class and above it
+pub loop-next-smaller-then-clear : goal.loop-next-smaller-then-clear
+loop-next-smaller-then-clear c = omega (arith, ap rank c.in-Some.is)
+
+pub loop-next-preserved-then-clear : goal.loop-next-preserved-then-clear
+loop-next-preserved-then-clear c =
+    let k = rw c.in-Some.is at c.loop-next.invariant.1 in
+    (c.loop-next.invariant.0, class_clear k (sound_none (rw c.loop-next.invariant.0 at c.loop-next.self.is_cleared) _ _ c.clear.ensures c.if-clear.true))
 
 pub group-group-requires : goal.group-group-requires
 group-group-requires c = let k = rw c.in-Some.is at c.loop-next.invariant.1 in k.spot.there
@@ -132,11 +146,20 @@ loop-next-smaller c = let k = goal.at.loop-next-smaller c in omega (arith, (upwa
 pub loop-next-preserved : goal.loop-next-preserved
 loop-next-preserved c = let k = goal.at.loop-next-preserved c in (c.keep.ensures ∙ c.loop-next.invariant.0, (upward k.After-sound (none_found k.After-captured_site c.in_default-captured_site.is)).0)
 
+pub keep_above-requires : goal.keep_above-requires
+keep_above-requires c =
+    let w = ground c.library_count-nlib.ensures.passed c.args.self.now.judging.now.formed.now.formed in
+    let k = rw c.in_default.is at c.loop-next.invariant.1 in
+    let clean : Bor Judging → Type 0 = λ j. from_class (library_count j.now.formed.now.sheets) (groups j.now.formed.now.sheets) (rule_at c.loop-rule.rule-index) (Some c.args.c) ≡ [] in (
+      omega (arith, c.requires.there, c.library_count-nlib.ensures.passed.few),
+      subst clean (sym c.loop-next.invariant.0) (class_cleared w c.requires.user_class c.requires.there k),
+    )
+
 pub loop-rule-preserved : goal.loop-rule-preserved
 loop-rule-preserved c =
     let p = c.args.self.now.judging.now.formed.now.sheets in
     let w = ground c.library_count-nlib.ensures.passed c.args.self.now.judging.now.formed.now.formed in (
-      c.loop-next.invariant.0,
+      c.keep_above.ensures ∙ c.loop-next.invariant.0,
       class_end w c.requires.user_class c.requires.there c.loop-rule.invariant.1 (rw c.in_default.is at c.loop-next.invariant.1)
           (last_none (library_count p) (groups p) (rule_at c.loop-rule.rule-index) c.args.c c.breaks_base.ensures c.if-breaks_base.false),
     )
