@@ -60,6 +60,16 @@ impl<'a> Nest<'a> {
             marks[c] = true;
         }
     }
+
+    /// The same row, handed out.
+    pub fn enclosers(&self, m: usize) -> [bool; CLASS_LIMIT]
+        requires { m < count self.now.formed.now.sheets }
+        ensures { Enclosers (outer_of (groups self.now.formed.now.sheets)) m result }
+    {
+        let mut marks = [false; CLASS_LIMIT];
+        self.mark_enclosers(m, &mut marks);
+        marks
+    }
 }
 
 // Class m draws along one record.

@@ -1,5 +1,5 @@
 // What the second pass asks of classes: it stands in rows, so that no sheet is read for it again.
-ghost use Rattle.std.specs.Prelude.{◌≡◌, ◌<◌, false, replicate};
+ghost use Rattle.std.specs.Prelude.{◌≡◌, ◌<◌, false, drop, replicate};
 ghost use Rattle.std.proofs.Props.{props};
 ghost use Rattle.laws.proofs.All.{all_prop};
 ghost use Rattle.sheets.specs.Sheets.{Passed, count, groups};
@@ -59,9 +59,10 @@ fn asked_of(sheets: &Sheets, c: usize) -> Asked
     }
 }
 
-/// Notes of each class what records ask of it.
+/// Notes of each class what records ask of it; the row's end stays.
 pub fn note_asked(sheets: &Sheets, asked: &mut [Asked; CLASS_LIMIT])
-    ensures { Heads sheets.now asked.new }
+    ensures heads { Heads sheets.now asked.new }
+    ensures rest { drop (count sheets.now) asked.new ≡ drop (count sheets.now) asked.old }
 {
     for (c, entry) in asked[..sheets.count()].iter_mut().enumerate() {
         *entry = asked_of(sheets, c);

@@ -1,7 +1,7 @@
 // Whether a class is clean, in one look at each record: a clean class needs no walk over the rules.
 #![tactic(auto)]
 
-ghost use Rattle.std.specs.Prelude.{◌≡◌, not, ◌&&◌, ◌||◌, ◌≤◌, ◌<◌};
+ghost use Rattle.std.specs.Prelude.{◌≡◌, not, ◌&&◌, ◌||◌, ◌≤◌, ◌<◌, drop};
 ghost use Rattle.spec.specs.Lists.{any};
 ghost use Rattle.spec.specs.Record.{bit};
 ghost use Rattle.spec.specs.Rules.{verdict_of};
@@ -62,9 +62,10 @@ fn class_set(judging: &Judging, sets: &[u8], t: usize) -> u8
     common(own, sets[above])
 }
 
-/// Writes the set of each class to a row of the caller's.
+/// Writes the set of each class to a row of the caller's, whose end stays.
 pub fn passes(judging: &Judging, sets: &mut [u8; CLASS_LIMIT])
-    ensures { Passing (library_count judging.now.formed.now.sheets) (count judging.now.formed.now.sheets) (groups judging.now.formed.now.sheets) sets.new }
+    ensures sets { Passing (library_count judging.now.formed.now.sheets) (count judging.now.formed.now.sheets) (groups judging.now.formed.now.sheets) sets.new }
+    ensures rest { drop (count judging.now.formed.now.sheets) sets.new ≡ drop (count judging.now.formed.now.sheets) sets.old }
 {
     for c in 0..judging.formed.sheets.count() {
         sets[c] = class_set(judging, sets, c);
