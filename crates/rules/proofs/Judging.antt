@@ -20,7 +20,7 @@ use Rattle.breaks.specs.declared.rule.Rule.{Rule}
 use Rattle.breaks.specs.Breaking.{number_of, breaks_at}
 use Rattle.breaks.specs.declared.beyond.Site.{Site}
 use Rattle.breaks.specs.Beyond.{fault_at, first_fault, captured_at, base_at}
-use Rattle.rules.specs.Walk.{rule_at, applies, only_first, asked_of, asked, found_in, found, order, afterward, classes_from, last, next_class, walked}
+use Rattle.rules.specs.Walk.{rule_at, applies, only_first, asked_of, asked, found_in, found, order, afterward, from_class, last, next_class, walked}
 use Rattle.rules.proofs.Ground.{Ground}
 use Rattle.rules.proofs.Ascent.{Spot, rank, Onward, onward, first_spot, begins}
 use Rattle.rules.proofs.Verdicts.{verdict, none_found, first_found}
@@ -29,12 +29,9 @@ use Rattle.rules.proofs.Verdicts.{verdict, none_found, first_found}
 pub record RuleAt (nlib : ℕ) (g : ℕ → Group) (c i : ℕ) : Type 0 where
   pub clear : (j : ℕ) → j < i → walked nlib g (rule_at j) c ≡ []
 
--- all that a rule finds in the classes that it asks for class c, and what it finds from a class on
+-- all that a rule finds in the classes that it asks for class c
 abbrev pub all : ℕ → (ℕ → Group) → Rule → ℕ → List Fault
 all nlib g rule c = gather (found nlib g rule) (order nlib g rule c)
-
-abbrev pub from_class : ℕ → (ℕ → Group) → Rule → Option ℕ → List Fault
-from_class nlib g rule class = gather (found nlib g rule) (classes_from nlib g rule class)
 
 -- this rule, which asks the class, finds what it finds from a class on
 pub record ClassAt (nlib n : ℕ) (g : ℕ → Group) (c : ℕ) (rule : Rule) (class : Option ℕ) : Type 0 where

@@ -67,6 +67,10 @@ module _ (nlib : ℕ) (g : ℕ → Group) where
   classes_from rule None = []
   classes_from rule (Some t) = t ∷ afterward rule t
 
+  -- what the rule finds in them
+  abbrev pub from_class : Rule → Option ℕ → List Fault
+  from_class rule class = gather (found rule) (classes_from rule class)
+
   -- "a fault of rule 9's second part .. comes last"
   abbrev pub last : Rule → ℕ → List Fault
   last rule c = fault_if (base_at g rule c) c
@@ -97,7 +101,7 @@ Kept nlib g = KeptOf (λ rule t. found nlib g rule t ≡ [])
 
 -- of class t and all above it
 abbrev pub Cleared : ℕ → (ℕ → Group) → List ℕ → Type 0
-Cleared nlib g = KeptOf (λ rule t. gather (found nlib g rule) (classes_from nlib g rule (Some t)) ≡ [])
+Cleared nlib g = KeptOf (λ rule t. from_class nlib g rule (Some t) ≡ [])
 
 -- so it is kept of class t
 abbrev pub sound : List ℕ → Rule → ℕ → Bool

@@ -2,11 +2,10 @@
 #![tactic(auto)]
 
 ghost use Rattle.std.specs.Prelude.{◌≡◌, Some, [], ◌≤◌, ◌<◌};
-ghost use Rattle.spec.specs.Lists.{gather};
 ghost use Rattle.spec.specs.Rules.{verdict_of};
 ghost use Rattle.sheets.specs.Sheets.{count, groups, library_count};
 ghost use Rattle.rules.specs.Line.{line_of};
-ghost use Rattle.rules.specs.Walk.{Kept, Cleared, applies, classes_from, found, next_class, only_first, sound};
+ghost use Rattle.rules.specs.Walk.{Kept, Cleared, applies, found, from_class, next_class, only_first, sound};
 
 use breaks::beyond::Site;
 use breaks::breaking::Step;
@@ -123,8 +122,7 @@ impl<'a> Walk<'a> {
 
     // Keeps in mind that one of rules 7 to 10 finds nothing in class t and above it, so that a later walk ends there.
     fn keep_above(&mut self, rule: Rule, t: usize)
-        requires { (t < 256) × (gather (found (library_count self.old.judging.now.formed.now.sheets) (groups self.old.judging.now.formed.now.sheets) rule)
-            (classes_from (library_count self.old.judging.now.formed.now.sheets) (groups self.old.judging.now.formed.now.sheets) rule (Some t)) ≡ []) }
+        requires { (t < 256) × (from_class (library_count self.old.judging.now.formed.now.sheets) (groups self.old.judging.now.formed.now.sheets) rule (Some t) ≡ []) }
         ensures { self.new.judging ≡ self.old.judging }
     {
         if let Rule::Late(late) = rule {

@@ -16,11 +16,11 @@ use Rattle.breaks.specs.declared.judging.Judging.{Judging}
 use Rattle.breaks.specs.declared.rule.Rule.{Rule}
 use Rattle.breaks.specs.Breaking.{asks_first}
 use Rattle.breaks.specs.Beyond.{captured_at}
-use Rattle.rules.specs.Walk.{rule_at, found, next_class}
+use Rattle.rules.specs.Walk.{from_class, rule_at, found, next_class}
 use Rattle.rules.proofs.Ground.{ground}
 use Rattle.rules.proofs.Ascent.{rank}
 use Rattle.rules.proofs.Stepping.{only_asks}
-use Rattle.rules.proofs.Judging.{from_class, ClassAt, class_start, class_end, class_next, class_hit, class_clear, class_cleared, rule_start, rule_end, rule_unasked, rule_hit, walked_hit, walked_base}
+use Rattle.rules.proofs.Judging.{ClassAt, class_start, class_end, class_next, class_hit, class_clear, class_cleared, rule_start, rule_end, rule_unasked, rule_hit, walked_hit, walked_base}
 use Rattle.rules.proofs.Judging.{record_left, record_start, record_end, record_only, record_next, record_here, record_few, record_hit, records_none, first_none, first_some, last_none}
 use Rattle.rules.proofs.Keeping.{sound_none}
 use Rattle.rules.proofs.Walk.verdict_of.Goals as goal
