@@ -15,12 +15,25 @@ use Rattle.spec.specs.Sheet.{Group, Split, records_of, split_groups, groups_of, 
 use Rattle.spec.specs.Refusals.{Refusal, refuse_if, refuse_record, one_class}
 use Rattle.laws.proofs.Bools.{t_true, t_false, and_l, and_r, not_or_l, not_or_r}
 use Rattle.laws.proofs.All.{All}
+use Rattle.laws.proofs.Rows.{length_values, get_or_values}
 use Rattle.theory.proofs.Answers.{skip_none, first_some, first_only, first_past, first_append, keep_head}
 use Rattle.theory.proofs.Accept.{Clear}
 use Rattle.theory.proofs.Cut.{split_other, split_parts, split_join, records_grouped, concat_append}
 use Rattle.groups.specs.Groups.{sheet_number, start_of, Indexed}
 use Rattle.groups.proofs.Held.{in_library, in_user, library_number, user_number}
 use Rattle.second.specs.Second.{first_met, form_of}
+
+-- ---- the first along a list, by places
+
+module _ {A : Type 0} where
+  pub first_at : (os : List (Option A)) (c : ℕ) {a : A} → ((d : ℕ) → d < c → get_or os d none ≡ none) → get_or os c none ≡ some a → first_of os ≡ some a
+  first_at [] c f e = absurd (let z : ◌≡◌ {A = ℕ} 0 1 = cc in omega arith)
+  first_at (o ∷ os) zero f e = first_some os e
+  first_at (o ∷ os) (suc c) f e = skip_none o os (f 0 (omega arith)) ∙ first_at os c (λ d h. f (suc d) (omega arith)) e
+
+  pub none_at : (os : List (Option A)) → ((d : ℕ) → d < length os → get_or os d none ≡ none) → first_of os ≡ none
+  none_at [] f = unfold first_of in refl
+  none_at (o ∷ os) f = skip_none o os (f 0 (omega arith)) ∙ none_at os (λ d h. f (suc d) (omega arith))
 
 -- ---- answers by the numbers of classes
 
@@ -226,3 +239,14 @@ module _ (tests : Located → List (ℕ × Bool)) (number : ℕ → List ℕ →
         ∙ keep_head _ _ _ user_along
         ∙ sym (first_append low high)
         ∙ ap first_of (sym (map-append refusal (span 0 nlib) (span nlib (n - nlib))) ∙ ap (map refusal) (sym e))
+
+    -- the first class that is refused
+    pub first_class : (c : ℕ) → c < n → ((d : ℕ) → d < c → form_of (number d) (sheet_number nlib d) (start_of library user d) (group library user d) ≡ none)
+        → {a : Refusal} → form_of (number c) (sheet_number nlib c) (start_of library user c) (group library user c) ≡ some a → along (located library user) ≡ some a
+    first_class c h f e =
+        both_along ∙ first_at (map refusal (span 0 n)) c (λ d l. get_or_values refusal n none d (omega arith) ∙ f d l) (get_or_values refusal n none c h ∙ e)
+
+    pub no_class : ((d : ℕ) → d < n → form_of (number d) (sheet_number nlib d) (start_of library user d) (group library user d) ≡ none) → along (located library user) ≡ none
+    no_class f =
+        both_along
+        ∙ none_at (map refusal (span 0 n)) (λ d l. let h : d < n = omega (arith, length_values refusal n) in get_or_values refusal n none d h ∙ f d h)

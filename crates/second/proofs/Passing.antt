@@ -23,7 +23,7 @@ use Rattle.refusals.specs.declared.Side.TheVariants.{Library, User}
 use Rattle.sheets.specs.Sheets.{Pair, Passed, count, groups, library_count}
 use Rattle.second.specs.Second.{first_met, form_number, form_of, class_refusal, classes_refusal, form_in, side_refusal}
 use Rattle.sheets.proofs.Indexes.{indexed}
-use Rattle.second.proofs.Classes.{others, library_along, user_along, both_along}
+use Rattle.second.proofs.Classes.{others, library_along, user_along, both_along, first_class, no_class}
 
 -- ---- class by class
 
@@ -74,6 +74,16 @@ module _ {p : Pair} (w : Passed p) where
   pub user_classes : side_refusal p User ≡ classes_refusal p (library_count p) (count p)
   unfolding form_in class_refusal classes_refusal
   user_classes = user_along (tests p) (form_number p) (same p) (indexed w)
+
+  -- the first class that is refused refuses them; where none is, nothing does
+  pub class_refused : (c : ℕ) → c < count p → ((d : ℕ) → d < c → class_refusal p d ≡ none) → {a : Refusal} → class_refusal p c ≡ some a
+      → form_refusal p.library p.user ≡ some a
+  unfolding form_refusal class_refusal
+  class_refused c h f e = first_class (tests p) (form_number p) (same p) (indexed w) c h f e
+
+  pub none_refused : ((d : ℕ) → d < count p → class_refusal p d ≡ none) → form_refusal p.library p.user ≡ none
+  unfolding form_refusal class_refusal
+  none_refused f = no_class (tests p) (form_number p) (same p) (indexed w) f
 
 -- ---- the records of one class
 

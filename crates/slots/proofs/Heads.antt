@@ -2,7 +2,7 @@
 -- and the others ask their types alone. The sets that the code finds by the rows tell just that.
 -- Assumes nothing.
 use mathlib.Core.Path.{◌≡◌, refl, sym, ap, ap₂, ◌∙◌, subst}
-use mathlib.Core.Bool.{Bool, true, false, not, ◌&&◌, ◌||◌, and-true}
+use mathlib.Core.Bool.{Bool, true, false, not, ◌&&◌, ◌||◌, and-true, and-false, or-true, or-false}
 use mathlib.Core.List.{List, [], ◌∷◌, ◌++◌, map, append-nil}
 use mathlib.Core.Logic.{◌⊎◌, inl, inr}
 use mathlib.Core.Option as option
@@ -36,7 +36,7 @@ use Rattle.captured.proofs.Meaning.{first_slot}
 use Rattle.slots.specs.declared.Late.{Late}
 use Rattle.slots.specs.declared.Late.TheVariants.{Immutable, Powerless, Selfless, DeepSelfless}
 use Rattle.slots.specs.Slots.{rule_marker, slot_fits, captured_faults, encloser_breaks, field_breaks, slots_break, head_breaks}
-use Rattle.slots.specs.Slots.{late_lane, encloser_has, encloser_by, lane_shows, captured_by, HeadSet}
+use Rattle.slots.specs.Slots.{late_lane, encloser_has, unenclosed, encloser_by, lane_shows, captured_by, HeadSet}
 use Rattle.slots.proofs.Base.{back, asked}
 use Rattle.slots.proofs.Fields.{anywhere}
 use Rattle.slots.proofs.Sets.{twice}
@@ -140,18 +140,17 @@ module _ (p : Pair) {t : ℕ} (there : t < count p) where
 
   -- ---- the encloser
 
-  module _ (ok : form_refusal p.library p.user ≡ option.none) {head : Head} (e : head ≡ head_of (class_record (groups p t)))
-      {markers : List ℕ} (known : Known (groups p) markers) where
+  module _ {head : Head} (e : head ≡ head_of (class_record (groups p t))) {markers : List ℕ} (known : Known (groups p) markers) where
     type_is : (k c : ℕ) → satisfies g k (class_ty c) ≡ bit k (get_or markers c 0)
     unfolding satisfies class_ty ty_references all has_marker
     type_is k c = and-true (has_marker g k c) ∙ sym (ap (bit k) (known.is c))
 
-    encloser_lacks : (k : ℕ) → any (λ s. not (satisfies g k s.type)) (encloser_slots g t) ≡ not (encloser_has head markers k)
+    encloser_lacks : (k : ℕ) → any (λ s. not (satisfies g k s.type)) (encloser_slots g t) ≡ not (encloser_has head markers k || unenclosed head)
     unfolding encloser_slots enclosing gather is_inner only_if encloser_slot any
     encloser_lacks k =
         let h : List ℕ → List ℕ = λ r. unless_none (encloser r) in
         let es : enclosing (g t) ≡ unless_none (encloser r) = ap (gather h) (one_record (g t) (group_one_class p.library p.user t there)) ∙ append-nil (h r) in
-        go (bit 1 (flags r)) (inner_encloser (library_count p) t r (fits.0.encloser_fits fits.1)) es ∙ ap (λ (x : Head). not (encloser_has x markers k)) (sym e)
+        go (bit 1 (flags r)) es ∙ ap (λ (x : Head). not (encloser_has x markers k || unenclosed x)) (sym e)
       where
         r : List ℕ
         r = class_record (g t)
@@ -159,39 +158,71 @@ module _ (p : Pair) {t : ℕ} (there : t < count p) where
         has : ℕ → Bool
         has c = bit k (get_or markers c 0)
 
-        fits : RecordFits (library_count p) (count p) g t r × T (is_class r)
-        fits = class_first (RecordFits (library_count p) (count p) g t) (g t) (group_one_class p.library p.user t there) (form_fits p.library p.user ok t)
+        there_and : (a b : Bool) → (a && not b) ≡ not (b || not a)
+        there_and true b = ap not (sym (or-false b))
+        there_and false b = ap not (sym (or-true b))
 
-        go : (b : Bool) → (T b → is_some (optional (encloser r)) ≡ true) → enclosing (g t) ≡ unless_none (encloser r)
+        go : (b : Bool) → enclosing (g t) ≡ unless_none (encloser r)
             → any (λ s. not (satisfies g k s.type)) (elim b as (λ (_ : Bool). List Slot) [ true ↦ map (encloser_slot t) (enclosing (g t)) | false ↦ [] ])
-            ≡ not (not b || has (unwrap_or (optional (encloser r)) none16))
-        go true held es =
+            ≡ not ((not b || has (unwrap_or (optional (encloser r)) none16)) || (b && not (is_some (optional (encloser r)))))
+        go true es =
             any_map (λ s. not (satisfies g k s.type)) (encloser_slot t) (enclosing (g t))
             ∙ ap₂ (λ (f : ℕ → Bool) (xs : List ℕ). any f xs) (λ i c. not (type_is k c i)) es
             ∙ asked has (encloser r)
-            ∙ ap₂ (λ (b : Bool) (c : ℕ). b && not (has c)) (held tt) (sym (back (encloser r)))
-        go false held es = refl
+            ∙ ap (λ (c : ℕ). is_some (optional (encloser r)) && not (has c)) (sym (back (encloser r)))
+            ∙ there_and (is_some (optional (encloser r))) (has (unwrap_or (optional (encloser r)) none16))
+        go false es = refl
 
-    encloser_told : (rule : Late) (k : ℕ) → Asks g rule k → encloser_has head markers k ≡ not (encloser_breaks g rule t)
+    encloser_told : (rule : Late) (k : ℕ) → Asks g rule k → (encloser_has head markers k || unenclosed head) ≡ not (encloser_breaks g rule t)
     unfolding encloser_breaks
-    encloser_told rule k h = sym (twice (encloser_has head markers k)) ∙ ap not (sym (fails_by g rule k h (encloser_slots g t) (encloser_still g t) ∙ encloser_lacks k))
+    encloser_told rule k h =
+        sym (twice (encloser_has head markers k || unenclosed head)) ∙ ap not (sym (fails_by g rule k h (encloser_slots g t) (encloser_still g t) ∙ encloser_lacks k))
 
-    pub encloser_is : (rule : Late) → encloser_by head markers rule ≡ not (encloser_breaks g rule t)
+    -- of any sheets, accepted or not
+    pub encloser_any : (rule : Late) → (encloser_by head markers rule || unenclosed head) ≡ not (encloser_breaks g rule t)
     unfolding encloser_breaks
-    encloser_is rule = go (lane_asked g rule)
+    encloser_any rule = go (lane_asked g rule)
       where
-        go : {o : Option Lane} → LaneOf g rule o → elim o as (λ (_ : Option Lane). Bool) [ None ↦ true | Some l ↦ encloser_has head markers (lane_marker l) ] ≡ not (encloser_breaks g rule t)
+        go : {o : Option Lane} → LaneOf g rule o
+            → ((elim o as (λ (_ : Option Lane). Bool) [ None ↦ true | Some l ↦ encloser_has head markers (lane_marker l) ]) || unenclosed head) ≡ not (encloser_breaks g rule t)
         go (asks {l} h) = encloser_told rule (lane_marker l) h
         go (unasked e) = rw e (ap not (sym (fails_selfless g (encloser_slots g t) (encloser_still g t))))
 
+    -- the set, and that a class is unenclosed, tell just what stands at record 0
+    pub head_any : {set : ℕ} → HeadSet markers head (library_count p) t set → (rule : Late)
+        → (bit (rule_marker rule) set || (not (ltb t (library_count p)) && unenclosed head)) ≡ not (head_breaks (library_count p) g rule t)
+    unfolding head_breaks
+    head_any {set} h rule = go (decide (ltb t (library_count p)))
+      where
+        go : T (ltb t (library_count p)) ⊎ T (not (ltb t (library_count p)))
+            → (bit (rule_marker rule) set || (not (ltb t (library_count p)) && unenclosed head)) ≡ not (head_breaks (library_count p) g rule t)
+        go (inl b) = let k = ltb→lt t (library_count p) b in rw (lt-ltb t (library_count p) k, head_breaks) (or-false (bit (rule_marker rule) set) ∙ ((h.root k).is g known).is rule)
+        go (inr b) =
+            let k = nltb→le t (library_count p) b in
+            rw (le-ltb t (library_count p) k, head_breaks) (ap (λ (x : Bool). x || unenclosed head) ((h.own k).is rule) ∙ encloser_any rule)
+
+  -- of accepted ones
+  module _ (ok : form_refusal p.library p.user ≡ option.none) {head : Head} (e : head ≡ head_of (class_record (groups p t)))
+      {markers : List ℕ} (known : Known (groups p) markers) where
+    enclosed : unenclosed head ≡ false
+    enclosed = ap unenclosed e ∙ go (bit 1 (flags r)) (inner_encloser (library_count p) t r (fits.0.encloser_fits fits.1))
+      where
+        r : List ℕ
+        r = class_record (g t)
+
+        fits : RecordFits (library_count p) (count p) g t r × T (is_class r)
+        fits = class_first (RecordFits (library_count p) (count p) g t) (g t) (group_one_class p.library p.user t there) (form_fits p.library p.user ok t)
+
+        go : (b : Bool) → (T b → is_some (optional (encloser r)) ≡ true) → (b && not (is_some (optional (encloser r)))) ≡ false
+        go true held = ap not (held tt)
+        go false held = refl
+
+    pub encloser_is : (rule : Late) → encloser_by head markers rule ≡ not (encloser_breaks g rule t)
+    encloser_is rule = rw (enclosed, or-false (encloser_by head markers rule)) at (encloser_any e known rule)
+
     -- the set tells just what stands at record 0
     pub head_is : {set : ℕ} → HeadSet markers head (library_count p) t set → (rule : Late) → bit (rule_marker rule) set ≡ not (head_breaks (library_count p) g rule t)
-    unfolding head_breaks
-    head_is {set} h rule = go (decide (ltb t (library_count p)))
-      where
-        go : T (ltb t (library_count p)) ⊎ T (not (ltb t (library_count p))) → bit (rule_marker rule) set ≡ not (head_breaks (library_count p) g rule t)
-        go (inl b) = let k = ltb→lt t (library_count p) b in rw (lt-ltb t (library_count p) k, head_breaks) (((h.root k).is g known).is rule)
-        go (inr b) = let k = nltb→le t (library_count p) b in rw (le-ltb t (library_count p) k, head_breaks) ((h.own k).is rule ∙ encloser_is rule)
+    head_is {set} h rule = rw (enclosed, and-false (not (ltb t (library_count p))), or-false (bit (rule_marker rule) set)) at (head_any e known h rule)
 
   -- ---- the captured variables
 

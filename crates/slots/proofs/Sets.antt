@@ -6,6 +6,7 @@ use mathlib.Core.List.{List, [], ◌∷◌}
 use Prim.Native.Nat.{ℕ, ◌-◌, ◌^◌}
 use lib.ListN.{get_or}
 use borrow.Author.Tests.{eq-eqb, ne_eqb}
+use Rattle.std.specs.Prelude.{None}
 use Rattle.std.specs.Option.{unwrap_or}
 use Rattle.spec.specs.Record.{bit, none16}
 use Rattle.spec.specs.Sheet.{Group}
@@ -21,7 +22,7 @@ use Rattle.captured.specs.Captured.{lane_marker}
 use Rattle.captured.proofs.Lowering.{all_lanes}
 use Rattle.slots.specs.declared.Late.{Late}
 use Rattle.slots.specs.declared.Late.TheVariants.{Immutable, Powerless, Selfless, DeepSelfless}
-use Rattle.slots.specs.Slots.{rule_marker, root_breaks, Passes, slot_by, RootSet, encloser_has, encloser_by, lane_shows, captured_by, lane_by}
+use Rattle.slots.specs.Slots.{rule_marker, root_breaks, Passes, slot_by, RootSet, encloser_has, unenclosed, encloser_by, lane_shows, captured_by, lane_by}
 
 pub twice : (b : Bool) → not (not b) ≡ b
 twice true = refl
@@ -94,6 +95,17 @@ root_other {row} {d} {m} {r} n em e =
 module _ (head : Head) (row : List ℕ) where
   pub encloser_outer : bit 1 head.flags ≡ false → Passes (encloser_by head row) 255
   encloser_outer h = passes_all (late_cases (λ rule. encloser_by head row rule ≡ true) (rw h) (rw h) refl (rw h))
+
+  -- where no encloser is named none fails
+  pub encloser_none : head.encloser ≡ None → Passes (λ rule. encloser_by head row rule || unenclosed head) 255
+  encloser_none h = passes_all (late_cases (λ rule. (encloser_by head row rule || unenclosed head) ≡ true) (all 0) (all 1) refl (all 7))
+    where
+      free : (b x : Bool) → ((not b || x) || (b && true)) ≡ true
+      free true x = or-true x
+      free false x = refl
+
+      all : (k : ℕ) → (encloser_has head row k || unenclosed head) ≡ true
+      all k = rw h (free (bit 1 head.flags) (bit k (get_or row none16 0)))
 
   pub encloser_inner : {e : ℕ} → e ≡ unwrap_or head.encloser none16 → bit 1 head.flags ≡ true → {m r : ℕ} → m ≡ get_or row e 0 → r ≡ union m 4 → Passes (encloser_by head row) r
   unfolding bit
