@@ -8,7 +8,7 @@ use mathlib.Core.Logic.{◌⊎◌, inl, inr}
 use mathlib.Core.Option as option
 use Prim.Native.Nat.{ℕ, ◌<◌}
 use native.Mathlib.Omega.{arith}
-use lib.Dec.{T, T_not, leb, eqb, ltb, ltb→lt, nltb→le}
+use lib.Dec.{T, leb, eqb, ltb, ltb→lt, nltb→le}
 use lib.ListN.{get_or}
 use borrow.Author.Tests.{lt-ltb, le-ltb}
 use Rattle.std.specs.Prelude.{Option, None, Some, is_some}
@@ -19,7 +19,7 @@ use Rattle.spec.specs.Sheet.{Group, class_record, is_inner, is_instance_field}
 use Rattle.spec.specs.Classes.{Slot, field_slot, encloser_slot, variable_slot, class_ty, enclosing, local_at, captured, has_marker, satisfies, encloser_slots, field_slots, captured_slots, own_slots}
 use Rattle.spec.specs.Rules.{slot_fault}
 use Rattle.spec.specs.Refusals.{form_refusal, encloser_fits}
-use Rattle.laws.proofs.Bools.{decide}
+use Rattle.laws.proofs.Bools.{decide, t_false}
 use Rattle.laws.proofs.All.{All, all_if, every_gather, every_map, any_cong}
 use Rattle.theory.proofs.Somewhere.{any_append, any_map, any_keep, any_numbered, any_never, any_same, some, some_keep}
 use Rattle.theory.proofs.Accept.{RecordFits, form_fits}
@@ -125,14 +125,14 @@ selfless_none g t = go (keep (λ s. not (slot_fits g Selfless s)) (captured_slot
     go (s ∷ ss) e = absurd (subst T e tt)
 
 -- an inner class of an accepted sheet has an encloser
-inner_encloser : (nlib c : ℕ) (r : List ℕ) → T (encloser_fits nlib c r) → T (bit 1 (flags r)) → is_some (optional (encloser r)) ≡ true
+inner_encloser : (nlib c : ℕ) (r : List ℕ) → T (encloser_fits nlib c r) → unenclosed (head_of r) ≡ false
 unfolding encloser_fits
-inner_encloser nlib c r fits inner = go (eqb (encloser r) none16) fits
+inner_encloser nlib c r = go (eqb (encloser r) none16)
   where
     go : (b : Bool) → T (elim b as (λ (x : Bool). Bool) [ true ↦ not (bit 1 (flags r)) | false ↦ leb nlib c && leb nlib (encloser r) && ltb (encloser r) c ])
-        → is_some (elim b as (λ (_ : Bool). Option ℕ) [ true ↦ None | false ↦ Some (encloser r) ]) ≡ true
-    go true f = absurd (T_not (bit 1 (flags r)) f inner)
-    go false f = refl
+        → (bit 1 (flags r) && not (is_some (elim b as (λ (_ : Bool). Option ℕ) [ true ↦ None | false ↦ Some (encloser r) ]))) ≡ false
+    go true f = and-true (bit 1 (flags r)) ∙ t_false (bit 1 (flags r)) f
+    go false f = and-false (bit 1 (flags r))
 
 module _ (p : Pair) {t : ℕ} (there : t < count p) where
   abbrev g : ℕ → Group
@@ -205,17 +205,13 @@ module _ (p : Pair) {t : ℕ} (there : t < count p) where
   module _ (ok : form_refusal p.library p.user ≡ option.none) {head : Head} (e : head ≡ head_of (class_record (groups p t)))
       {markers : List ℕ} (known : Known (groups p) markers) where
     enclosed : unenclosed head ≡ false
-    enclosed = ap unenclosed e ∙ go (bit 1 (flags r)) (inner_encloser (library_count p) t r (fits.0.encloser_fits fits.1))
+    enclosed = ap unenclosed e ∙ inner_encloser (library_count p) t r (fits.0.encloser_fits fits.1)
       where
         r : List ℕ
         r = class_record (g t)
 
         fits : RecordFits (library_count p) (count p) g t r × T (is_class r)
         fits = class_first (RecordFits (library_count p) (count p) g t) (g t) (group_one_class p.library p.user t there) (form_fits p.library p.user ok t)
-
-        go : (b : Bool) → (T b → is_some (optional (encloser r)) ≡ true) → (b && not (is_some (optional (encloser r)))) ≡ false
-        go true held = ap not (held tt)
-        go false held = refl
 
     pub encloser_is : (rule : Late) → encloser_by head markers rule ≡ not (encloser_breaks g rule t)
     encloser_is rule = rw (enclosed, or-false (encloser_by head markers rule)) at (encloser_any e known rule)

@@ -113,12 +113,12 @@ late_lane DeepSelfless = Some lane.DeepSelfless
 abbrev pub encloser_has : Head → List ℕ → ℕ → Bool
 encloser_has head row k = not (bit 1 head.flags) || bit k (get_or row (unwrap_or head.encloser none16) 0)
 
+abbrev pub encloser_by : Head → List ℕ → Late → Bool
+encloser_by head row rule = elim (late_lane rule) [ None ↦ true | Some l ↦ encloser_has head row (lane_marker l) ]
+
 -- inner, and no encloser is named: there is no slot to ask. No class of an accepted sheet is so
 abbrev pub unenclosed : Head → Bool
 unenclosed head = bit 1 head.flags && not (is_some head.encloser)
-
-abbrev pub encloser_by : Head → List ℕ → Late → Bool
-encloser_by head row rule = elim (late_lane rule) [ None ↦ true | Some l ↦ encloser_has head row (lane_marker l) ]
 
 -- the variables that class t captures: a lane shows that one lacks the lane's marker
 abbrev pub lane_shows : List ℕ → ℕ → Lane → Bool

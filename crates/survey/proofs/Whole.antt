@@ -73,10 +73,10 @@ module _ (p : Pair) {c : ℕ} (there : c < count p) {head : Head} (e : head ≡ 
   faulted {b} eb f = f ∙ sym (parts ∙ ap (λ (x : Bool). not (x || (not (is_interface (g c)) && late_breaks nlib g c))) (sym (twice early) ∙ ap not (sym eb ∙ f)))
 
   -- of any sheets, accepted or not: where there is no superclass none is asked
-  pub fine_any : {b : Bool} → b ≡ not early → b ≡ true → nlib ≤ c → {set : ℕ} → ClassSet nlib g c set
+  pub fine_any : {b : Bool} → b ≡ not early → b ≡ true → {set : ℕ} → ClassSet nlib g c set
       → {l : Bool} → l ≡ (bit 0 head.flags || not (late_with (is_some head.superclass && base_by head markers) set)) → l ≡ is_clean (verdict_of nlib g c)
   unfolding is_interface late_breaks
-  fine_any {b} eb t user {set} s {l} el =
+  fine_any {b} eb t {set} s {l} el =
       el ∙ go (bit 0 head.flags) (ap (λ (h : Head). bit 0 h.flags) (sym e))
       ∙ sym (parts ∙ ap (λ (x : Bool). not (x || (not (is_interface (g c)) && late_breaks nlib g c))) (sym (twice early) ∙ ap not (sym eb ∙ t)))
     where
@@ -94,7 +94,7 @@ module _ (p : Pair) {c : ℕ} (there : c < count p) {head : Head} (e : head ≡ 
   pub fine : Passed p → form_refusal p.library p.user ≡ none → {b : Bool} → b ≡ not early → b ≡ true → nlib ≤ c
       → {set : ℕ} → ClassSet nlib g c set → {l : Bool} → l ≡ (bit 0 head.flags || not (late_by set)) → l ≡ is_clean (verdict_of nlib g c)
   unfolding is_interface
-  fine x ok eb t user {set} s el = fine_any eb t user s (el ∙ go (bit 0 head.flags) (ap (λ (h : Head). bit 0 h.flags) (sym e)))
+  fine x ok eb t user {set} s el = fine_any eb t s (el ∙ go (bit 0 head.flags) (ap (λ (h : Head). bit 0 h.flags) (sym e)))
     where
       go : (i : Bool) → is_interface (g c) ≡ i → (i || not (late_by set)) ≡ (i || not (late_with (is_some head.superclass && base_by head markers) set))
       go true i = refl
